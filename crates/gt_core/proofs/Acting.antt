@@ -87,26 +87,14 @@ pub record CanPin (s : Setting) (h : History) (d : DomId) (r : Asked) (p : Held)
   pub few : pins_at h p.dom.0 p.gref.0 p.dir < MAX_PINS
   pub sound : NoneStands s h p.dom p.gref (leg_at s h d r)
 
-stands-not : (b : Bool) (rule : Rule) (more : List (Option Rule)) → first (stands b rule ∷ more) ≡ None → (b ≡ false) × (first more ≡ None)
-stands-not true rule more e = cc
-stands-not false rule more e = (refl, e)
-
 -- before a pin there is room for it
-pins-left : (l : Leg) (e : Entry) (pins : ℕ) → before_pin l e pins ≡ None → pins ≢ MAX_PINS
-pins-left l e pins none = let a = stands-not (is_outside l e) N14 _ none in
-    let b = stands-not (is_past_owner l e) N16 _ a.1 in
-    eqb-false pins MAX_PINS (stands-not (pins == MAX_PINS) N17 [] b.1).0
+pins-left : (a b c : Bool) → first (stands a N14 ∷ stands b N16 ∷ stands c N17 ∷ []) ≡ None → c ≡ false
+pins-left false false false e = refl
+pins-left a b c e = cc
 
-pins-shown : (s : Setting) (h : History) (t r : ℕ) (dir : Dir) → pins_of dir (control_at s h t r) ≡ pins_at h t r dir
-pins-shown s h t r Read = (control-parts (entry_at h t r) (generation_at s h t r) (reads_at h t r) (writes_at h t r)).1
-pins-shown s h t r Write = (control-parts (entry_at h t r) (generation_at s h t r) (reads_at h t r) (writes_at h t r)).2
-
-few-pins : (h : History) (t r : ℕ) (dir : Dir) → (reads_at h t r < MAX_PINS + 1) × (writes_at h t r < MAX_PINS + 1) → pins_at h t r dir < MAX_PINS + 1
-few-pins h t r Read a = a.0
-few-pins h t r Write a = a.1
-
-below-most : (n : ℕ) → n < MAX_PINS + 1 → n ≢ MAX_PINS → n < MAX_PINS
-below-most n lt apart = omega arith
+pins-now : (s : Setting) (h : History) (t r : ℕ) (dir : Dir) → (reads_at h t r < MAX_PINS + 1) × (writes_at h t r < MAX_PINS + 1) → (pins_of dir (control_at s h t r) ≡ pins_at h t r dir) × (pins_at h t r dir < MAX_PINS + 1)
+pins-now s h t r Read a = ((control-parts (entry_at h t r) (generation_at s h t r) (reads_at h t r) (writes_at h t r)).1, a.0)
+pins-now s h t r Write a = ((control-parts (entry_at h t r) (generation_at s h t r) (reads_at h t r) (writes_at h t r)).2, a.1)
 
 taken-pin : (s : Setting) (h : History) (xs : List State) (d : DomId) (r : Asked) (so_far : StepsSoFar) (aim : Aim) (l : Leg) (more word body second : ℕ) → DomainsStand s h xs → IsFor (known_at s h d) d r aim l
     → legs_at h d.0 ≡ numbered 0 (reverse (last_first (pins_so_far aim))) → PhaseStands s h d r so_far (Walking aim l (Pinning more word body second)) → word_at s h l.dom.0 l.gref.0 ≡ word
@@ -115,11 +103,12 @@ taken-pin s h xs d r so_far aim l more word body second st is held place same =
     let a : IsAsTried s h l word body second = as-tried s h l so_far more word body second None place.1.0 place.1.1 (words-of s h xs l st) same in
     let p : Held = held_of l word body second in
     let judged : rule_before_pin s h l l.dom l.gref ≡ None = still-judged s h l word body second a ∙ place.1.1.judged in
-    let left : pins_of l.dir (control_at s h l.dom.0 l.gref.0) ≢ MAX_PINS = pins-left l (entry_at h l.dom.0 l.gref.0) (pins_of l.dir (control_at s h l.dom.0 l.gref.0)) judged in
-    let counts = counts-fit s h l.dom.0 l.gref.0 (st.words l.dom.0 l.gref.0 place.1.0.within) in record {
+    let q = pins-now s h l.dom.0 l.gref.0 l.dir (counts-fit s h l.dom.0 l.gref.0 (st.words l.dom.0 l.gref.0 place.1.0.within)) in
+    let full : pins_of l.dir (control_at s h l.dom.0 l.gref.0) ≢ MAX_PINS = eqb-false _ MAX_PINS (pins-left (is_outside l (entry_at h l.dom.0 l.gref.0)) (is_past_owner l (entry_at h l.dom.0 l.gref.0)) _ judged) in
+    let apart : pins_at h l.dom.0 l.gref.0 l.dir ≢ MAX_PINS = λ e. full (q.0 ∙ e) in let lt : pins_at h l.dom.0 l.gref.0 l.dir < MAX_PINS + 1 = q.1 in record {
       is = ap (λ (e : Entry). record p { entry = e }) (sym a.entry);
       valid = a.valid;
-      few = below-most (pins_at h l.dom.0 l.gref.0 l.dir) (few-pins h l.dom.0 l.gref.0 l.dir counts) (λ e. left (pins-shown s h l.dom.0 l.gref.0 l.dir ∙ e));
+      few = omega arith;
       sound = subst (NoneStands s h l.dom l.gref) (sym (leg-here s h d r aim l is held)) (ap (first_look l) (sym a.control) ∙ place.1.0.passed, judged);
     }
 

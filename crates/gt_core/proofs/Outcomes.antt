@@ -16,13 +16,6 @@ IsSingle (WriteBytes dom frame off len) = Unit {0}
 IsSingle (Unpin p (ByMapping handle)) = Unit {0}
 IsSingle step = ⊥
 
--- it is the last one
-pub is-last : (d : DomId) (phase : Phase) (step : Step) → action_at d phase ≡ Makes step → IsSingle step → (verdict : Verdict) × (phase ≡ Last step verdict)
-is-last d (Walking aim l at) step e a = absurd (by-leg (λ (z : Step). IsSingle z → ⊥) (λ dom n. n) (λ dom gref n. n) (λ dom gref half n. n) (λ p n. n) l at (subst IsSingle (sym (makes-same _ _ e)) a))
-is-last d (Last last verdict) step e a = (verdict, ap (λ (z : Step). Last z verdict) (makes-same _ _ e))
-is-last d (Ending pins verdict) step e a = absurd (by-giving (λ (z : Step). IsSingle z → ⊥) (λ p n f. f) (last_first pins) verdict step e a)
-is-last d phase step e a = absurd (subst IsSingle (sym (makes-same _ _ e)) a)
-
 single-sees : (s : Setting) (h : History) (d : DomId) (step : Step) → IsSingle step → seen_by s h d step ≡ Nothing
 single-sees s h d (StoreHeader version frames) a = refl
 single-sees s h d (ReadBytes dom frame off len) a = refl
@@ -31,14 +24,14 @@ single-sees s h d (Unpin p (ByMapping handle)) a = refl
 single-sees s h d (Unpin p (ByLeg n)) a = refl
 single-sees s h d step a = absurd a
 
--- so the call is over after it
+-- the call is over after it
 pub single-ends : (s : Setting) (h : History) (d : DomId) (r : Asked) (so_far : StepsSoFar) (phase : Phase) (step : Step) → action_at d phase ≡ Makes step → PhaseStands s h d r so_far phase → IsSingle step
     → (verdict : Verdict) × (next_of s h d phase step ≡ Ending no_pins verdict) × EndsAfter r step verdict
-single-ends s h d r so_far phase step e b a = let l = is-last d phase step e a in (
-  l.0,
-  ap (phase_after (known_at s h d) d phase) (single-sees s h d step a) ∙ ap (λ (p : Phase). phase_after (known_at s h d) d p Nothing) l.1,
-  subst (PhaseStands s h d r so_far) l.1 b,
-)
+single-ends s h d r so_far (Walking aim l at) step e b a = absurd (by-leg (λ (z : Step). IsSingle z → ⊥) (λ dom n. n) (λ dom gref n. n) (λ dom gref half n. n) (λ p n. n) l at (subst IsSingle (sym (makes-same _ _ e)) a))
+single-ends s h d r so_far (Last last verdict) step e b a =
+    (verdict, ap (phase_after (known_at s h d) d (Last last verdict)) (single-sees s h d step a), subst (λ (z : Step). EndsAfter r z verdict) (makes-same _ _ e) b)
+single-ends s h d r so_far (Ending pins verdict) step e b a = absurd (by-giving (λ (z : Step). IsSingle z → ⊥) (λ p n f. f) (last_first pins) verdict step e a)
+single-ends s h d r so_far phase step e b a = absurd (subst IsSingle (sym (makes-same _ _ e)) a)
 
 -- it is not refused
 pub after-plain : (r : Asked) (step : Step) (verdict : Verdict) → EndsAfter r step verdict → refusal_in (Some verdict) ≡ None

@@ -6,20 +6,13 @@ word-shows s h xs t r st within = control-round (control_at s h t r) (st.words t
 
 -- a header within the limits has room in its word, and its table has at most 2,048 entries
 pub table-fits : (x : Header) → FitsTable x → (size_of x ≤ TABLE_ENTRIES) × (header_of (header_word x) ≡ x)
-table-fits x f = (by (x.version == 2) few, ap (λ (n : ℕ). record { version = n; frames = (x.version + x.frames * 4) / 4 % 256 }) version ∙ ap (λ (n : ℕ). record { version = x.version; frames = n }) frames)
+table-fits x f = let v = f.version in let few = f.frames in
+    let version : (x.version + x.frames * 4) % 4 ≡ x.version = omega arith in let frames : (x.version + x.frames * 4) / 4 % 256 ≡ x.frames = omega arith in
+    (by (x.version == 2) f.frames, ap (λ (n : ℕ). record { version = n; frames = (x.version + x.frames * 4) / 4 % 256 }) version ∙ ap (λ (n : ℕ). record { version = x.version; frames = n }) frames)
   where
-    few : x.frames ≤ MAX_TABLE_FRAMES
-    few = f.frames
-
     by : (b : Bool) → x.frames ≤ MAX_TABLE_FRAMES → x.frames * cond b ENTRIES_V2 ENTRIES_V1 ≤ TABLE_ENTRIES
     by true le = omega arith
     by false le = omega arith
-
-    version : (x.version + x.frames * 4) % 4 ≡ x.version
-    version = let a = f.version in omega arith
-
-    frames : (x.version + x.frames * 4) / 4 % 256 ≡ x.frames
-    frames = let a = f.version in let b = f.frames in omega arith
 
 -- what is seen of the states is of the first one with the number
 seen-state : {A : Type 0} (seen : List State → A) (of : State → A) (d : ℕ) (x : State) → ((y : State) (ys : List State) → seen (y ∷ ys) ≡ cond (y.id.0 == d) (of y) (seen ys))

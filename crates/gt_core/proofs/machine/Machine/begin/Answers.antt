@@ -50,8 +50,7 @@ returns-in_err-begin-in-Open-clause-memory g c =
     (ap (λ (o : Option Open). is_some o) (sym c.underway.ensures) ∙ sym c.is_some.ensures ∙ c.if-is_some.false) opens st)
 
 pub begin-requires : goal.begin-requires
-begin-requires g c =
-    let s = setting_by g.P.Allows.may c.args.self.now in let xs = c.args.self.now.domains.items in
+begin-requires g c = let s = setting_by g.P.Allows.may c.args.self.now in let xs = c.args.self.now.domains.items in
     let p : position (has_id c.args.dom.0) xs ≡ Some c.in-Some.at = ap (λ (l : List State). position (has_id c.args.dom.0) l) (sym c.deref.ensures.value) ∙ sym c.find.ensures ∙ c.in-Some.is in
     let x = c.index.result.now in let k = knowledge_of s.domains s.first_generation s.may x.own x.header x.mappings in
     let opens = subst (λ (o : Opening). Opens k c.args.dom c.args.request o) c.in-Open.is (c.open_at.ensures x (place-at xs c.args.dom.0 c.in-Some.at x p c.index.ensures)) in

@@ -3,8 +3,7 @@ use Rattle.gt_core.{proofs.Rows.has_id, proofs.Showing.shown-nowhere, proofs.Sho
 use Rattle.gt_core.proofs.machine.Machine.show.Goals as goal
 
 pub returns-in_err-at : goal.returns-in_err-at
-returns-in_err-at g c =
-    let s = setting_by g.P.Allows.may c.args.self.now in let xs = c.args.self.now.domains.items in
+returns-in_err-at g c = let s = setting_by g.P.Allows.may c.args.self.now in let xs = c.args.self.now.domains.items in
     let p : position (has_id c.args.dom.0) xs ≡ None = ap (λ (l : List State). position (has_id c.args.dom.0) l) (sym c.deref.ensures.value) ∙ sym c.find.ensures ∙ c.in_err-at.was in
     λ h st. c.from_residual.ensures ∙ shown-nowhere s h xs c.args.dom c.args.gref.0 p st
 
