@@ -1,5 +1,5 @@
 -- An exchange that was taken keeps what a core stands for.
-use Rattle.gt_core.proofs.Words.{◌≡◌, ◌≢◌, ◌<◌, ◌≤◌, ◌+◌, ℕ, refl, Bool, true, List, ◌∷◌, length, Option, Some, None, cond, sym, ap, ◌∙◌, arith, subst, get_or, eqb-true, none-some, slice_get-get_or, option_map, ◌==◌, All, slice_get, fun_ext, DomId, GrantRef, TABLE_ENTRIES, LAST_GENERATION, Entry, Invalid, Change, Publish, FirstHalf, SecondHalf, IsEntry, Exchange, Taken, Own, Open, Item, Answer, entry_in, generation_in, control_with, row_entry, row_generation, changed_at, State, state_of, changed_in, with_own, own_after, History, Setting, Pin, live, entry_at, raises_at, raise_of, generation_at, reads_at, writes_at, open_call, change_of, entry_after, raise_after, one_if_mapped, IsSafeChange, IsSpelled, IsLawful, FitsTable, FitsWord, Agrees, DomainsStand, CallAgrees, GivenAgrees, append-nil, gather, by_mapping, changed_entry, MAX_PINS}
+use Rattle.gt_core.proofs.Words.{◌≡◌, ◌≢◌, ◌<◌, ◌≤◌, ◌+◌, ℕ, refl, Bool, true, List, ◌∷◌, length, Option, Some, None, cond, sym, ap, ◌∙◌, arith, subst, get_or, eqb-true, none-some, slice_get-get_or, option_map, ◌==◌, All, slice_get, fun_ext, DomId, GrantRef, TABLE_ENTRIES, LAST_GENERATION, Entry, Invalid, Change, Publish, IsEntry, Exchange, Taken, Own, Open, Item, Answer, entry_in, generation_in, control_with, row_entry, row_generation, changed_at, State, state_of, changed_in, with_own, own_after, History, Setting, Pin, live, entry_at, raises_at, raise_of, generation_at, open_call, change_of, entry_after, raise_after, one_if_mapped, IsSafeChange, IsSpelled, IsLawful, FitsTable, FitsWord, Agrees, DomainsStand, CallAgrees, GivenAgrees, append-nil, gather, by_mapping, changed_entry, MAX_PINS}
 use Rattle.gt_core.proofs.{Others.unstored, Others.answered-stays, Others.kept-table, Keeping.stepped, Keeping.SlotsAgree, Keeping.same-number, Keeping.counts-fit, Rows.get-changed, Rows.length-changed, Mappings.mappings-same, Keeping.slots-kept, Keeping.Facts, Keeping.facts_at, Keeping.Fits, Keeping.facts-fit, Keeping.each-stays, Keeping.all-stand, Keeping.own-changed}
 
 -- each number of the entry that is published fits its type
@@ -73,23 +73,11 @@ facts_after s h t r c = record (facts_at s h t r) { entry = entry_after c (entry
 
 exchanged-facts : (s : Setting) (h : History) (d : DomId) (gref : GrantRef) (looked : ℕ) (change : Change) (answer : Option Answer) (t r : ℕ)
     → facts_at s (exchanged d gref looked change answer ∷ h) t r ≡ facts_after s h t r (change_of (exchanged d gref looked change answer) t r)
-exchanged-facts s h d gref looked change answer t r = let i = exchanged d gref looked change answer in
-    let e = exchanged-entry h i t r in let n = exchanged-raises h i t r in let l = exchanged-live h d gref looked change answer in
-    let a = unstored i h t r FirstHalf refl in let b = unstored i h t r SecondHalf refl in cc
+exchanged-facts s h d gref looked change answer t r = grind (arith, exchanged-entry, exchanged-raises, exchanged-live, unstored)
 
 facts-fit-after : (s : Setting) (h : History) (xs : List State) (d t g r : ℕ) (change : Change) → DomainsStand s h xs → g < TABLE_ENTRIES → IsSafeChange h d g change → FitsChange change → generation_at s h d g + raise_of change ≤ LAST_GENERATION
     → Fits r (facts_after s h t r (cond (d == t) (cond (g == r) (Some change) None) None))
-facts-fit-after s h xs d t g r change st within safe fits room = by (d == t) (g == r) refl refl where
-  by : (b c : Bool) → (d == t) ≡ b → (g == r) ≡ c → Fits r (facts_after s h t r (cond b (cond c (Some change) None) None))
-  by true true e f = let new = changed-fits s h d g change (facts-fit s h xs d g st) safe fits in
-      subst (λ (n : ℕ). Fits r (facts_after s h n r (Some change))) (eqb-true d t e) (subst (λ (n : ℕ). Fits n (facts_after s h d n (Some change))) (eqb-true g r f) (record {
-        word = λ below. word-fits _ _ (reads_at h d g) (writes_at h d g) new.0 (counts-fit s h d g (st.words d g within)) (omega arith);
-        entry = new.0;
-        free = new.1;
-        spelled = new.2;
-      }))
-  by b c e f = let same : generation_at s h t r ≡ s.first_generation + (raises_at h t r + 0) = omega arith in
-      subst (λ (n : ℕ). Fits r (record (facts_at s h t r) { generation = n })) same (facts-fit s h xs t r st)
+facts-fit-after s h xs d t g r change st within safe fits room = grind (arith, changed-fits, facts-fit, eqb-true, word-fits, counts-fit)
 
 -- an owner's change that is safe, and has room, keeps what the core stands for
 pub exchange-stands : (s : Setting) (h : History) (xs ys : List State) (x : State) (gref : GrantRef) (looked : ℕ) (change : Change) (answer : Option Answer) (o : Option Open) → DomainsStand s h xs

@@ -65,10 +65,7 @@ pinned-live h d p answer = refl
 gathered : {A : Type 0} (give : Holder → Held → List A) (h : History) (d : DomId) (p : Held) (answer : Option Answer)
     → gather give d.0 (live (pins d p answer ∷ h)) ≡ gather give d.0 (live h) ++ give (holder_after answer (length (gather by_leg d.0 (live h)))) (record p { entry = entry_at h p.dom.0 p.gref.0 })
 unfolding gather
-gathered {A} give h d p answer = ap (gather give d.0) (pinned-live h d p answer) ∙ gather-append give d.0 (live h) (new_pin h d p answer ∷ []) ∙ ap (λ (l : List A). gather give d.0 (live h) ++ l) (one (new_pin h d p answer) (same-number d.0))
-  where
-    one : (q : Pin) → (q.actor == d.0) ≡ true → gather give d.0 (q ∷ []) ≡ give q.holder q.held
-    one q own = ap (λ (b : Bool). cond b (give q.holder q.held) [] ++ []) own ∙ append-nil (give q.holder q.held)
+gathered give h d p answer = grind (arith, pinned-live, gather-append, same-number, append-nil)
 
 -- a pin of a leg is its domain's last one, and no mapping
 pub leg-grows : (h : History) (d : DomId) (p : Held) (answer : Option Answer) → holder_after answer (length (legs_at h d.0)) ≡ ByLeg (length (legs_at h d.0))
@@ -76,8 +73,7 @@ pub leg-grows : (h : History) (d : DomId) (p : Held) (answer : Option Answer) �
 leg-grows h d p answer leg = gathered by_leg h d p answer ∙ ap (λ (x : Holder). legs_at h d.0 ++ by_leg x (record p { entry = entry_at h p.dom.0 p.gref.0 })) leg
 
 pub leg-maps : (h : History) (d : DomId) (p : Held) (answer : Option Answer) → holder_after answer (length (legs_at h d.0)) ≡ ByLeg (length (legs_at h d.0)) → mappings_at (pins d p answer ∷ h) d.0 ≡ mappings_at h d.0
-leg-maps h d p answer leg =
-    gathered by_mapping h d p answer ∙ ap (λ (x : Holder). mappings_at h d.0 ++ by_mapping x (record p { entry = entry_at h p.dom.0 p.gref.0 })) leg ∙ append-nil (mappings_at h d.0)
+leg-maps h d p answer leg = grind (arith, gathered, append-nil)
 
 pub map-legs : (h : History) (d : DomId) (p : Held) (handle : Handle) → legs_at (pins d p (Some (Mapped handle)) ∷ h) d.0 ≡ legs_at h d.0
 map-legs h d p handle = gathered by_leg h d p (Some (Mapped handle)) ∙ append-nil (legs_at h d.0)
