@@ -1,5 +1,5 @@
 -- An exchange that was taken keeps what a core stands for.
-use Rattle.gt_core.proofs.Words.{◌≡◌, ◌≢◌, ◌<◌, ◌≤◌, ◌+◌, ℕ, refl, Bool, true, List, ◌∷◌, length, Option, Some, None, cond, sym, ap, ◌∙◌, arith, subst, get_or, eqb-true, none-some, slice_get-get_or, option_map, ◌==◌, All, slice_get, fun_ext, DomId, GrantRef, TABLE_ENTRIES, LAST_GENERATION, Entry, Invalid, Change, Publish, IsEntry, Exchange, Taken, Own, Open, Item, Answer, entry_in, generation_in, control_with, row_entry, row_generation, changed_at, State, state_of, changed_in, with_own, own_after, History, Setting, Pin, live, entry_at, raises_at, raise_of, generation_at, open_call, change_of, entry_after, raise_after, one_if_mapped, IsSafeChange, IsSpelled, IsLawful, FitsTable, FitsWord, Agrees, DomainsStand, CallAgrees, GivenAgrees, append-nil, gather, by_mapping, changed_entry, MAX_PINS}
+use Rattle.gt_core.proofs.Words.{◌≡◌, ◌≢◌, ◌<◌, ◌≤◌, ◌+◌, ℕ, refl, Bool, true, List, ◌∷◌, length, Option, Some, None, cond, sym, ap, ◌∙◌, arith, subst, get_or, eqb-true, none-some, slice_get-get_or, option_map, ◌==◌, All, slice_get, fun_ext, DomId, GrantRef, TABLE_ENTRIES, LAST_GENERATION, Entry, Invalid, Change, Publish, IsEntry, Exchange, Taken, Own, Open, Item, Answer, entry_in, generation_in, row_entry, row_generation, changed_at, State, state_of, changed_in, with_own, own_after, History, Setting, Pin, live, entry_at, raises_at, raise_of, generation_at, open_call, change_of, entry_after, raise_after, one_if_mapped, IsSafeChange, IsLawful, FitsTable, Agrees, DomainsStand, CallAgrees, GivenAgrees, append-nil, gather, by_mapping}
 use Rattle.gt_core.proofs.{Others.unstored, Others.answered-stays, Others.kept-table, Keeping.stepped, Keeping.SlotsAgree, Keeping.same-number, Keeping.counts-fit, Rows.get-changed, Rows.length-changed, Mappings.mappings-same, Keeping.slots-kept, Keeping.Facts, Keeping.facts_at, Keeping.Fits, Keeping.facts-fit, Keeping.each-stays, Keeping.all-stand, Keeping.own-changed}
 
 -- each number of the entry that is published fits its type
@@ -57,16 +57,6 @@ own-changed-at s h x gref looked change answer r within room a = let rows = a.ro
 
 -- the entries: the one that the exchange changes, and the others
 
-word-fits : (e : Entry) (g r w : ℕ) → IsEntry e → (r < MAX_PINS + 1) × (w < MAX_PINS + 1) → g ≤ LAST_GENERATION → FitsWord (control_with e g r w)
-word-fits e g r w a c below = grind arith
-
--- what is so of an entry by its pins and body words
-abbrev EntryFits : Facts → Entry → Type 0
-EntryFits f e = IsEntry e × (e ≡ Invalid → (f.reads ≡ 0) × (f.writes ≡ 0)) × (e ≢ Invalid → IsSpelled e f.first f.second)
-
-changed-fits : (s : Setting) (h : History) (t r : ℕ) (change : Change) → Fits r (facts_at s h t r) → IsSafeChange h t r change → FitsChange change → EntryFits (facts_at s h t r) (changed_entry change (entry_at h t r))
-changed-fits s h t r change f safe fits = grind arith
-
 -- the facts of an entry after a change
 abbrev facts_after : Setting → History → ℕ → ℕ → Option Change → Facts
 facts_after s h t r c = record (facts_at s h t r) { entry = entry_after c (entry_at h t r); generation = s.first_generation + (raises_at h t r + raise_after c) }
@@ -77,7 +67,7 @@ exchanged-facts s h d gref looked change answer t r = grind (arith, exchanged-en
 
 facts-fit-after : (s : Setting) (h : History) (xs : List State) (d t g r : ℕ) (change : Change) → DomainsStand s h xs → g < TABLE_ENTRIES → IsSafeChange h d g change → FitsChange change → generation_at s h d g + raise_of change ≤ LAST_GENERATION
     → Fits r (facts_after s h t r (cond (d == t) (cond (g == r) (Some change) None) None))
-facts-fit-after s h xs d t g r change st within safe fits room = grind (arith, changed-fits, facts-fit, eqb-true, word-fits, counts-fit)
+facts-fit-after s h xs d t g r change st within safe fits room = grind (arith, facts-fit, eqb-true, counts-fit)
 
 -- an owner's change that is safe, and has room, keeps what the core stands for
 pub exchange-stands : (s : Setting) (h : History) (xs ys : List State) (x : State) (gref : GrantRef) (looked : ℕ) (change : Change) (answer : Option Answer) (o : Option Open) → DomainsStand s h xs

@@ -1,5 +1,5 @@
 -- What stays of a core's agreement with a history after one item more.
-use Rattle.gt_core.proofs.Words.{◌≡◌, ◌≢◌, ◌<◌, ◌+◌, ℕ, refl, Bool, true, false, List, ◌∷◌, length, Option, Some, None, cond, sym, ap, ◌∙◌, subst, eqb-true, eq-eqb, none-some, same_Some, domain_of, ◌==◌, ◌&&◌, All, count_by, slice_get, option_map, fun_ext, DomId, Read, Write, TABLE_ENTRIES, Entry, Invalid, Header, Half, FirstHalf, SecondHalf, IsEntry, HandleMap, Held, control_with, knowledge_of, PinCounts, Open, Item, Answer, Stepped, Step, Seen, changed_at, State, state_of, changed_in, History, Setting, live, entry_at, generation_at, body_at, table_at, reads_at, writes_at, control_at, known_at, mappings_at, maps_answered_at, is_pin_on, open_call, underway_after, Underway, change_at, stored_at, header_stored, IsSpelled, stood, first_of_item, IsLawful, FitsTable, FitsWord, SlotAgrees, MappingsAgree, Agrees, StateAgrees, DomainsStand, CallAgrees, OpenAgrees, GivenAgrees, Dir, by_mapping, slot_after, with_slot, stood_with, MAX_PINS, cond_both, CountsChange, arith}
+use Rattle.gt_core.proofs.Words.{◌≡◌, ◌≢◌, ◌<◌, ◌+◌, ℕ, refl, Bool, true, false, List, ◌∷◌, length, Option, Some, None, cond, sym, ap, ◌∙◌, subst, eqb-true, eq-eqb, none-some, same_Some, domain_of, ◌==◌, ◌&&◌, All, count_by, slice_get, option_map, fun_ext, DomId, Read, Write, TABLE_ENTRIES, Entry, Invalid, Header, Half, FirstHalf, SecondHalf, IsEntry, HandleMap, Held, control_with, knowledge_of, PinCounts, Open, Item, Answer, Stepped, Step, Seen, changed_at, State, state_of, changed_in, History, Setting, live, entry_at, generation_at, body_at, table_at, reads_at, writes_at, control_at, known_at, mappings_at, maps_answered_at, is_pin_on, open_call, underway_after, Underway, change_at, stored_at, header_stored, IsSpelled, stood, first_of_item, IsLawful, FitsTable, FitsWord, SlotAgrees, MappingsAgree, Agrees, StateAgrees, DomainsStand, CallAgrees, GivenAgrees, Dir, by_mapping, slot_after, with_slot, stood_with, MAX_PINS, cond_both, CountsChange, arith}
 use Rattle.gt_core.proofs.{Rows.get-changed, Rows.length-changed, Rows.state-changed, Mappings.mappings-same, Others.pulled, Others.unstored, Others.KeepsKnown, Others.KeepsAll, Others.cond-same, Others.kept-table, Others.kept-live, Others.answered-stays, Others.kept-entry, Others.kept-raises, Others.other-entry, Others.other-body, Others.other-maps, Others.other-raises, Others.other-pins, Others.other-table, Others.other-known, Placing.place-stays}
 
 -- what a domain itself knows is what the core keeps of it
@@ -33,11 +33,8 @@ pub given-none : (h : History) (d : ℕ) (given : List ℕ) → open_call h d �
 given-none h d given none = λ c call. absurd (none-some c (sym none ∙ call))
 
 -- the call of another domain stands where it stood
-open-stays : (s : Setting) (i : Item) (h : History) (d : DomId) (o : Open) (c : Underway) → (i.actor.0 == d.0) ≡ false → OpenAgrees s h d o c → OpenAgrees s (i ∷ h) d o c
-open-stays s i h d o c apart a = grind (arith, other-known, place-stays, other-body, stood-other, other-pins)
-
 call-stays : (s : Setting) (i : Item) (h : History) (d : DomId) (o : Option Open) (c : Option Underway) → (i.actor.0 == d.0) ≡ false → CallAgrees s h d o c → CallAgrees s (i ∷ h) d o c
-call-stays s i h d o c apart a = grind (arith, other-pins, open-stays)
+call-stays s i h d o c apart a = grind (arith, other-pins, other-known, place-stays, other-body, stood-other)
 
 -- slots
 

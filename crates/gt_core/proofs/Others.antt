@@ -1,5 +1,5 @@
 -- What an item leaves of the entries, words, pins and mappings, and of the other domains.
-use Rattle.gt_core.proofs.Words.{◌≡◌, ◌+◌, ℕ, refl, Bool, true, false, List, [], ◌∷◌, ◌++◌, Option, None, cond, ap, ◌∙◌, arith, ◌==◌, DomId, Header, Change, Item, History, Setting, entry_at, entry_after, raises_at, raise_after, live, Pin, pinned_by, unpinned_by, change_at, change_of, maps_answered_at, one_if_mapped, known_at, mappings_at, gather, by_mapping, legs_at, by_leg, header_stored, header_or, table_at, append-nil, Half, or_else, stored_at, body_at, ◌&&◌, Holder, Held, Answer, without, is_holder, cond_both, Some, Handle, ByMapping, ByLeg, Happened, append_assoc, All-cons, All-head, All-tail, All}
+use Rattle.gt_core.proofs.Words.{◌≡◌, ◌+◌, ℕ, refl, Bool, true, false, List, [], ◌∷◌, ◌++◌, Option, None, cond, ap, ◌∙◌, arith, ◌==◌, DomId, Header, Change, Item, History, Setting, entry_at, entry_after, raises_at, raise_after, live, Pin, pinned_by, unpinned_by, change_at, change_of, maps_answered_at, one_if_mapped, known_at, mappings_at, gather, by_mapping, legs_at, by_leg, header_stored, header_or, table_at, append-nil, Half, or_else, stored_at, body_at, ◌&&◌, Holder, Held, without, is_holder, cond_both, Some, Handle, ByMapping, ByLeg, append_assoc, All-cons, All-head, All-tail, All}
 
 -- the item changes no entry, pin or mapping
 pub record KeepsKnown (i : Item) : Type 0 where
@@ -82,11 +82,6 @@ unfolding gather
 gather-append give d [] qs = refl
 gather-append give d (p ∷ ps) qs = grind (arith, gather-append give d ps qs, append_assoc)
 
-pinned-apart : {A : Type 0} (give : Holder → Held → List A) (d : ℕ) (actor : DomId) (happened : Happened) (answer : Option Answer) (before : History) (pins : List Pin) → (actor.0 == d) ≡ false
-    → gather give d (pinned_by actor happened answer before pins) ≡ []
-unfolding gather
-pinned-apart give d actor happened answer before pins apart = grind arith
-
 -- a pin that is given back, where it gave nothing to this domain
 pub without-kept : {A : Type 0} (give : Holder → Held → List A) (d actor : ℕ) (holder : Holder) (ps : List Pin)
     → ((p : Pin) → p.actor ≡ actor → is_holder p.holder holder ≡ true → cond (p.actor == d) (give p.holder p.held) [] ≡ []) → gather give d (without actor holder ps) ≡ gather give d ps
@@ -101,13 +96,10 @@ all-without P d holder [] a = a
 all-without P d holder (p ∷ ps) a = cond_both ((p.actor == d) && is_holder p.holder holder) ps (p ∷ without d holder ps) (All P) (λ e. All-tail P p ps a)
     (λ e. All-cons P p (without d holder ps) (All-head P p ps a) (all-without P d holder ps (All-tail P p ps a)))
 
-unpinned-apart : {A : Type 0} (give : Holder → Held → List A) (d : ℕ) (actor : DomId) (happened : Happened) (ps : List Pin) → (actor.0 == d) ≡ false → gather give d (unpinned_by actor happened ps) ≡ gather give d ps
-unpinned-apart give d actor happened ps apart = grind (arith, without-kept)
-
 -- no domain but the actor holds other pins than before
 pub other-pins : {A : Type 0} (give : Holder → Held → List A) (i : Item) (h : History) (d : ℕ) → (i.actor.0 == d) ≡ false → gather give d (live (i ∷ h)) ≡ gather give d (live h)
-unfolding live
-other-pins give i h d apart = grind (arith, gather-append, pinned-apart, append-nil, unpinned-apart)
+unfolding gather live
+other-pins give i h d apart = grind (arith, gather-append, append-nil, without-kept)
 
 -- no domain but the actor knows another thing by itself
 pub other-known : (s : Setting) (i : Item) (h : History) (d : DomId) → (i.actor.0 == d.0) ≡ false → known_at s (i ∷ h) d ≡ known_at s h d

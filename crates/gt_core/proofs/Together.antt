@@ -1,5 +1,5 @@
 -- What an event does after a history, but for keys, is a function of the history, and the same without keys; so runs that are alike stay so.
-use Rattle.gt_core.proofs.Words.{◌≡◌, ◌≢◌, ◌⊎◌, inl, inr, ℕ, refl, Bool, List, [], ◌∷◌, ◌++◌, Option, Some, None, sym, ap, ◌∙◌, take, drop, option_map, domain_of, DomId, DomainConfig, Denial, MAX_TABLE_FRAMES, Header, header_word, Handle, asked, begun_of, CallerKnowledge, first, path, Held, Request, Asked, Map, Unmap, Load, Store, Peek, SetupTable, QuerySize, GetVersion, Seen, Word, Step, LookHeader, LookControl, LookBody, PinStep, StoreHeader, Exchange, ReadBytes, Action, Makes, Verdict, Answer, Event, Begin, Tick, Happened, Began, Stepped, Item, Element, Busy, Idle, NoDomain, Did, History, Setting, Underway, open_call, values, known_at, seen_by, exchange_sees, table_at, maps_answered_at, contents_at, mappings_at, mapping_of, MayDo, IsRight, StepsRight, StepsRightIn, AnsweredBy, refusal_in, verdict_in, bare_handle, bare_request, bare_event, bare_step, told, told_item, ToldItem, AsksKnown, IsOfKnown, IsRun, Ends, BeginsRight, grown, told_items, SameHistory, HappensKnown, AreAlike, IsOf, SameEvent, SameElement, arith}
+use Rattle.gt_core.proofs.Words.{◌≡◌, ◌≢◌, ◌⊎◌, inl, inr, ℕ, refl, Bool, List, [], ◌∷◌, ◌++◌, Option, Some, None, sym, ap, ◌∙◌, take, drop, option_map, domain_of, DomId, DomainConfig, Denial, MAX_TABLE_FRAMES, Header, header_word, Handle, asked, begun_of, CallerKnowledge, first, path, Held, Request, Asked, Map, Unmap, Load, Store, Peek, SetupTable, QuerySize, GetVersion, Seen, Word, Step, LookHeader, LookControl, LookBody, PinStep, StoreHeader, Exchange, ReadBytes, Action, Makes, Verdict, Answer, Event, Begin, Tick, Happened, Began, Stepped, Item, Element, Busy, Idle, NoDomain, Did, History, Setting, Underway, open_call, values, known_at, seen_by, exchange_sees, table_at, maps_answered_at, contents_at, mappings_at, mapping_of, MayDo, IsRight, StepsRight, AnsweredBy, refusal_in, verdict_in, bare_handle, bare_request, bare_event, bare_step, told, told_item, ToldItem, AsksKnown, IsOfKnown, IsRun, Ends, BeginsRight, grown, told_items, SameHistory, HappensKnown, AreAlike, IsOf, SameEvent, SameElement, arith}
 use Rattle.gt_core.{proofs.Pins.word-bare, proofs.Pins.mapping-bare, proofs.Pins.known-bare, proofs.Bare.bare, proofs.Bare.bare_asked, proofs.Bare.bare_call, proofs.Bare.asked-bare, proofs.Bare.open-bare, proofs.Bare.values-bare, proofs.Bare.table-bare, proofs.Bare.body-bare, proofs.Bare.maps-bare, proofs.Bare.contents-bare, proofs.Bare.bare-same, proofs.Given.CallKnown, proofs.Given.open-known}
 use Rattle.gt_calls.specs.declared.request.Request.TheVariants as requests
 use Rattle.gt_core.specs.declared.trace.Answer.TheVariants as answers
@@ -44,9 +44,6 @@ seen-at s h d (PinStep p) run = ap (λ (w : ℕ). exchange_sees w p.word) (word-
 seen-at s h d (Exchange gref looked change) run = ap (λ (w : ℕ). exchange_sees w looked) (word-bare s h d.0 gref.0 run)
 seen-at s h d step run = refl
 
-seen-bare : (s : Setting) (h : History) (d : DomId) (step : Step) → seen_by s h d step ≡ seen_by s h d (bare_step step)
-seen-bare s h d step = grind arith
-
 -- answers
 
 -- what the value tells of a call that is answered Ok after this step, or at its beginning
@@ -85,9 +82,6 @@ answer-told s h d r step giving v a against is = grind arith
 answer-at : (s : Setting) (h : History) (d : DomId) (r : Asked) (step : Option Step) (v : Option Verdict) → answer_told s (bare h) d (bare_asked r) step v ≡ answer_told s h d r step v
 answer-at s h d r step v = grind (arith, value-at)
 
-answer-step : (s : Setting) (h : History) (d : DomId) (r : Asked) (step : Step) (v : Option Verdict) → answer_told s h d r (Some (bare_step step)) v ≡ answer_told s h d r (Some step) v
-answer-step s h d r step v = grind arith
-
 -- items
 
 abbrev began_told : Setting → History → DomId → Request → ToldItem
@@ -106,13 +100,10 @@ verdict-bare o = grind arith
 
 is-stepped : (s : Setting) (h : History) (d : DomId) (step : Step) (seen : Seen) (a : Option Answer) (c : Underway) → StepsRight s h (record { actor = d; happened = Stepped step seen; answer = a }) step seen c
     → told_item (record { actor = d; happened = Stepped step seen; answer = a }) ≡ step_told s h d c.request (values c) (bare_step step)
-is-stepped s h d step seen a c right = grind (arith, answer-told, answer-step, verdict-bare, seen-bare)
-
-request-twice : (q : Request) → bare_request (bare_request q) ≡ bare_request q
-request-twice q = grind arith
+is-stepped s h d step seen a c right = grind (arith, answer-told, verdict-bare)
 
 began-at : (s : Setting) (h : History) (d : DomId) (q : Request) → IsRun s h → AsksKnown h d.0 (asked q) → began_told s (bare h) d (bare_request q) ≡ began_told s h d q
-began-at s h d q run k = grind (arith, request-twice, asked-bare, begun-at, answer-at)
+began-at s h d q run k = grind (arith, asked-bare, begun-at, answer-at)
 
 stepped-at : (s : Setting) (h : History) (d : DomId) (r : Asked) (vs : List Seen) (step : Step) → IsRun s h → AsksKnown h d.0 r → step_told s (bare h) d (bare_asked r) vs step ≡ step_told s h d r vs step
 stepped-at s h d r vs step run k = grind (arith, seen-at, path-at, answer-at)
@@ -150,21 +141,13 @@ is-within o x y some e = grind arith
 is-busy : (s : Setting) (h : History) (d : DomId) (q : Request) (c : Option Underway) → c ≢ None → inl Busy ≡ begin_told s h d q c
 is-busy s h d q c some = grind arith
 
-begin-does : (s : Setting) (h : History) (d : DomId) (q : Request) (a : Option Answer) → BeginsRight s h (record { actor = d; happened = Began q; answer = a }) q
-    → element_told (Did (record { actor = d; happened = Began q; answer = a })) ≡ begin_told s h d q (open_call h d.0)
-begin-does s h d q a right = grind (arith, is-began)
-
-tick-does : (s : Setting) (h : History) (d : DomId) (step : Step) (seen : Seen) (a : Option Answer) (c : Option Underway) → StepsRightIn s h (record { actor = d; happened = Stepped step seen; answer = a }) step seen c
-    → element_told (Did (record { actor = d; happened = Stepped step seen; answer = a })) ≡ tick_told s h d c
-tick-does s h d step seen a c right = grind (arith, is-stepped)
-
 begin-item : (s : Setting) (h : History) (d : DomId) (q : Request) (actor : DomId) (x : Happened) (a : Option Answer) → actor ≡ d → x ≡ Began q → IsRight s h (record { actor = actor; happened = x; answer = a })
     → element_told (Did (record { actor = actor; happened = x; answer = a })) ≡ begin_told s h d q (open_call h d.0)
-begin-item s h d q actor x a own is right = grind (arith, begin-does)
+begin-item s h d q actor x a own is right = grind (arith, is-began)
 
 tick-item : (s : Setting) (h : History) (d : DomId) (actor : DomId) (x : Happened) (a : Option Answer) → MayDo s h (Tick d) (Did (record { actor = actor; happened = x; answer = a }))
     → element_told (Did (record { actor = actor; happened = x; answer = a })) ≡ tick_told s h d (open_call h d.0)
-tick-item s h d actor x a m = grind (arith, tick-does)
+tick-item s h d actor x a m = grind (arith, is-stepped)
 
 -- an event does what this function tells
 pub does : (s : Setting) (h : History) (e : Event) (x : Element) → MayDo s h e x → element_told x ≡ doing s h e
@@ -182,12 +165,9 @@ begin-at : (s : Setting) (h : History) (d : DomId) (q : Request) (c : Option Und
 begin-at s h d q None run k = grind (arith, began-at)
 begin-at s h d q (Some c) run k = refl
 
-next-at : (s : Setting) (h : History) (d : DomId) (c : Underway) (o : Option Action) → IsRun s h → AsksKnown h d.0 c.request → stepped_told s (bare h) d (bare_call c) o ≡ stepped_told s h d c o
-next-at s h d c o run k = grind (arith, values-bare, stepped-at)
-
 tick-at : (s : Setting) (h : History) (d : DomId) (c : Option Underway) → IsRun s h → CallKnown h d.0 c → tick_told s (bare h) d (option_map bare_call c) ≡ tick_told s h d c
 tick-at s h d None run k = refl
-tick-at s h d (Some c) run k = grind (arith, values-bare, path-at, next-at)
+tick-at s h d (Some c) run k = grind (arith, values-bare, path-at, stepped-at)
 
 -- and it does the same without keys
 pub does-bare : (s : Setting) (h : History) (e : Event) → IsRun s h → IsOfKnown h e → doing s (bare h) (bare_event e) ≡ doing s h e
