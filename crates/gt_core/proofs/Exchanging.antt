@@ -43,17 +43,8 @@ own-changed-at : (s : Setting) (h : History) (x : State) (gref : GrantRef) (look
     → (entry_in (changed_at gref.0 (own_after change) x.own) r ≡ entry_at (exchanged x.id gref looked change answer ∷ h) x.id.0 r)
     × (generation_in s.first_generation (changed_at gref.0 (own_after change) x.own) r ≡ generation_at s (exchanged x.id gref looked change answer ∷ h) x.id.0 r)
 own-changed-at s h x gref looked change answer r within room a = let rows = a.rows in let inside : gref.0 < length x.own = omega arith in
-    let i = exchanged x.id gref looked change answer in let hit : Option Change = cond (gref.0 == r) (Some change) None in
-    let own : change_of i x.id.0 r ≡ hit = ap (λ (b : Bool). cond b hit None) (same-number x.id.0) in
-    let now = get-changed x.own gref.0 r (own_after change) in
-    let row = row-changed (gref.0 == r) (slice_get x.own r) change s.first_generation (raises_at h x.id.0 r) (λ b. (
-      row-some x.own gref.0 r no_row inside b,
-      subst (λ (n : ℕ). s.first_generation + raises_at h x.id.0 n + raise_of change ≤ LAST_GENERATION) (eqb-true gref.0 r b) room,
-    )) (ap (λ (f : ℕ → ℕ). f r) a.generations) in (
-      ap row_entry now ∙ row.0 ∙ ap (entry_after hit) (ap (λ (f : ℕ → Entry). f r) a.entries) ∙ ap (λ (c : Option Change). entry_after c (entry_at h x.id.0 r)) (sym own) ∙ sym (exchanged-entry h i x.id.0 r),
-      ap (row_generation s.first_generation) now ∙ row.1 ∙ ap (λ (c : Option Change). s.first_generation + (raises_at h x.id.0 r + raise_after c)) (sym own)
-          ∙ ap (λ (n : ℕ). s.first_generation + n) (sym (exchanged-raises h i x.id.0 r)),
-    )
+    let i = exchanged x.id gref looked change answer in let e = ap (λ (f : ℕ → Entry). f r) a.entries in let g = ap (λ (f : ℕ → ℕ). f r) a.generations in
+    grind (arith, get-changed x.own gref.0 r (own_after change), row-some x.own gref.0 r no_row inside, eqb-true gref.0 r, exchanged-entry h i x.id.0 r, exchanged-raises h i x.id.0 r, same-number x.id.0, row-changed)
 
 -- the entries: the one that the exchange changes, and the others
 

@@ -1,5 +1,5 @@
 -- What stays of a core's agreement with a history after one item more.
-use Rattle.gt_core.proofs.Words.{◌≡◌, ◌≢◌, ◌<◌, ◌+◌, ℕ, refl, Bool, true, false, List, ◌∷◌, length, Option, Some, None, cond, sym, ap, ◌∙◌, subst, eqb-true, eq-eqb, none-some, same_Some, domain_of, ◌==◌, ◌&&◌, All, count_by, slice_get, option_map, fun_ext, DomId, Read, Write, TABLE_ENTRIES, Entry, Invalid, Header, Half, FirstHalf, SecondHalf, IsEntry, HandleMap, Held, control_with, knowledge_of, PinCounts, Open, Item, Answer, Stepped, Step, Seen, changed_at, State, state_of, changed_in, History, Setting, live, entry_at, generation_at, body_at, table_at, reads_at, writes_at, control_at, known_at, mappings_at, maps_answered_at, is_pin_on, open_call, underway_after, Underway, change_at, stored_at, header_stored, IsSpelled, stood, first_of_item, IsLawful, FitsTable, FitsWord, SlotAgrees, MappingsAgree, Agrees, StateAgrees, DomainsStand, CallAgrees, GivenAgrees, Dir, by_mapping, slot_after, with_slot, stood_with, MAX_PINS, cond_both, CountsChange, arith}
+use Rattle.gt_core.proofs.Words.{◌≡◌, ◌≢◌, ◌<◌, ◌+◌, ℕ, refl, Bool, true, false, List, ◌∷◌, length, Option, Some, None, cond, sym, ap, ◌∙◌, subst, eqb-true, eq-eqb, none-some, domain_of, ◌==◌, ◌&&◌, All, count_by, slice_get, option_map, fun_ext, DomId, Read, Write, TABLE_ENTRIES, Entry, Invalid, Header, Half, FirstHalf, SecondHalf, IsEntry, HandleMap, Held, control_with, knowledge_of, PinCounts, Open, Item, Answer, Stepped, Step, Seen, changed_at, State, state_of, changed_in, History, Setting, live, entry_at, generation_at, body_at, table_at, reads_at, writes_at, control_at, known_at, mappings_at, maps_answered_at, is_pin_on, open_call, underway_after, Underway, change_at, stored_at, header_stored, IsSpelled, stood, first_of_item, IsLawful, FitsTable, FitsWord, SlotAgrees, MappingsAgree, Agrees, StateAgrees, DomainsStand, CallAgrees, GivenAgrees, Dir, by_mapping, slot_after, with_slot, stood_with, MAX_PINS, cond_both, CountsChange, arith}
 use Rattle.gt_core.proofs.{Rows.get-changed, Rows.length-changed, Rows.state-changed, Mappings.mappings-same, Others.pulled, Others.unstored, Others.KeepsKnown, Others.KeepsAll, Others.cond-same, Others.kept-table, Others.kept-live, Others.answered-stays, Others.kept-entry, Others.kept-raises, Others.other-entry, Others.other-body, Others.other-maps, Others.other-raises, Others.other-pins, Others.other-table, Others.other-known, Placing.place-stays}
 
 -- what a domain itself knows is what the core keeps of it
@@ -48,15 +48,7 @@ Moves h new t r change = (q k : ℕ) (old : PinCounts) → SlotAgrees h q k old 
 -- the slots of domain q, after the change of one slot of domain t
 slots-agree : (h new : History) (t r q : ℕ) (change : CountsChange) (slots : List PinCounts) → Moves h new t r change → SlotsAgree h q slots
     → SlotsAgree new q (cond (t == q) (changed_at r (slot_after change) slots) slots)
-slots-agree h new t r q change slots moves was k slot e = by (t == q) (r == k) (slice_get slots k) (was k) (moves q k)
-    (ap (λ (o : Option PinCounts). cond (t == q) o (slice_get slots k)) (sym (get-changed slots r k (slot_after change)))
-    ∙ sym (pulled (λ (l : List PinCounts). slice_get l k) (t == q) (changed_at r (slot_after change) slots) slots) ∙ e)
-  where
-    by : (b c : Bool) (o : Option PinCounts) → ((old : PinCounts) → o ≡ Some old → SlotAgrees h q k old) → ((old : PinCounts) → SlotAgrees h q k old → SlotAgrees new q k (cond (b && c) (slot_after change old) old))
-        → cond b (cond c (option_map (slot_after change) o) o) o ≡ Some slot → SlotAgrees new q k slot
-    by true true None was moves e = absurd (none-some slot e)
-    by true true (Some old) was moves e = subst (SlotAgrees new q k) (same_Some _ _ e) (moves old (was old refl))
-    by b c o was moves e = moves slot (was slot e)
+slots-agree h new t r q change slots moves was k slot e = grind (arith, get-changed slots r k (slot_after change), moves q k, was k)
 
 length-slots : (r : ℕ) (f : PinCounts → PinCounts) (slots : List PinCounts) (b : Bool) → length slots ≡ TABLE_ENTRIES → length (cond b (changed_at r f slots) slots) ≡ TABLE_ENTRIES
 length-slots r f slots b e = cond_both b (changed_at r f slots) slots (λ l. length l ≡ TABLE_ENTRIES) (λ is. length-changed slots r f ∙ e) (λ is. e)
@@ -241,10 +233,7 @@ becomes-changed xs ys x new t g keeps was = λ q. state-changed ys t q g keeps �
 -- and after one of the actor's own state
 pub own-changed : (xs ys : List State) (x new : State) (g : State → State) → ((y : State) → (g y).id ≡ y.id) → ((q : ℕ) → state_of ys q ≡ cond (x.id.0 == q) (Some new) (state_of xs q))
     → (q : ℕ) → state_of (changed_in x.id.0 g ys) q ≡ cond (x.id.0 == q) (Some (g new)) (state_of xs q)
-own-changed xs ys x new g keeps was q = becomes-changed xs ys x new x.id.0 g keeps was q ∙ by (x.id.0 == q) (state_of xs q) where
-  by : (b : Bool) (o : Option State) → after_change b g (cond b (Some new) o) ≡ cond b (Some (g new)) o
-  by true o = refl
-  by false o = refl
+own-changed xs ys x new g keeps was q = grind (arith, becomes-changed xs ys x new x.id.0 g keeps was q)
 
 -- each domain agrees after an item that changes the slot of one entry
 pub slots-stand : (s : Setting) (i : Item) (h : History) (xs zs : List State) (x : State) (kept : HandleMap Held) (o : Option Open) (t r : ℕ) (change : CountsChange) → KeepsAll i → header_stored i.happened ≡ None → i.actor ≡ x.id

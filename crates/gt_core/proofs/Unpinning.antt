@@ -1,6 +1,6 @@
 -- An unpin keeps what a core stands for.
-use Rattle.gt_core.proofs.Words.{◌≡◌, ◌+◌, ℕ, refl, Bool, true, false, List, [], ◌∷◌, ◌++◌, length, Option, Some, None, cond, sym, ap, ◌∙◌, arith, subst, ◌==◌, ◌&&◌, All, count_by, none-some, same_Some, append-nil, sum_by-cons, DomId, Dir, Read, Write, Half, FirstHalf, SecondHalf, Handle, HandleMap, Held, Holder, ByMapping, ByLeg, Unpin, Seen, PinCounts, Open, Unpinned, Item, Answer, State, state_of, changed_in, with_slot, without_mapping, slot_after, taken, History, Setting, Pin, live, body_at, mappings_at, maps_answered_at, legs_at, open_call, is_pin_on, without, is_holder, same_handle, same_dir, gather, by_mapping, by_leg, mapping_of, one_if_mapped, IsLawful, SlotAgrees, Agrees, DomainsStand, CallAgrees, GivenAgrees, MappingsAgree, numbered}
-use Rattle.gt_core.proofs.{Others.answered-stays, Others.pulled, Others.cond-same, Others.without-kept, Others.IsKeyed, Others.listed, Others.mapping-keyed, Others.leg-keyed, Keeping.stepped, Keeping.KeepsEntries, Keeping.same-body, Keeping.Becomes, Keeping.becomes-changed, Keeping.slots-stand, Keeping.keeps-stands, Mappings.less, Mappings.less_of, Mappings.mappings-taken, Mappings.mappings-same, Rows.state-changed, Pinning.pins_at, Pinning.pins-fit, Pinning.pins-none, Others.all-without}
+use Rattle.gt_core.proofs.Words.{◌≡◌, ◌+◌, ℕ, refl, Bool, false, List, [], ◌∷◌, ◌++◌, length, Option, Some, None, cond, sym, ap, ◌∙◌, arith, subst, ◌==◌, ◌&&◌, All, count_by, none-some, append-nil, sum_by-cons, DomId, Dir, Read, Write, Half, FirstHalf, SecondHalf, Handle, HandleMap, Held, Holder, ByMapping, ByLeg, Unpin, Seen, PinCounts, Open, Unpinned, Item, Answer, State, state_of, changed_in, with_slot, without_mapping, slot_after, taken, History, Setting, Pin, live, body_at, mappings_at, maps_answered_at, legs_at, open_call, is_pin_on, without, is_holder, same_handle, same_dir, gather, by_mapping, by_leg, mapping_of, one_if_mapped, IsLawful, SlotAgrees, Agrees, DomainsStand, CallAgrees, GivenAgrees, MappingsAgree, numbered}
+use Rattle.gt_core.proofs.{Others.answered-stays, Others.cond-same, Others.without-kept, Others.IsKeyed, Others.mapping-keyed, Others.leg-keyed, Keeping.stepped, Keeping.KeepsEntries, Keeping.same-body, Keeping.Becomes, Keeping.becomes-changed, Keeping.slots-stand, Keeping.keeps-stands, Mappings.less, Mappings.less_of, Mappings.mappings-taken, Mappings.mappings-same, Rows.state-changed, Pinning.pins_at, Pinning.pins-fit, Pinning.pins-none, Others.all-without}
 
 -- what an unpin takes from the live pins
 
@@ -31,31 +31,9 @@ without-one : {K : Type 0} (give : Holder → Held → List (K × Held)) (test :
 unfolding without gather
 without-one give test holder d [] t = (refl, λ m e. absurd (none-some m e))
 without-one {K} give test holder d (p ∷ ps) t = let was = without-one give test holder d ps t in (
-  pulled (gather give d) ((p.actor == d) && is_holder p.holder holder) ps (p ∷ rest) ∙ rw (t.keyed.gives p.holder p.held, t.tells p.holder) (left was.0 (p.actor == d) (t.keyed.key p.holder)),
-  λ m e u r k. rw (t.tells p.holder) (lost m u r k (λ f. was.1 m f u r k) (p.actor == d) (t.keyed.key p.holder)
-      (sym (ap (λ (l : List (K × Held)). one_of test (cond (p.actor == d) l [] ++ gather give d ps)) (t.keyed.gives p.holder p.held)) ∙ e)),
-) where
-  rest : List Pin
-  rest = without d holder ps
-
-  count : ℕ → ℕ → Dir → List Pin → ℕ
-  count u r k qs = count_by (is_pin_on u r k) qs
-
-  left : gather give d rest ≡ less_of test (gather give d ps) → (b : Bool) (o : Option K)
-      → cond (b && passes test o) (gather give d ps) (cond b (listed o p.held) [] ++ gather give d rest) ≡ less_of test (cond b (listed o p.held) [] ++ gather give d ps)
-  left was true (Some k) = ap (λ (l : List (K × Held)). cond (test k) (gather give d ps) ((k, p.held) ∷ l)) was
-  left was b o = was
-
-  gone : (m : Held) (u r : ℕ) (k : Dir) → (one_of test (gather give d ps) ≡ Some m → count u r k ps ≡ cond (hits m u r k) 1 0 + count u r k rest) → (c : Bool)
-      → cond c (Some p.held) (one_of test (gather give d ps)) ≡ Some m → count u r k (p ∷ ps) ≡ cond (hits m u r k) 1 0 + count u r k (cond c ps (p ∷ rest))
-  gone m u r k was true e = sum_by-cons (λ (q : Pin). cond (is_pin_on u r k q) 1 0) p ps ∙ ap (λ (q : Held). cond (hits q u r k) 1 0 + count u r k ps) (same_Some _ _ e)
-  gone m u r k was false e = let a = sum_by-cons (λ (q : Pin). cond (is_pin_on u r k q) 1 0) p ps in
-      let b = sum_by-cons (λ (q : Pin). cond (is_pin_on u r k q) 1 0) p rest in let c = was e in omega arith
-
-  lost : (m : Held) (u r : ℕ) (k : Dir) → (one_of test (gather give d ps) ≡ Some m → count u r k ps ≡ cond (hits m u r k) 1 0 + count u r k rest) → (b : Bool) (o : Option K)
-      → one_of test (cond b (listed o p.held) [] ++ gather give d ps) ≡ Some m → count u r k (p ∷ ps) ≡ cond (hits m u r k) 1 0 + count u r k (cond (b && passes test o) ps (p ∷ rest))
-  lost m u r k was true (Some key) e = gone m u r k was (test key) e
-  lost m u r k was b o e = gone m u r k was false e
+  grind (arith, was.0, t.keyed.gives p.holder p.held, t.tells p.holder),
+  λ m e u r k. grind (arith, t.keyed.gives p.holder p.held, t.tells p.holder, was.1 m, sum_by-cons (λ (q : Pin). cond (is_pin_on u r k q) 1 0) p ps, sum_by-cons (λ (q : Pin). cond (is_pin_on u r k q) 1 0) p (without d holder ps)),
+)
 
 -- the tests that there are
 
@@ -134,12 +112,7 @@ leg-agrees h d p number seen answer kept m a = mappings-same kept _ _ _ _ (sym (
 -- the slot that the unpin counts down
 counted-down : (h new : History) (q r : ℕ) (dir : Dir) (b : Bool) (old : PinCounts) → SlotAgrees h q r old → ((which : Half) → body_at new q r which ≡ body_at h q r which)
     → ((k : Dir) → pins_at h q r k ≡ cond (b && same_dir dir k) 1 0 + pins_at new q r k) → SlotAgrees new q r (cond b (slot_after (Unpinned dir) old) old)
-counted-down h new q r dir b old a body now = by dir b (now Read) (now Write) (a.first ∙ sym (body FirstHalf)) (a.second ∙ sym (body SecondHalf)) where
-  by : (z : Dir) (c : Bool) → pins_at h q r Read ≡ cond (c && same_dir z Read) 1 0 + pins_at new q r Read → pins_at h q r Write ≡ cond (c && same_dir z Write) 1 0 + pins_at new q r Write
-      → old.first ≡ body_at new q r FirstHalf → old.second ≡ body_at new q r SecondHalf → SlotAgrees new q r (cond c (slot_after (Unpinned z) old) old)
-  by Read true n m x y = record { reads = omega arith; writes = omega arith; first = x; second = y }
-  by Write true n m x y = record { reads = omega arith; writes = omega arith; first = x; second = y }
-  by z false n m x y = record { reads = omega arith; writes = omega arith; first = x; second = y }
+counted-down h new q r dir b old a body now = grind (arith, now Read, now Write, body FirstHalf, body SecondHalf)
 
 -- a live pin that is given back keeps what the core stands for, where the domain's mappings are those that it then has
 pub unpin-stands : (s : Setting) (h : History) (xs zs : List State) (x : State) (p : Held) (holder : Holder) (seen : Seen) (answer : Option Answer) (kept : HandleMap Held) (o : Option Open) → DomainsStand s h xs
