@@ -1,7 +1,7 @@
 -- What an access to bytes rests on: it is inside a frame, and justified.
-use Rattle.gt_core.proofs.Words.{◌≡◌, ◌≢◌, ◌≤◌, ◌<◌, ◌+◌, ◌⊎◌, inl, inr, ℕ, suc, refl, Bool, true, List, [], ◌∷◌, ◌++◌, Option, Some, None, cond, sym, ap, ◌∙◌, arith, subst, reverse, eqb-true, none-some, same_Some, ◌==◌, Any, resolved, denial_of, DomId, TypeId, Dir, Read, Write, ForMap, ForCopy, Perms, Triple, FRAME_SIZE, Policy, N5, Entry, frame_of, permits, forwards, Handle, Held, Route, Direct, Through, Pins, End, Asked, Load, Store, Peek, Poke, Copy, Holder, ByMapping, Place, Refused, ReadBytes, WriteBytes, last_first, CallerKnowledge, begun, frames_of, via_judged, denied, rights_to_copy, is_source_granted, is_dest_granted, source_pair, dest_pair, opens, RestsOnRequest, RestsOnWays, IsReached, LeadsTo, State, History, Setting, Pin, live, known_at, legs_at, mappings_at, mapping_of, gather, by_mapping, by_leg, same_handle, IsInFrame, CopyIsJustified, Justified, IsLawful, IsLawfullyHeld, DomainsStand, numbered, owner_by, IsAllowed, IsMapped, IsPermitted, Reaches, Forwards, MayCopy, MayUseMapping, MayAsk, EndIsJustified, cond_both}
+use Rattle.gt_core.proofs.Words.{◌≡◌, ◌≢◌, ◌≤◌, ◌<◌, ◌+◌, ◌⊎◌, inl, inr, ℕ, suc, refl, Bool, true, List, [], ◌∷◌, Some, None, sym, ap, ◌∙◌, arith, subst, reverse, eqb-true, none-some, same_Some, Any, resolved, DomId, TypeId, Dir, Read, Write, ForMap, ForCopy, Perms, Triple, FRAME_SIZE, Entry, frame_of, permits, forwards, Handle, Held, Route, Direct, Through, Pins, End, Asked, Load, Store, Peek, Poke, Copy, Holder, ByMapping, Place, ReadBytes, WriteBytes, last_first, CallerKnowledge, begun, frames_of, via_judged, denied, rights_to_copy, is_source_granted, is_dest_granted, source_pair, dest_pair, opens, RestsOnRequest, RestsOnWays, IsReached, LeadsTo, State, History, Setting, Pin, live, known_at, legs_at, mappings_at, mapping_of, gather, by_mapping, by_leg, same_handle, IsInFrame, CopyIsJustified, Justified, IsLawful, IsLawfullyHeld, DomainsStand, numbered, owner_by, IsAllowed, IsMapped, IsPermitted, Reaches, Forwards, MayCopy, MayUseMapping, MayAsk, EndIsJustified, cond_both}
 use Rattle.gt_calls.specs.{declared.held.Route.TheVariants.Own, Path.place_of}
-use Rattle.gt_core.{specs.Legal.AccessIsJustified, specs.Standing.LetsUse, proofs.Phases.none-of, proofs.Others.listed, proofs.Others.IsKeyed, proofs.Others.mapping-keyed, proofs.Others.leg-keyed}
+use Rattle.gt_core.{specs.Legal.AccessIsJustified, specs.Standing.LetsUse, proofs.Phases.none-of, proofs.Others.IsKeyed, proofs.Others.mapping-keyed, proofs.Others.leg-keyed}
 
 -- pins among those that a domain's give
 
@@ -23,13 +23,7 @@ any-map P Q xs f a = (a.0, a.1, a.2, a.3, f a.1 a.4)
 gathered-any : {K : Type 0} (give : Holder → Held → List (K × Held)) (keyed : IsKeyed give) (d : ℕ) (m : Held) (ps : List Pin) → IsHeldIn m (gather give d ps) → Any (IsBy keyed d m) ps
 unfolding gather
 gathered-any give keyed d m [] a = absurd a
-gathered-any {K} give keyed d m (p ∷ ps) a = by (p.actor == d) refl (keyed.key p.holder) refl (λ b. gathered-any give keyed d m ps b)
-    (subst (λ (l : List (K × Held)). IsHeldIn m (cond (p.actor == d) l [] ++ gather give d ps)) (keyed.gives p.holder p.held) a)
-  where
-    by : (b : Bool) → (p.actor == d) ≡ b → (o : Option K) → keyed.key p.holder ≡ o → (IsHeldIn m (gather give d ps) → Any (IsBy keyed d m) ps) → IsHeldIn m (cond b (listed o p.held) [] ++ gather give d ps) → Any (IsBy keyed d m) (p ∷ ps)
-    by true own (Some k) is rest (inl e) = (0, p, omega arith, refl, (eqb-true p.actor d own, e, λ none. none-some k (sym none ∙ is)))
-    by true own (Some k) is rest (inr b) = any-there (IsBy keyed d m) p ps (rest b)
-    by b own o is rest e = any-there (IsBy keyed d m) p ps (rest e)
+gathered-any {K} give keyed d m (p ∷ ps) a = grind (arith, gathered-any give keyed d m ps, keyed.gives p.holder p.held, any-there (IsBy keyed d m) p ps, eqb-true p.actor d)
 
 -- through a mapping
 
@@ -119,8 +113,7 @@ leg-pin h d m a = any-map (IsBy leg-keyed d.0 m) (IsOwnPin d m) (live h) (λ p b
 -- the policy allows what is not denied
 allowed : (may : TypeId → TypeId → Perms → Bool) (ts : List Triple) → denied may ts ≡ None → IsAllowed may ts
 allowed may [] e = tt
-allowed may (t ∷ ts) e =
-    cond_both (may t.source t.target t.perm) (denied may ts) (Some (Refused (denial_of N5 (Policy t.source t.target t.perm)))) (λ o. o ≡ None → IsAllowed may (t ∷ ts)) (λ is f. (is, allowed may ts f)) (λ is f. cc) e
+allowed may (t ∷ ts) e = grind (arith, allowed may ts)
 
 via-may : (k : CallerKnowledge) (pair : DomId × DomId) (dom : DomId) → via_judged k pair dom ≡ None → IsAllowed k.may (rights_to_copy k pair.0 pair.1)
 via-may k pair dom e = grind arith

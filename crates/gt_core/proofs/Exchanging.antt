@@ -1,5 +1,5 @@
 -- An exchange that was taken keeps what a core stands for.
-use Rattle.gt_core.proofs.Words.{◌≡◌, ◌≢◌, ◌<◌, ◌≤◌, ◌+◌, ℕ, refl, Bool, true, List, ◌∷◌, length, Option, Some, None, cond, sym, ap, ◌∙◌, arith, subst, get_or, eqb-true, none-some, slice_get-get_or, option_map, ◌==◌, All, slice_get, fun_ext, DomId, GrantRef, TABLE_ENTRIES, LAST_GENERATION, Entry, Invalid, Change, Publish, FirstHalf, SecondHalf, IsEntry, Exchange, Taken, Own, Open, Item, Answer, entry_in, generation_in, control_with, row_entry, row_generation, changed_at, State, state_of, changed_in, with_own, own_after, History, Setting, Pin, live, entry_at, raises_at, raise_of, generation_at, reads_at, writes_at, open_call, change_of, entry_after, raise_after, one_if_mapped, IsSafeChange, IsSpelled, IsLawful, FitsTable, FitsWord, Agrees, DomainsStand, CallAgrees, GivenAgrees, append-nil, gather, by_mapping, changed_entry, MAX_PINS}
+use Rattle.gt_core.proofs.Words.{◌≡◌, ◌≢◌, ◌<◌, ◌≤◌, ◌+◌, ℕ, refl, Bool, true, List, ◌∷◌, length, Option, Some, None, cond, sym, ap, ◌∙◌, arith, subst, get_or, eqb-true, none-some, slice_get-get_or, option_map, ◌==◌, All, slice_get, fun_ext, DomId, GrantRef, TABLE_ENTRIES, LAST_GENERATION, Entry, Invalid, Change, Publish, IsEntry, Exchange, Taken, Own, Open, Item, Answer, entry_in, generation_in, row_entry, row_generation, changed_at, State, state_of, changed_in, with_own, own_after, History, Setting, Pin, live, entry_at, raises_at, raise_of, generation_at, open_call, change_of, entry_after, raise_after, one_if_mapped, IsSafeChange, IsLawful, FitsTable, Agrees, DomainsStand, CallAgrees, GivenAgrees, append-nil, gather, by_mapping}
 use Rattle.gt_core.proofs.{Others.unstored, Others.answered-stays, Others.kept-table, Keeping.stepped, Keeping.SlotsAgree, Keeping.same-number, Keeping.counts-fit, Rows.get-changed, Rows.length-changed, Mappings.mappings-same, Keeping.slots-kept, Keeping.Facts, Keeping.facts_at, Keeping.Fits, Keeping.facts-fit, Keeping.each-stays, Keeping.all-stand, Keeping.own-changed}
 
 -- each number of the entry that is published fits its type
@@ -43,29 +43,10 @@ own-changed-at : (s : Setting) (h : History) (x : State) (gref : GrantRef) (look
     → (entry_in (changed_at gref.0 (own_after change) x.own) r ≡ entry_at (exchanged x.id gref looked change answer ∷ h) x.id.0 r)
     × (generation_in s.first_generation (changed_at gref.0 (own_after change) x.own) r ≡ generation_at s (exchanged x.id gref looked change answer ∷ h) x.id.0 r)
 own-changed-at s h x gref looked change answer r within room a = let rows = a.rows in let inside : gref.0 < length x.own = omega arith in
-    let i = exchanged x.id gref looked change answer in let hit : Option Change = cond (gref.0 == r) (Some change) None in
-    let own : change_of i x.id.0 r ≡ hit = ap (λ (b : Bool). cond b hit None) (same-number x.id.0) in
-    let now = get-changed x.own gref.0 r (own_after change) in
-    let row = row-changed (gref.0 == r) (slice_get x.own r) change s.first_generation (raises_at h x.id.0 r) (λ b. (
-      row-some x.own gref.0 r no_row inside b,
-      subst (λ (n : ℕ). s.first_generation + raises_at h x.id.0 n + raise_of change ≤ LAST_GENERATION) (eqb-true gref.0 r b) room,
-    )) (ap (λ (f : ℕ → ℕ). f r) a.generations) in (
-      ap row_entry now ∙ row.0 ∙ ap (entry_after hit) (ap (λ (f : ℕ → Entry). f r) a.entries) ∙ ap (λ (c : Option Change). entry_after c (entry_at h x.id.0 r)) (sym own) ∙ sym (exchanged-entry h i x.id.0 r),
-      ap (row_generation s.first_generation) now ∙ row.1 ∙ ap (λ (c : Option Change). s.first_generation + (raises_at h x.id.0 r + raise_after c)) (sym own)
-          ∙ ap (λ (n : ℕ). s.first_generation + n) (sym (exchanged-raises h i x.id.0 r)),
-    )
+    let i = exchanged x.id gref looked change answer in let e = ap (λ (f : ℕ → Entry). f r) a.entries in let g = ap (λ (f : ℕ → ℕ). f r) a.generations in
+    grind (arith, get-changed x.own gref.0 r (own_after change), row-some x.own gref.0 r no_row inside, eqb-true gref.0 r, exchanged-entry h i x.id.0 r, exchanged-raises h i x.id.0 r, same-number x.id.0, row-changed)
 
 -- the entries: the one that the exchange changes, and the others
-
-word-fits : (e : Entry) (g r w : ℕ) → IsEntry e → (r < MAX_PINS + 1) × (w < MAX_PINS + 1) → g ≤ LAST_GENERATION → FitsWord (control_with e g r w)
-word-fits e g r w a c below = grind arith
-
--- what is so of an entry by its pins and body words
-abbrev EntryFits : Facts → Entry → Type 0
-EntryFits f e = IsEntry e × (e ≡ Invalid → (f.reads ≡ 0) × (f.writes ≡ 0)) × (e ≢ Invalid → IsSpelled e f.first f.second)
-
-changed-fits : (s : Setting) (h : History) (t r : ℕ) (change : Change) → Fits r (facts_at s h t r) → IsSafeChange h t r change → FitsChange change → EntryFits (facts_at s h t r) (changed_entry change (entry_at h t r))
-changed-fits s h t r change f safe fits = grind arith
 
 -- the facts of an entry after a change
 abbrev facts_after : Setting → History → ℕ → ℕ → Option Change → Facts
@@ -73,23 +54,11 @@ facts_after s h t r c = record (facts_at s h t r) { entry = entry_after c (entry
 
 exchanged-facts : (s : Setting) (h : History) (d : DomId) (gref : GrantRef) (looked : ℕ) (change : Change) (answer : Option Answer) (t r : ℕ)
     → facts_at s (exchanged d gref looked change answer ∷ h) t r ≡ facts_after s h t r (change_of (exchanged d gref looked change answer) t r)
-exchanged-facts s h d gref looked change answer t r = let i = exchanged d gref looked change answer in
-    let e = exchanged-entry h i t r in let n = exchanged-raises h i t r in let l = exchanged-live h d gref looked change answer in
-    let a = unstored i h t r FirstHalf refl in let b = unstored i h t r SecondHalf refl in cc
+exchanged-facts s h d gref looked change answer t r = grind (arith, exchanged-entry, exchanged-raises, exchanged-live, unstored)
 
 facts-fit-after : (s : Setting) (h : History) (xs : List State) (d t g r : ℕ) (change : Change) → DomainsStand s h xs → g < TABLE_ENTRIES → IsSafeChange h d g change → FitsChange change → generation_at s h d g + raise_of change ≤ LAST_GENERATION
     → Fits r (facts_after s h t r (cond (d == t) (cond (g == r) (Some change) None) None))
-facts-fit-after s h xs d t g r change st within safe fits room = by (d == t) (g == r) refl refl where
-  by : (b c : Bool) → (d == t) ≡ b → (g == r) ≡ c → Fits r (facts_after s h t r (cond b (cond c (Some change) None) None))
-  by true true e f = let new = changed-fits s h d g change (facts-fit s h xs d g st) safe fits in
-      subst (λ (n : ℕ). Fits r (facts_after s h n r (Some change))) (eqb-true d t e) (subst (λ (n : ℕ). Fits n (facts_after s h d n (Some change))) (eqb-true g r f) (record {
-        word = λ below. word-fits _ _ (reads_at h d g) (writes_at h d g) new.0 (counts-fit s h d g (st.words d g within)) (omega arith);
-        entry = new.0;
-        free = new.1;
-        spelled = new.2;
-      }))
-  by b c e f = let same : generation_at s h t r ≡ s.first_generation + (raises_at h t r + 0) = omega arith in
-      subst (λ (n : ℕ). Fits r (record (facts_at s h t r) { generation = n })) same (facts-fit s h xs t r st)
+facts-fit-after s h xs d t g r change st within safe fits room = grind (arith, facts-fit, eqb-true, counts-fit)
 
 -- an owner's change that is safe, and has room, keeps what the core stands for
 pub exchange-stands : (s : Setting) (h : History) (xs ys : List State) (x : State) (gref : GrantRef) (looked : ℕ) (change : Change) (answer : Option Answer) (o : Option Open) → DomainsStand s h xs

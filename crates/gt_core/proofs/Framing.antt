@@ -1,5 +1,5 @@
 -- The frames of a core: what a step of a call writes to them is by right, and leaves them as the history tells.
-use Rattle.gt_core.proofs.Words.{◌≡◌, ◌≤◌, ◌<◌, ◌+◌, ◌-◌, inl, inr, ℕ, refl, Bool, true, false, List, [], ◌∷◌, ◌++◌, replicate, length, take, drop, Option, Some, None, cond, sym, ap, ◌∙◌, arith, subst, eqb-true, eq-eqb, and_parts, and_from, append-nil, map-append, length-append, length-drop, length-take-le, length-replicate, ◌==◌, ◌&&◌, nat_lt, nat_le, is_some, IsTrue, DomId, Write, ForMap, DomainConfig, FRAME_SIZE, Entry, frame_of, permits, Handle, value_of, Held, Route, Direct, End, Request, Asked, Store, Poke, Place, Seen, Step, ReadBytes, WriteBytes, CopyBytes, Makes, Call, CallerKnowledge, begun, frames_of, is_dest_granted, dest_pair, opens, Rests, RestsOnRequest, RestsOnWays, IsReached, pins_at, Patch, written, bytes_at, frame_counts, FrameSet, frame_at, has_range, all_zeros, AreKept, Open, Item, Answer, Begun, State, IsLoadOf, IsReadable, IsAdmitted, AccessedBy, History, Setting, patches_at, patches_by, contents_at, written_by, Writing, given_in, open_call, Underway, values, known_at, IsInFrame, CopyIsJustified, grown, DomainsStand, FramesStand, Agrees, OpenAgrees, FitsGiven, begun_element, le-leb, leb-true, unwrap_or, overlay, replay, zeros, FrameState, patch_of, patches, permits_writing, suffices, is_rightful, all_rightful, pool_number, frames_of_all, is_name, has_frame, admits, WritesTo, journal_in, name_of, ground_of, route_by, route_of, IsWritOf, FrameName, Writ, WriteRecord, BegunBusy, BegunNoDomain, cond_both}
+use Rattle.gt_core.proofs.Words.{◌≡◌, ◌≤◌, ◌<◌, ◌+◌, ◌-◌, inl, inr, ℕ, refl, Bool, true, false, List, [], ◌∷◌, ◌++◌, replicate, length, take, drop, Option, Some, None, cond, sym, ap, ◌∙◌, arith, subst, eqb-true, eq-eqb, and_parts, and_from, append-nil, map-append, length-append, length-drop, length-take-le, length-replicate, ◌==◌, ◌&&◌, nat_lt, is_some, IsTrue, DomId, Write, ForMap, DomainConfig, FRAME_SIZE, Entry, frame_of, permits, Handle, value_of, Held, Route, Direct, End, Request, Asked, Store, Poke, Place, Seen, Step, ReadBytes, WriteBytes, CopyBytes, Makes, Call, CallerKnowledge, begun, frames_of, is_dest_granted, dest_pair, opens, Rests, RestsOnRequest, RestsOnWays, IsReached, pins_at, Patch, written, bytes_at, frame_counts, FrameSet, frame_at, has_range, all_zeros, AreKept, Open, Item, Answer, Begun, State, IsLoadOf, IsReadable, IsAdmitted, AccessedBy, History, Setting, patches_at, patches_by, contents_at, written_by, Writing, given_in, open_call, Underway, values, known_at, IsInFrame, CopyIsJustified, grown, DomainsStand, FramesStand, Agrees, OpenAgrees, FitsGiven, begun_element, le-leb, unwrap_or, overlay, replay, zeros, FrameState, patch_of, patches, permits_writing, suffices, all_rightful, pool_number, frames_of_all, is_name, has_frame, admits, WritesTo, journal_in, name_of, ground_of, route_by, route_of, IsWritOf, FrameName, Writ, WriteRecord, BegunBusy, BegunNoDomain, cond_both}
 use Rattle.gt_calls.specs.{declared.held.Route.TheVariants.Own, Path.place_of}
 use Rattle.std.specs.Cmp.{both_ways}
 use Rattle.gt_core.proofs.{Starting.get-replicate, Keeping.stepped, Phases.call-is, Phases.none-of, Accessing.permits-as, Accessing.mapping-pin, Accessing.same-held, Accessing.read-justified, Accessing.copy-justified}
@@ -110,10 +110,7 @@ length-overlay xs off ys within = grind (arith, length-take-le, length-append, l
 
 length-replay : (owner : DomId) (number : ℕ) (rs : List WriteRecord) (xs : List ℕ) → length xs ≡ FRAME_SIZE → IsTrue (all_rightful owner number rs) → length (replay xs (patches rs)) ≡ FRAME_SIZE
 length-replay owner number [] xs full a = full
-length-replay owner number (r ∷ rs) xs full a =
-    let parts = and_parts (is_rightful owner number r) (all_rightful owner number rs) a in
-    let within : r.off + length r.bytes ≤ FRAME_SIZE = leb-true (r.off + length r.bytes) FRAME_SIZE (and_parts (nat_le (r.off + length r.bytes) FRAME_SIZE) _ parts.0).0 in
-    length-replay owner number rs (overlay xs r.off r.bytes) (length-overlay xs r.off r.bytes (subst (λ (n : ℕ). r.off + length r.bytes ≤ n) (sym full) within) ∙ full) parts.1
+length-replay owner number (r ∷ rs) xs full a = grind (arith, length-replay owner number rs (overlay xs r.off r.bytes), length-overlay xs r.off r.bytes, and_parts)
 
 length-zeros : length zeros ≡ FRAME_SIZE
 unfolding zeros

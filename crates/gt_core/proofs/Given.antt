@@ -1,5 +1,5 @@
 -- The handles that domains were answered: each serial once, and each mapping under one of them.
-use Rattle.gt_core.proofs.Words.{◌≡◌, ◌≤◌, ◌<◌, ◌+◌, inl, inr, ℕ, refl, Bool, true, false, List, [], ◌∷◌, Option, Some, None, cond, sym, ap, ◌∙◌, subst, arith, ◌==◌, ◌&&◌, eqb-true, eq-eqb, DomId, Denial, Handle, END_OF_SERIALS, Asked, Holder, ByMapping, ByLeg, Held, Seen, Step, Unpin, Makes, Verdict, asked, CallerKnowledge, begun, Continuation, after_beginning, steps_of, IsMapping, Answer, Happened, Began, Stepped, Item, History, Setting, Underway, Pin, live, same_handle, pinned_by, unpinned_by, open_call, underway_after, underway_with, maps_answered_at, one_if_mapped, known_at, values, IsRight, StepsRightIn, AnsweredBy, bare_handle, IsGiven, IsKnown, AsksKnown, HappensKnown, IsRun, cond_both, All-nil, All}
+use Rattle.gt_core.proofs.Words.{◌≡◌, ◌≤◌, ◌<◌, ◌+◌, inl, inr, ℕ, refl, Bool, true, false, List, [], ◌∷◌, Option, Some, None, cond, sym, ap, ◌∙◌, subst, arith, ◌==◌, ◌&&◌, eqb-true, eq-eqb, DomId, Denial, Handle, END_OF_SERIALS, Asked, Holder, ByMapping, ByLeg, Held, Seen, Step, Unpin, Makes, Verdict, asked, CallerKnowledge, begun, Continuation, after_beginning, steps_of, IsMapping, Answer, Happened, Began, Stepped, Item, History, Setting, Underway, Pin, live, same_handle, pinned_by, unpinned_by, open_call, underway_after, maps_answered_at, one_if_mapped, known_at, values, IsRight, StepsRightIn, AnsweredBy, bare_handle, IsGiven, IsKnown, AsksKnown, HappensKnown, IsRun, cond_both, All-nil, All}
 use Rattle.std.proofs.lemmas.List.Elements.{All-append, All-weaker}
 use Rattle.gt_core.proofs.{Others.all-without}
 use Rattle.gt_calls.specs.declared.request.Asked.TheVariants as requests
@@ -121,12 +121,9 @@ pins-given (i ∷ h) = let P : Pin → Type 0 = λ q. HeldGiven (i ∷ h) q.acto
 
 -- what open calls ask
 
-known-later : (i : Item) (h : History) (d : ℕ) (handle : Handle) → IsKnown h d handle → IsKnown (i ∷ h) d handle
-unfolding IsGiven
-known-later i h d handle g = grind arith
-
 asks-later : (i : Item) (h : History) (d : ℕ) (r : Asked) → AsksKnown h d r → AsksKnown (i ∷ h) d r
-asks-later i h d r k = grind (arith, known-later)
+unfolding IsGiven
+asks-later i h d r k = grind arith
 
 abbrev pub CallKnown : History → ℕ → Option Underway → Type 0
 CallKnown h d None = Unit {0}
@@ -135,11 +132,8 @@ CallKnown h d (Some c) = AsksKnown h d c.request
 call-later : (i : Item) (h : History) (d : ℕ) (c : Option Underway) → CallKnown h d c → CallKnown (i ∷ h) d c
 call-later i h d c k = grind (arith, asks-later)
 
-with-known : (i : Item) (h : History) (c : Option Underway) → HappensKnown h i → CallKnown h i.actor.0 c → CallKnown (i ∷ h) i.actor.0 (underway_with i.happened c)
-with-known i h c = grind (arith, asks-later)
-
 after-known : (i : Item) (h : History) (c : Option Underway) → HappensKnown h i → CallKnown h i.actor.0 c → CallKnown (i ∷ h) i.actor.0 (underway_after i c)
-after-known i h c asks k = grind (arith, with-known)
+after-known i h c asks k = grind (arith, asks-later)
 
 pub open-known : (s : Setting) (h : History) (d : ℕ) → IsRun s h → CallKnown h d (open_call h d)
 unfolding IsRun open_call

@@ -1,5 +1,5 @@
 -- What stays of a core's agreement with a history after one item more.
-use Rattle.gt_core.proofs.Words.{◌≡◌, ◌≢◌, ◌<◌, ◌+◌, ℕ, refl, Bool, true, false, List, ◌∷◌, length, Option, Some, None, cond, sym, ap, ◌∙◌, subst, reverse, eqb-true, eq-eqb, none-some, same_Some, domain_of, ◌==◌, ◌&&◌, All, count_by, slice_get, option_map, fun_ext, DomId, Read, Write, TABLE_ENTRIES, Entry, Invalid, Header, Half, FirstHalf, SecondHalf, IsEntry, HandleMap, Held, CallerKnowledge, control_with, knowledge_of, StandsAt, pins_at, GoesOn, Rests, Makes, PinCounts, Open, Item, Answer, Stepped, Step, Seen, changed_at, State, state_of, changed_in, History, Setting, Pin, live, entry_at, generation_at, body_at, table_at, reads_at, writes_at, control_at, known_at, mappings_at, maps_answered_at, is_pin_on, open_call, underway_after, Underway, values, change_at, stored_at, header_stored, IsSpelled, stood, first_of_item, IsLawful, FitsTable, FitsWord, SlotAgrees, MappingsAgree, Agrees, StateAgrees, DomainsStand, CallAgrees, OpenAgrees, GivenAgrees, Dir, gather, by_mapping, by_leg, slot_after, with_slot, stood_with, MAX_PINS, cond_both, CountsChange, arith}
+use Rattle.gt_core.proofs.Words.{◌≡◌, ◌≢◌, ◌<◌, ◌+◌, ℕ, refl, Bool, true, false, List, ◌∷◌, length, Option, Some, None, cond, sym, ap, ◌∙◌, subst, eqb-true, eq-eqb, none-some, domain_of, ◌==◌, ◌&&◌, All, count_by, slice_get, option_map, fun_ext, DomId, Read, Write, TABLE_ENTRIES, Entry, Invalid, Header, Half, FirstHalf, SecondHalf, IsEntry, HandleMap, Held, control_with, knowledge_of, PinCounts, Open, Item, Answer, Stepped, Step, Seen, changed_at, State, state_of, changed_in, History, Setting, live, entry_at, generation_at, body_at, table_at, reads_at, writes_at, control_at, known_at, mappings_at, maps_answered_at, is_pin_on, open_call, underway_after, Underway, change_at, stored_at, header_stored, IsSpelled, stood, first_of_item, IsLawful, FitsTable, FitsWord, SlotAgrees, MappingsAgree, Agrees, StateAgrees, DomainsStand, CallAgrees, GivenAgrees, Dir, by_mapping, slot_after, with_slot, stood_with, MAX_PINS, cond_both, CountsChange, arith}
 use Rattle.gt_core.proofs.{Rows.get-changed, Rows.length-changed, Rows.state-changed, Mappings.mappings-same, Others.pulled, Others.unstored, Others.KeepsKnown, Others.KeepsAll, Others.cond-same, Others.kept-table, Others.kept-live, Others.answered-stays, Others.kept-entry, Others.kept-raises, Others.other-entry, Others.other-body, Others.other-maps, Others.other-raises, Others.other-pins, Others.other-table, Others.other-known, Placing.place-stays}
 
 -- what a domain itself knows is what the core keeps of it
@@ -33,28 +33,8 @@ pub given-none : (h : History) (d : ℕ) (given : List ℕ) → open_call h d �
 given-none h d given none = λ c call. absurd (none-some c (sym none ∙ call))
 
 -- the call of another domain stands where it stood
-open-stays : (s : Setting) (i : Item) (h : History) (d : DomId) (o : Open) (c : Underway) → (i.actor.0 == d.0) ≡ false → OpenAgrees s h d o c → OpenAgrees s (i ∷ h) d o c
-open-stays s i h d o c apart a = record {
-  caller = a.caller;
-  asks = a.asks;
-  phase = a.phase;
-  here = a.here;
-  at = subst (λ (z : CallerKnowledge). StandsAt z d c.request (values c) a.phase) (sym (other-known s i h d apart)) a.at;
-  acts = a.acts;
-  follows = subst (λ (z : CallerKnowledge). GoesOn z d c.request (values c) (Makes o.step)) (sym (other-known s i h d apart)) a.follows;
-  rests = subst (λ (z : CallerKnowledge). Rests z d c.request (pins_at a.phase) (values c) (Makes o.step)) (sym (other-known s i h d apart)) a.rests;
-  place = place-stays s i h d c.request (reverse c.steps) a.phase (λ r which. other-body i h d.0 r which apart) a.place;
-  fair = stood-other s i h d.0 apart ∙ a.fair;
-  fits = a.fits;
-  clean = a.clean;
-  held = other-pins by_leg i h d.0 apart ∙ a.held;
-  few = a.few;
-}
-
 call-stays : (s : Setting) (i : Item) (h : History) (d : DomId) (o : Option Open) (c : Option Underway) → (i.actor.0 == d.0) ≡ false → CallAgrees s h d o c → CallAgrees s (i ∷ h) d o c
-call-stays s i h d None None apart a = other-pins by_leg i h d.0 apart ∙ a
-call-stays s i h d (Some o) (Some c) apart a = open-stays s i h d o c apart a
-call-stays s i h d o c apart a = a
+call-stays s i h d o c apart a = grind (arith, other-pins, other-known, place-stays, other-body, stood-other)
 
 -- slots
 
@@ -68,15 +48,7 @@ Moves h new t r change = (q k : ℕ) (old : PinCounts) → SlotAgrees h q k old 
 -- the slots of domain q, after the change of one slot of domain t
 slots-agree : (h new : History) (t r q : ℕ) (change : CountsChange) (slots : List PinCounts) → Moves h new t r change → SlotsAgree h q slots
     → SlotsAgree new q (cond (t == q) (changed_at r (slot_after change) slots) slots)
-slots-agree h new t r q change slots moves was k slot e = by (t == q) (r == k) (slice_get slots k) (was k) (moves q k)
-    (ap (λ (o : Option PinCounts). cond (t == q) o (slice_get slots k)) (sym (get-changed slots r k (slot_after change)))
-    ∙ sym (pulled (λ (l : List PinCounts). slice_get l k) (t == q) (changed_at r (slot_after change) slots) slots) ∙ e)
-  where
-    by : (b c : Bool) (o : Option PinCounts) → ((old : PinCounts) → o ≡ Some old → SlotAgrees h q k old) → ((old : PinCounts) → SlotAgrees h q k old → SlotAgrees new q k (cond (b && c) (slot_after change old) old))
-        → cond b (cond c (option_map (slot_after change) o) o) o ≡ Some slot → SlotAgrees new q k slot
-    by true true None was moves e = absurd (none-some slot e)
-    by true true (Some old) was moves e = subst (SlotAgrees new q k) (same_Some _ _ e) (moves old (was old refl))
-    by b c o was moves e = moves slot (was slot e)
+slots-agree h new t r q change slots moves was k slot e = grind (arith, get-changed slots r k (slot_after change), moves q k, was k)
 
 length-slots : (r : ℕ) (f : PinCounts → PinCounts) (slots : List PinCounts) (b : Bool) → length slots ≡ TABLE_ENTRIES → length (cond b (changed_at r f slots) slots) ≡ TABLE_ENTRIES
 length-slots r f slots b e = cond_both b (changed_at r f slots) slots (λ l. length l ≡ TABLE_ENTRIES) (λ is. length-changed slots r f ∙ e) (λ is. e)
@@ -232,22 +204,11 @@ keeps-stands s i h xs zs q st each lawful counts free = all-stand s (i ∷ h) zs
 -- for one that changes no entry and no pin, where the tables fit, and the words of valid entries stay
 pub kept-stands : (s : Setting) (i : Item) (h : History) (xs zs : List State) → KeepsKnown i → DomainsStand s h xs → ((dom : DomId) → StateAgrees s (i ∷ h) dom (state_of zs dom.0)) → ((dom : DomId) → FitsTable (table_at s (i ∷ h) dom))
     → ((t r : ℕ) → entry_at h t r ≢ Invalid → (which : Half) → body_at (i ∷ h) t r which ≡ body_at h t r which) → DomainsStand s (i ∷ h) zs
-kept-stands s i h xs zs k st each tables bodies = all-stand s (i ∷ h) zs each tables (subst (All (IsLawful s)) (sym (kept-live i h k)) st.lawful)
-    (λ t r. let f = facts-fit s h xs t r st in subst (Fits r) (sym (same t r)) (record {
-      word = f.word;
-      entry = f.entry;
-      free = f.free;
-      spelled = λ valid. subst (λ (n : ℕ). IsSpelled (entry_at h t r) n (body_at (i ∷ h) t r SecondHalf)) (sym (bodies t r valid FirstHalf))
-          (subst (IsSpelled (entry_at h t r) (body_at h t r FirstHalf)) (sym (bodies t r valid SecondHalf)) (f.spelled valid));
-    }))
-  where
-    same : (t r : ℕ) → facts_at s (i ∷ h) t r ≡ record (facts_at s h t r) { first = body_at (i ∷ h) t r FirstHalf; second = body_at (i ∷ h) t r SecondHalf }
-    same t r = let e = kept-entry i h t r k.changes in let n = kept-raises i h t r k.changes in let l = kept-live i h k in cc
+kept-stands s i h xs zs k st each tables bodies = grind (arith, all-stand, kept-live, facts-fit, kept-entry, kept-raises)
 
 -- the mappings of a domain stay, where no pin is taken or given back
 pub mappings-stay : (i : Item) (h : History) (q : ℕ) (kept : HandleMap Held) → KeepsKnown i → MappingsAgree kept (mappings_at h q) (maps_answered_at h q) → MappingsAgree kept (mappings_at (i ∷ h) q) (maps_answered_at (i ∷ h) q)
-mappings-stay i h q kept k a =
-    mappings-same kept _ _ _ _ (ap (λ (ps : List Pin). gather by_mapping q ps) (sym (kept-live i h k))) (sym (answered-stays h i q k.maps)) a
+mappings-stay i h q kept k a = grind (arith, mappings-same, kept-live, answered-stays)
 
 -- the domains stand for one item more that leaves all words and pins as they are
 pub quiet-stands : (s : Setting) (i : Item) (h : History) (xs zs : List State) (x : State) (o : Option Open) (given : List ℕ) → KeepsEntries i → KeepsKnown i → i.actor ≡ x.id → DomainsStand s h xs
@@ -272,10 +233,7 @@ becomes-changed xs ys x new t g keeps was = λ q. state-changed ys t q g keeps �
 -- and after one of the actor's own state
 pub own-changed : (xs ys : List State) (x new : State) (g : State → State) → ((y : State) → (g y).id ≡ y.id) → ((q : ℕ) → state_of ys q ≡ cond (x.id.0 == q) (Some new) (state_of xs q))
     → (q : ℕ) → state_of (changed_in x.id.0 g ys) q ≡ cond (x.id.0 == q) (Some (g new)) (state_of xs q)
-own-changed xs ys x new g keeps was q = becomes-changed xs ys x new x.id.0 g keeps was q ∙ by (x.id.0 == q) (state_of xs q) where
-  by : (b : Bool) (o : Option State) → after_change b g (cond b (Some new) o) ≡ cond b (Some (g new)) o
-  by true o = refl
-  by false o = refl
+own-changed xs ys x new g keeps was q = grind (arith, becomes-changed xs ys x new x.id.0 g keeps was q)
 
 -- each domain agrees after an item that changes the slot of one entry
 pub slots-stand : (s : Setting) (i : Item) (h : History) (xs zs : List State) (x : State) (kept : HandleMap Held) (o : Option Open) (t r : ℕ) (change : CountsChange) → KeepsAll i → header_stored i.happened ≡ None → i.actor ≡ x.id

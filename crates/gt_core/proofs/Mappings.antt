@@ -1,5 +1,5 @@
 -- The handles of a domain, and its mappings as the history has them.
-use Rattle.gt_core.proofs.Words.{◌≡◌, ◌+◌, ℕ, zero, suc, refl, Bool, true, false, List, [], ◌∷◌, ◌++◌, length, Option, Some, None, cond, sym, ap, ◌∙◌, arith, subst, ◌==◌, fun_ext, eqb-true, true≢false, none-some, length-append, sum_by-cons, Handle, HandleMap, value_of, count_of, Held, mapping_of, same_handle, Adds, taken, MappingsAgree, slice_index_or, slice_set, under, AreApart, Slot}
+use Rattle.gt_core.proofs.Words.{◌≡◌, ◌+◌, ℕ, zero, suc, refl, Bool, true, false, List, [], ◌∷◌, ◌++◌, length, Option, Some, None, cond, sym, ap, ◌∙◌, arith, subst, ◌==◌, fun_ext, eqb-true, true≢false, none-some, length-append, sum_by-cons, Handle, HandleMap, value_of, count_of, Held, mapping_of, same_handle, Adds, taken, MappingsAgree, slice_index_or, slice_set, AreApart, Slot}
 use Rattle.std.{proofs.Common.is_some, proofs.Common.count_by, specs.Cmp.both_ways}
 use Rattle.gt_core.proofs.{Others.cond-same, Others.cond-apart}
 
@@ -77,11 +77,8 @@ set-none (x ∷ xs) zero (suc at) = grind arith
 set-none (x ∷ xs) (suc key) zero = grind arith
 set-none (x ∷ xs) (suc key) (suc at) = grind (arith, set-none xs key at)
 
-under-other : (o : Option (Slot Held)) (other serial : ℕ) (m : Held) → (other == serial) ≡ false → under serial o ≡ Some m → under other o ≡ None
-under-other o other serial m apart e = grind arith
-
 taken-of : (kept : HandleMap Held) (handle other : Handle) (m : Held) → value_of kept handle ≡ Some m → value_of (taken handle kept) other ≡ cond (same_handle other handle) None (value_of kept other)
-taken-of kept handle other m has = grind (arith, set-none, eqb-true, under-other)
+taken-of kept handle other m has = grind (arith, set-none, eqb-true)
 
 count-set : (slots : List (Option (Slot Held))) (key : ℕ) (slot : Slot Held) → slice_index_or slots key None ≡ Some slot → count_by is_some (slice_set slots key None) + 1 ≡ count_by is_some slots
 count-set (Some x ∷ os) zero slot e =

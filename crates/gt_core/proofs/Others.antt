@@ -1,5 +1,5 @@
 -- What an item leaves of the entries, words, pins and mappings, and of the other domains.
-use Rattle.gt_core.proofs.Words.{◌≡◌, ◌+◌, ℕ, refl, Bool, true, false, List, [], ◌∷◌, ◌++◌, Option, None, cond, ap, ◌∙◌, arith, ◌==◌, DomId, Header, Change, Item, History, Setting, entry_at, entry_after, raises_at, raise_after, live, Pin, pinned_by, unpinned_by, change_at, change_of, maps_answered_at, one_if_mapped, known_at, mappings_at, gather, by_mapping, legs_at, by_leg, header_stored, header_or, table_at, append-nil, Half, or_else, stored_at, body_at, sym, ◌&&◌, Holder, Unpin, Held, Stepped, Answer, without, is_holder, cond_both, Some, Handle, ByMapping, ByLeg, Happened, append_assoc, All-cons, All-head, All-tail, All}
+use Rattle.gt_core.proofs.Words.{◌≡◌, ◌+◌, ℕ, refl, Bool, true, false, List, [], ◌∷◌, ◌++◌, Option, None, cond, ap, ◌∙◌, arith, ◌==◌, DomId, Header, Change, Item, History, Setting, entry_at, entry_after, raises_at, raise_after, live, Pin, pinned_by, unpinned_by, change_at, change_of, maps_answered_at, one_if_mapped, known_at, mappings_at, gather, by_mapping, legs_at, by_leg, header_stored, header_or, table_at, append-nil, Half, or_else, stored_at, body_at, ◌&&◌, Holder, Held, without, is_holder, cond_both, Some, Handle, ByMapping, ByLeg, append_assoc, All-cons, All-head, All-tail, All}
 
 -- the item changes no entry, pin or mapping
 pub record KeepsKnown (i : Item) : Type 0 where
@@ -51,9 +51,7 @@ pub known-as : (s : Setting) (h new : History) (d : DomId) → ((r : ℕ) → en
 known-as s h new d entries raises table maps answered = grind arith
 
 pub kept-known : (s : Setting) (i : Item) (h : History) (d : DomId) → KeepsKnown i → header_stored i.happened ≡ None → known_at s (i ∷ h) d ≡ known_at s h d
-kept-known s i h d q e =
-    known-as s h (i ∷ h) d (λ r. kept-entry i h d.0 r q.changes) (λ r. kept-raises i h d.0 r q.changes) (kept-table s i h d e)
-    (ap (gather by_mapping d.0) (kept-live i h q)) (answered-stays h i d.0 q.maps)
+kept-known s i h d q e = grind (arith, known-as, kept-entry, kept-raises, kept-table, kept-live, answered-stays)
 
 -- the pins that a domain's call holds are the same
 pub kept-legs : (i : Item) (h : History) (d : ℕ) → KeepsKnown i → legs_at (i ∷ h) d ≡ legs_at h d
@@ -82,14 +80,7 @@ other-table s i h d apart = ap (λ (b : Bool). header_or (cond b (header_stored 
 pub gather-append : {A : Type 0} (give : Holder → Held → List A) (d : ℕ) (ps qs : List Pin) → gather give d (ps ++ qs) ≡ gather give d ps ++ gather give d qs
 unfolding gather
 gather-append give d [] qs = refl
-gather-append give d (p ∷ ps) qs =
-    ap (λ l. cond (p.actor == d) (give p.holder p.held) [] ++ l) (gather-append give d ps qs)
-    ∙ sym (append_assoc (cond (p.actor == d) (give p.holder p.held) []) (gather give d ps) (gather give d qs))
-
-pinned-apart : {A : Type 0} (give : Holder → Held → List A) (d : ℕ) (actor : DomId) (happened : Happened) (answer : Option Answer) (before : History) (pins : List Pin) → (actor.0 == d) ≡ false
-    → gather give d (pinned_by actor happened answer before pins) ≡ []
-unfolding gather
-pinned-apart give d actor happened answer before pins apart = grind arith
+gather-append give d (p ∷ ps) qs = grind (arith, gather-append give d ps qs, append_assoc)
 
 -- a pin that is given back, where it gave nothing to this domain
 pub without-kept : {A : Type 0} (give : Holder → Held → List A) (d actor : ℕ) (holder : Holder) (ps : List Pin)
@@ -105,25 +96,14 @@ all-without P d holder [] a = a
 all-without P d holder (p ∷ ps) a = cond_both ((p.actor == d) && is_holder p.holder holder) ps (p ∷ without d holder ps) (All P) (λ e. All-tail P p ps a)
     (λ e. All-cons P p (without d holder ps) (All-head P p ps a) (all-without P d holder ps (All-tail P p ps a)))
 
-unpinned-apart : {A : Type 0} (give : Holder → Held → List A) (d : ℕ) (actor : DomId) (happened : Happened) (ps : List Pin) → (actor.0 == d) ≡ false → gather give d (unpinned_by actor happened ps) ≡ gather give d ps
-unpinned-apart {A} give d actor (Stepped (Unpin p holder) seen) ps apart =
-    without-kept give d actor.0 holder ps (λ q own is. ap (λ (b : Bool). cond b (give q.holder q.held) []) (ap (λ (n : ℕ). n == d) own ∙ apart))
-unpinned-apart give d actor happened ps apart = refl
-
 -- no domain but the actor holds other pins than before
 pub other-pins : {A : Type 0} (give : Holder → Held → List A) (i : Item) (h : History) (d : ℕ) → (i.actor.0 == d) ≡ false → gather give d (live (i ∷ h)) ≡ gather give d (live h)
-unfolding live
-other-pins give i h d apart =
-    gather-append give d (unpinned_by i.actor i.happened (live h)) (pinned_by i.actor i.happened i.answer h (live h))
-    ∙ ap (λ l. gather give d (unpinned_by i.actor i.happened (live h)) ++ l) (pinned-apart give d i.actor i.happened i.answer h (live h) apart)
-    ∙ append-nil (gather give d (unpinned_by i.actor i.happened (live h)))
-    ∙ unpinned-apart give d i.actor i.happened (live h) apart
+unfolding gather live
+other-pins give i h d apart = grind (arith, gather-append, append-nil, without-kept)
 
 -- no domain but the actor knows another thing by itself
 pub other-known : (s : Setting) (i : Item) (h : History) (d : DomId) → (i.actor.0 == d.0) ≡ false → known_at s (i ∷ h) d ≡ known_at s h d
-other-known s i h d apart =
-    known-as s h (i ∷ h) d (λ r. other-entry i h d.0 r apart) (λ r. other-raises i h d.0 r apart) (other-table s i h d apart)
-    (other-pins by_mapping i h d.0 apart) (other-maps i h d.0 apart)
+other-known s i h d apart = grind (arith, known-as, other-entry, other-raises, other-table, other-pins, other-maps)
 
 -- a test above a function stands outside it too
 pub pulled : {A B : Type 0} (f : A → B) (b : Bool) (x y : A) → f (cond b x y) ≡ cond b (f x) (f y)

@@ -1,5 +1,5 @@
 -- A pin that was taken keeps what a core stands for.
-use Rattle.gt_core.proofs.Words.{◌≡◌, ◌≢◌, ◌<◌, ◌+◌, ℕ, refl, Bool, true, false, List, [], ◌∷◌, ◌++◌, length, Option, Some, cond, sym, ap, ◌∙◌, arith, subst, ◌==◌, ◌&&◌, All, count_by, All-push, append-nil, DomId, Dir, Read, Write, MAX_PINS, Invalid, Half, FirstHalf, SecondHalf, HandleMap, Handle, Held, Holder, ByLeg, PinStep, Taken, PinCounts, Open, Item, Answer, Mapped, State, state_of, changed_in, with_slot, slot_after, Adds, History, Setting, Pin, live, entry_at, body_at, reads_at, writes_at, mappings_at, maps_answered_at, legs_at, open_call, is_pin_on, same_dir, FitsWord, control_at, gather, by_mapping, by_leg, holder_after, one_if_mapped, IsLawful, SlotAgrees, Agrees, DomainsStand, CallAgrees, GivenAgrees, MappingsAgree, sum_by_push}
+use Rattle.gt_core.proofs.Words.{◌≡◌, ◌≢◌, ◌<◌, ◌+◌, ℕ, refl, Bool, true, List, [], ◌∷◌, ◌++◌, length, Option, Some, cond, sym, ap, ◌∙◌, arith, subst, ◌==◌, ◌&&◌, All, count_by, All-push, append-nil, DomId, Dir, Read, Write, MAX_PINS, Invalid, Half, FirstHalf, SecondHalf, HandleMap, Handle, Held, Holder, ByLeg, PinStep, Taken, PinCounts, Open, Item, Answer, Mapped, State, state_of, changed_in, with_slot, slot_after, Adds, History, Setting, Pin, live, entry_at, body_at, reads_at, writes_at, mappings_at, maps_answered_at, legs_at, open_call, is_pin_on, same_dir, FitsWord, control_at, gather, by_mapping, by_leg, holder_after, one_if_mapped, IsLawful, SlotAgrees, Agrees, DomainsStand, CallAgrees, GivenAgrees, MappingsAgree, sum_by_push}
 use Rattle.gt_core.{specs.declared.pin_counts.CountsChange.TheVariants.Pinned, proofs.Others.answered-stays, proofs.Others.gather-append, proofs.Keeping.stepped, proofs.Keeping.KeepsEntries, proofs.Keeping.same-body, proofs.Keeping.becomes-changed, proofs.Keeping.slots-stand, proofs.Keeping.keeps-stands, proofs.Keeping.same-number, proofs.Mappings.mappings-added, proofs.Mappings.mappings-same}
 
 abbrev pub pins_at : History → ℕ → ℕ → Dir → ℕ
@@ -34,14 +34,7 @@ at-place P p t r k a e = grind arith
 counted-up : (h new : History) (q r : ℕ) (dir : Dir) (b : Bool) (old : PinCounts) → SlotAgrees h q r old → ((which : Half) → body_at new q r which ≡ body_at h q r which)
     → ((k : Dir) → pins_at new q r k ≡ pins_at h q r k + cond (b && same_dir dir k) 1 0) → ((k : Dir) → (b && same_dir dir k) ≡ true → pins_at h q r k < MAX_PINS)
     → SlotAgrees new q r (cond b (slot_after (Pinned dir) old) old)
-counted-up h new q r dir b old a body now few = by dir b (now Read) (now Write) (few Read) (few Write) (a.first ∙ sym (body FirstHalf)) (a.second ∙ sym (body SecondHalf))
-  where
-    by : (z : Dir) (c : Bool) → pins_at new q r Read ≡ pins_at h q r Read + cond (c && same_dir z Read) 1 0 → pins_at new q r Write ≡ pins_at h q r Write + cond (c && same_dir z Write) 1 0
-        → ((c && same_dir z Read) ≡ true → pins_at h q r Read < MAX_PINS) → ((c && same_dir z Write) ≡ true → pins_at h q r Write < MAX_PINS)
-        → old.first ≡ body_at new q r FirstHalf → old.second ≡ body_at new q r SecondHalf → SlotAgrees new q r (cond c (slot_after (Pinned z) old) old)
-    by Read true n m f g x y = let below = f refl in record { reads = omega arith; writes = omega arith; first = x; second = y }
-    by Write true n m f g x y = let below = g refl in record { reads = omega arith; writes = omega arith; first = x; second = y }
-    by z false n m f g x y = record { reads = omega arith; writes = omega arith; first = x; second = y }
+counted-up h new q r dir b old a body now few = grind (arith, now Read, now Write, few Read, few Write, body FirstHalf, body SecondHalf)
 
 -- counts and words
 
@@ -65,10 +58,7 @@ pinned-live h d p answer = refl
 gathered : {A : Type 0} (give : Holder → Held → List A) (h : History) (d : DomId) (p : Held) (answer : Option Answer)
     → gather give d.0 (live (pins d p answer ∷ h)) ≡ gather give d.0 (live h) ++ give (holder_after answer (length (gather by_leg d.0 (live h)))) (record p { entry = entry_at h p.dom.0 p.gref.0 })
 unfolding gather
-gathered {A} give h d p answer = ap (gather give d.0) (pinned-live h d p answer) ∙ gather-append give d.0 (live h) (new_pin h d p answer ∷ []) ∙ ap (λ (l : List A). gather give d.0 (live h) ++ l) (one (new_pin h d p answer) (same-number d.0))
-  where
-    one : (q : Pin) → (q.actor == d.0) ≡ true → gather give d.0 (q ∷ []) ≡ give q.holder q.held
-    one q own = ap (λ (b : Bool). cond b (give q.holder q.held) [] ++ []) own ∙ append-nil (give q.holder q.held)
+gathered give h d p answer = grind (arith, pinned-live, gather-append, same-number, append-nil)
 
 -- a pin of a leg is its domain's last one, and no mapping
 pub leg-grows : (h : History) (d : DomId) (p : Held) (answer : Option Answer) → holder_after answer (length (legs_at h d.0)) ≡ ByLeg (length (legs_at h d.0))
@@ -76,8 +66,7 @@ pub leg-grows : (h : History) (d : DomId) (p : Held) (answer : Option Answer) �
 leg-grows h d p answer leg = gathered by_leg h d p answer ∙ ap (λ (x : Holder). legs_at h d.0 ++ by_leg x (record p { entry = entry_at h p.dom.0 p.gref.0 })) leg
 
 pub leg-maps : (h : History) (d : DomId) (p : Held) (answer : Option Answer) → holder_after answer (length (legs_at h d.0)) ≡ ByLeg (length (legs_at h d.0)) → mappings_at (pins d p answer ∷ h) d.0 ≡ mappings_at h d.0
-leg-maps h d p answer leg =
-    gathered by_mapping h d p answer ∙ ap (λ (x : Holder). mappings_at h d.0 ++ by_mapping x (record p { entry = entry_at h p.dom.0 p.gref.0 })) leg ∙ append-nil (mappings_at h d.0)
+leg-maps h d p answer leg = grind (arith, gathered, append-nil)
 
 pub map-legs : (h : History) (d : DomId) (p : Held) (handle : Handle) → legs_at (pins d p (Some (Mapped handle)) ∷ h) d.0 ≡ legs_at h d.0
 map-legs h d p handle = gathered by_leg h d p (Some (Mapped handle)) ∙ append-nil (legs_at h d.0)

@@ -22,29 +22,13 @@ Tells d holder p = p.actor ≡ d → is_holder (bare_holder p.holder) (bare_hold
 without-bare : (d : ℕ) (holder : Holder) (ps : List Pin) → All (Tells d holder) ps → without d (bare_holder holder) (bare_pins ps) ≡ bare_pins (without d holder ps)
 unfolding without
 without-bare d holder [] t = refl
-without-bare d holder (p ∷ ps) t = by (p.actor == d) refl (without-bare d holder ps (All-tail (Tells d holder) p ps t)) where
-  at : (b : Bool) → without d (bare_holder holder) (bare_pins ps) ≡ bare_pins (without d holder ps)
-      → cond b (bare_pins ps) (bare_pin p ∷ without d (bare_holder holder) (bare_pins ps)) ≡ bare_pins (cond b ps (p ∷ without d holder ps))
-  at true rest = refl
-  at false rest = ap (λ (l : List Pin). bare_pin p ∷ l) rest
-
-  by : (b : Bool) → (p.actor == d) ≡ b → without d (bare_holder holder) (bare_pins ps) ≡ bare_pins (without d holder ps)
-      → cond (b && is_holder (bare_holder p.holder) (bare_holder holder)) (bare_pins ps) (bare_pin p ∷ without d (bare_holder holder) (bare_pins ps)) ≡ bare_pins (cond (b && is_holder p.holder holder) ps (p ∷ without d holder ps))
-  by true e rest =
-      ap (λ (b : Bool). cond b (bare_pins ps) (bare_pin p ∷ without d (bare_holder holder) (bare_pins ps))) (All-head (Tells d holder) p ps t (eqb-true p.actor d e))
-      ∙ at (is_holder p.holder holder) rest
-  by false e rest = at false rest
+without-bare d holder (p ∷ ps) t = grind (arith, without-bare d holder ps (All-tail (Tells d holder) p ps t), All-tail, All-head, eqb-true)
 
 leg-tells : (d n : ℕ) (ps : List Pin) → All (Tells d (ByLeg n)) ps
 leg-tells d n ps = grind arith
 
 mapping-tells : (s : Setting) (h : History) (d : ℕ) (a : Handle) (ps : List Pin) → IsRun s h → IsKnown h d a → PinsGiven h ps → All (Tells d (ByMapping a)) ps
-mapping-tells s h d a ps run k g =
-    All-weaker (λ p. HeldGiven h p.actor p.holder) (Tells d (ByMapping a)) (λ p given own. by p.holder (subst (λ (n : ℕ). HeldGiven h n p.holder) own given)) ps g
-  where
-    by : (x : Holder) → HeldGiven h d x → is_holder (bare_holder x) (ByMapping (bare_handle a)) ≡ is_holder x (ByMapping a)
-    by (ByMapping b) given = known-tells s h d a b run given k
-    by (ByLeg m) given = refl
+mapping-tells s h d a ps run k g = grind (arith, All-weaker, known-tells)
 
 unpinned-bare : (s : Setting) (h : History) (d : DomId) (x : Happened) (ps : List Pin) → IsRun s h → ((p : Held) (a : Handle) (seen : Seen) → x ≡ Stepped (Unpin p (ByMapping a)) seen → IsKnown h d.0 a) → PinsGiven h ps
     → unpinned_by d (bare_happened x) (bare_pins ps) ≡ bare_pins (unpinned_by d x ps)
@@ -144,10 +128,7 @@ shown-alike s g h dom r alike =
 
 -- the entry of which a known handle is a mapping
 subject-bare : (s : Setting) (h : History) (dom : DomId) (a : Handle) → IsRun s h → IsKnown h dom.0 a → subject_at s (bare h) dom (bare_handle a) ≡ subject_at s h dom a
-subject-bare s h dom a run k =
-    ap (λ (o : Option Held). cond (is_some (domain_of s.domains dom)) (option_map place_of o) None) (mapping-bare s h dom.0 a run k)
+subject-bare s h dom a run k = grind (arith, mapping-bare)
 
 pub subject-alike : (s : Setting) (g h : History) (dom : DomId) (a b : Handle) → AreAlike s g h → bare_handle a ≡ bare_handle b → IsKnown g dom.0 a → IsKnown h dom.0 b → subject_at s g dom a ≡ subject_at s h dom b
-subject-alike s g h dom a b alike same j k = sym (subject-bare s g dom a alike.first j)
-    ∙ ap (λ (l : History). subject_at s l dom (bare_handle a)) (bare-same g h alike.same) ∙ ap (λ (x : Handle). subject_at s (bare h) dom x) same
-    ∙ subject-bare s h dom b alike.second k
+subject-alike s g h dom a b alike same j k = grind (arith, subject-bare, bare-same)

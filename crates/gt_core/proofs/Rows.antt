@@ -1,6 +1,5 @@
 -- A change of one element of a list; the state of a domain among the states, and a change of it.
-use Rattle.gt_core.proofs.Words.{◌≡◌, ◌<◌, ◌≤◌, ℕ, zero, suc, refl, Bool, true, false, List, [], ◌∷◌, length, Option, Some, None, cond, ltb, sym, ap, ◌∙◌, arith, get_or, set, eqb-true, eq-eqb, true≢false, ltb-false, position-Some, slice_get_past, slice_get-get_or, Result, OnErr, position, slice_get, ◌==◌, position_or_len, State, find, cond_both, find_at, ◌+◌, not, option_map, changed_at, state_of, changed_in}
-use Rattle.gt_core.{proofs.Others.cond-apart}
+use Rattle.gt_core.proofs.Words.{◌≡◌, ◌<◌, ◌≤◌, ℕ, zero, suc, refl, Bool, true, false, List, [], ◌∷◌, length, Some, None, cond, ltb, ap, ◌∙◌, arith, get_or, set, eqb-true, eq-eqb, ltb-false, position-Some, slice_get_past, slice_get-get_or, Result, OnErr, position, slice_get, ◌==◌, position_or_len, State, find, cond_both, find_at, option_map, changed_at, state_of, changed_in}
 
 abbrev pub has_id : ℕ → State → Bool
 has_id d x = x.id.0 == d
@@ -25,22 +24,13 @@ found xs d i x h = state_of-find xs d ∙ find_at (has_id d) xs
     ∙ ap (slice_get xs) (some-place (position_or_len (has_id d) xs) (length xs) i h)
     ∙ slice_get-get_or xs i x (position-Some (has_id d) xs i x h).0
 
-cond-twice : (b : Bool) (x y z : Option State) → cond b x (cond b y z) ≡ cond b x z
-cond-twice b x y z = grind arith
-
 -- a new state of the first domain with a number
 pub state_of-set : (xs : List State) (i : ℕ) (old new : State) (q : ℕ)
     → i < length xs → get_or xs i old ≡ old → new.id.0 ≡ old.id.0 → ((k : ℕ) → k < i → has_id old.id.0 (get_or xs k old) ≡ false)
     → state_of (set xs i new) q ≡ cond (old.id.0 == q) (Some new) (state_of xs q)
 state_of-set [] i old new q within here same apart = absurd (omega arith)
-state_of-set (x ∷ xs) zero old new q within here same apart =
-    ap (λ (n : ℕ). cond (n == q) (Some new) (state_of xs q)) same
-    ∙ sym (cond-twice (old.id.0 == q) (Some new) (Some x) (state_of xs q))
-    ∙ ap (λ (y : State). cond (old.id.0 == q) (Some new) (cond (y.id.0 == q) (Some x) (state_of xs q))) (sym here)
-state_of-set (x ∷ xs) (suc i) old new q within here same apart =
-    ap (cond (x.id.0 == q) (Some x)) (state_of-set xs i old new q (omega arith) here same (λ k h. apart (suc k) (omega arith)))
-    ∙ cond-apart (x.id.0 == q) (old.id.0 == q) (Some x) (Some new) (state_of xs q)
-    (λ a b. true≢false (sym (eq-eqb x.id.0 old.id.0 (eqb-true x.id.0 q a ∙ sym (eqb-true old.id.0 q b))) ∙ apart 0 (omega arith)))
+state_of-set (x ∷ xs) zero old new q within here same apart = grind arith
+state_of-set (x ∷ xs) (suc i) old new q within here same apart = grind (arith, state_of-set xs i old new q (omega arith) here same (λ k h. apart (suc k) (omega arith)), apart 0 (omega arith), eqb-true, eq-eqb)
 
 -- what holds anyway holds on an error
 pub on-err : {A E : Type 0} (r : Result A E) (P : Type 0) → P → OnErr r P
@@ -75,11 +65,8 @@ get-changed (z ∷ zs) (suc r) (suc q) f = grind (arith, get-changed zs r q f)
 changed-there : (xs : List State) (d i : ℕ) (f : State → State) (x : State) → i < length xs → x ≡ get_or xs i x → has_id d (get_or xs i x) ≡ true
     → ((k : ℕ) → k < i → has_id d (get_or xs k x) ≡ false) → set xs i (f x) ≡ changed_in d f xs
 changed-there [] d i f x within here is apart = absurd (omega arith)
-changed-there (z ∷ zs) d zero f x within here is apart =
-    ap (λ v. f v ∷ zs) here ∙ sym (ap (λ b. cond b (f z ∷ zs) (z ∷ changed_in d f zs)) is)
-changed-there (z ∷ zs) d (suc i) f x within here is apart =
-    ap (λ l. z ∷ l) (changed-there zs d i f x (omega arith) here is (λ k below. apart (suc k) (omega arith)))
-    ∙ sym (ap (λ b. cond b (f z ∷ zs) (z ∷ changed_in d f zs)) (apart 0 (omega arith)))
+changed-there (z ∷ zs) d zero f x within here is apart = grind arith
+changed-there (z ∷ zs) d (suc i) f x within here is apart = grind (arith, changed-there zs d i f x (omega arith) here is (λ k below. apart (suc k) (omega arith)), apart 0 (omega arith))
 
 -- a write of the changed state
 pub set-state : (xs : List State) (d i : ℕ) (f : State → State) (x y : State) → position (has_id d) xs ≡ Some i → x ≡ get_or xs i x → y ≡ f x → set xs i y ≡ changed_in d f xs
@@ -88,10 +75,7 @@ set-state xs d i f x y p here s = let a = position-Some (has_id d) xs i x p in
 
 changed-none : (xs : List State) (d : ℕ) (f : State → State) → length xs ≤ position_or_len (has_id d) xs → changed_in d f xs ≡ xs
 changed-none [] d f past = refl
-changed-none (z ∷ zs) d f past = by (has_id d z) (λ k. changed-none zs d f k) past where
-  by : (b : Bool) → (length zs ≤ position_or_len (has_id d) zs → changed_in d f zs ≡ zs) → length (z ∷ zs) ≤ cond (not b) (1 + position_or_len (has_id d) zs) 0 → cond b (f z ∷ zs) (z ∷ changed_in d f zs) ≡ z ∷ zs
-  by true rest k = absurd (omega arith)
-  by false rest k = ap (λ l. z ∷ l) (rest (omega arith))
+changed-none (z ∷ zs) d f past = grind (arith, changed-none zs d f)
 
 -- no state has the number
 pub changed-nowhere : (xs : List State) (d : ℕ) (f : State → State) → position (has_id d) xs ≡ None → changed_in d f xs ≡ xs

@@ -1,5 +1,5 @@
 -- A header, or a body word of an invalid entry, that its owner stores keeps what a core stands for.
-use Rattle.gt_core.proofs.Words.{◌≡◌, ◌%◌, ℕ, refl, Bool, true, false, List, ◌∷◌, Option, Some, None, cond, sym, ap, ◌∙◌, arith, subst, ◌==◌, DomId, Header, StoreHeader, Nothing, PinCounts, Open, Item, Answer, State, state_of, changed_in, with_header, History, Setting, header_or, table_at, one_if_mapped, open_call, FitsTable, Agrees, DomainsStand, CallAgrees, GivenAgrees, ◌≢◌, ◌&&◌, count_by, GrantRef, Read, Write, Invalid, Half, FirstHalf, SecondHalf, StoreBody, Stored, with_slot, slot_after, entry_at, body_at, or_else, is_pin_on, same_half, Dir, live}
+use Rattle.gt_core.proofs.Words.{◌≡◌, ◌%◌, ℕ, refl, Bool, true, List, ◌∷◌, Option, Some, None, cond, sym, ap, ◌∙◌, arith, subst, ◌==◌, DomId, Header, StoreHeader, Nothing, Open, Item, Answer, State, state_of, changed_in, with_header, History, Setting, header_or, table_at, one_if_mapped, open_call, FitsTable, Agrees, DomainsStand, CallAgrees, GivenAgrees, ◌≢◌, GrantRef, Invalid, Half, FirstHalf, SecondHalf, StoreBody, Stored, with_slot, entry_at, body_at}
 use Rattle.gt_core.proofs.{Others.unstored, Others.KeepsKnown, Others.kept-live, Others.other-table, Others.kept-table, Keeping.stepped, Keeping.SlotsAgree, Keeping.actor-agrees, Keeping.kept-stands, Keeping.mappings-stay, Keeping.same-number, Keeping.Moves, Keeping.slots-kept, Keeping.each-stays, Keeping.becomes-changed, Keeping.own-changed, Keeping.slots-stand}
 
 -- the item of a header that is stored
@@ -16,8 +16,7 @@ headed-table s h d version frames answer t own = ap (λ (b : Bool). header_or (c
 
 headed-fits : (s : Setting) (h : History) (d : DomId) (version frames : ℕ) (answer : Option Answer) (t : DomId) (b : Bool) → (d.0 == t.0) ≡ b → FitsTable (record { version = version; frames = frames })
     → FitsTable (table_at s h t) → FitsTable (table_at s (headed d version frames answer ∷ h) t)
-headed-fits s h d version frames answer t true own new old = subst FitsTable (sym (headed-table s h d version frames answer t own)) new
-headed-fits s h d version frames answer t false own new old = subst FitsTable (sym (other-table s (headed d version frames answer) h t own)) old
+headed-fits s h d version frames answer t b own new old = grind (arith, headed-table, other-table)
 
 -- a header within the limits has room in its word
 pub room-there : (version frames : ℕ) → FitsTable (record { version = version; frames = frames }) → ◌≡◌ {A = Header} (record { version = version % 4; frames = frames % 256 }) (record { version = version; frames = frames })
@@ -63,22 +62,7 @@ valid-stays d gref half word h t r which invalid valid = grind arith
 -- each slot agrees, with the word stored
 moves-stored : (d : DomId) (gref : GrantRef) (half : Half) (word : ℕ) (h : History) → Moves h (stores d gref half word ∷ h) d.0 gref.0 (Stored half word)
 unfolding body_at
-moves-stored d gref half word h q r old a = let e = by half (d.0 == q) (gref.0 == r) in
-    record { reads = e.0 ∙ a.reads ∙ same Read; writes = e.1 ∙ a.writes ∙ same Write; first = e.2; second = e.3 }
-  where
-    same : (k : Dir) → count_by (is_pin_on q r k) (live h) ≡ count_by (is_pin_on q r k) (live (stores d gref half word ∷ h))
-    same k = ap (count_by (is_pin_on q r k)) (sym (kept-live (stores d gref half word) h (store-keeps d gref half word)))
-
-    new : Half → Bool → Bool → PinCounts
-    new z b c = cond (b && c) (slot_after (Stored z word) old) old
-
-    now : Half → Bool → Bool → Half → ℕ
-    now z b c which = or_else (cond b (cond (c && same_half z which) (Some word) None) None) (body_at h q r which)
-
-    by : (z : Half) (b c : Bool) → ((new z b c).reads ≡ old.reads) × ((new z b c).writes ≡ old.writes) × ((new z b c).first ≡ now z b c FirstHalf) × ((new z b c).second ≡ now z b c SecondHalf)
-    by FirstHalf true true = (refl, refl, refl, a.second)
-    by SecondHalf true true = (refl, refl, a.first, refl)
-    by z b c = (refl, refl, a.first, a.second)
+moves-stored d gref half word h q r old a = grind (arith, kept-live, store-keeps)
 
 -- a body word stored on an invalid entry keeps what the core stands for
 pub store-stands : (s : Setting) (h : History) (xs ys : List State) (x : State) (gref : GrantRef) (half : Half) (word : ℕ) (o : Option Open) → DomainsStand s h xs

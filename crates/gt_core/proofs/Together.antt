@@ -27,10 +27,7 @@ begun-bare : (k : CallerKnowledge) (found : Handle → Option Held) (d : DomId) 
 begun-bare k found d q same = grind arith
 
 finds-same : (s : Setting) (h : History) (d : DomId) (r : Asked) → IsRun s h → AsksKnown h d.0 r → FindsSame (mapping_of (mappings_at (bare h) d.0)) (mapping_of (mappings_at h d.0)) r
-finds-same s h d (Unmap a) run k = mapping-bare s h d.0 a run k
-finds-same s h d (Load a off len) run k = mapping-bare s h d.0 a run k
-finds-same s h d (Store a off len) run k = mapping-bare s h d.0 a run k
-finds-same s h d r run k = tt
+finds-same s h d r run k = grind (arith, mapping-bare)
 
 path-at : (s : Setting) (h : History) (d : DomId) (r : Asked) (vs : List Seen) → IsRun s h → AsksKnown h d.0 r
     → option_map bare_action (path (known_at s (bare h) d) d (bare_asked r) vs) ≡ option_map bare_action (path (known_at s h d) d r vs)
@@ -48,9 +45,6 @@ seen-at s h d (LookBody dom gref half) run = ap (λ (w : ℕ). Word w) ((bared h
 seen-at s h d (PinStep p) run = ap (λ (w : ℕ). exchange_sees w p.word) (word-bare s h p.dom.0 p.gref.0 run)
 seen-at s h d (Exchange gref looked change) run = ap (λ (w : ℕ). exchange_sees w looked) (word-bare s h d.0 gref.0 run)
 seen-at s h d step run = refl
-
-seen-bare : (s : Setting) (h : History) (d : DomId) (step : Step) → seen_by s h d step ≡ seen_by s h d (bare_step step)
-seen-bare s h d step = grind arith
 
 -- answers
 
@@ -88,11 +82,7 @@ answer-told : (s : Setting) (h : History) (d : DomId) (r : Asked) (step : Option
 answer-told s h d r step giving v a against is = grind arith
 
 answer-at : (s : Setting) (h : History) (d : DomId) (r : Asked) (step : Option Step) (v : Option Verdict) → answer_told s (bare h) d (bare_asked r) step v ≡ answer_told s h d r step v
-answer-at s h d r step None = refl
-answer-at s h d r step (Some v) = ap (told_by (refusal_in (Some v))) (value-at s h d r step)
-
-answer-step : (s : Setting) (h : History) (d : DomId) (r : Asked) (step : Step) (v : Option Verdict) → answer_told s h d r (Some (bare_step step)) v ≡ answer_told s h d r (Some step) v
-answer-step s h d r step v = grind arith
+answer-at s h d r step v = grind (arith, value-at)
 
 -- items
 
@@ -105,41 +95,20 @@ step_told s h d r vs step = let seen = seen_by s h d step in
 
 is-began : (s : Setting) (h : History) (d : DomId) (q : Request) (a : Option Answer) → BeginsRight s h (record { actor = d; happened = Began q; answer = a }) q
     → told_item (record { actor = d; happened = Began q; answer = a }) ≡ began_told s h d q
-is-began s h d q a right = let i : Item = record { actor = d; happened = Began q; answer = a } in
-    ap (λ (t : Option (Answer ⊎ List ℕ)). record { actor = d; happened = Began (bare_request q); answer = t })
-    (answer-told s h d (asked q) None false (begun_of (known_at s h d) d q) a (stood s (i ∷ h) d.0) right.1)
+is-began s h d q a right = grind (arith, answer-told)
 
 verdict-bare : (o : Option Action) → verdict_in (option_map bare_action o) ≡ verdict_in o
 verdict-bare o = grind arith
 
 is-stepped : (s : Setting) (h : History) (d : DomId) (step : Step) (seen : Seen) (a : Option Answer) (c : Underway) → StepsRight s h (record { actor = d; happened = Stepped step seen; answer = a }) step seen c
     → told_item (record { actor = d; happened = Stepped step seen; answer = a }) ≡ step_told s h d c.request (values c) (bare_step step)
-is-stepped s h d step seen a c right = let i : Item = record { actor = d; happened = Stepped step seen; answer = a } in
-    let o : Seen → Option Action = λ v. path (known_at s h d) d c.request (values c ++ v ∷ []) in
-    ap (λ (t : Option (Answer ⊎ List ℕ)). record { actor = d; happened = Stepped (bare_step step) seen; answer = t })
-    (answer-told s h d c.request (Some step) (gives_back (o seen)) (verdict_in (o seen)) a (stood s (i ∷ h) d.0) right.answered ∙ sym (answer-step s h d c.request step (verdict_in (o seen)))
-    ∙ ap (λ (v : Option Verdict). answer_told s h d c.request (Some (bare_step step)) v) (sym (verdict-bare (o seen))))
-    ∙ ap (λ (v : Seen). record { actor = d; happened = Stepped (bare_step step) v; answer = answer_told s h d c.request (Some (bare_step step)) (verdict_in (option_map bare_action (o v))) }) (right.sees ∙ seen-bare s h d step)
-
-request-twice : (q : Request) → bare_request (bare_request q) ≡ bare_request q
-request-twice q = grind arith
+is-stepped s h d step seen a c right = grind (arith, answer-told, verdict-bare)
 
 began-at : (s : Setting) (h : History) (d : DomId) (q : Request) → IsRun s h → AsksKnown h d.0 (asked q) → began_told s (bare h) d (bare_request q) ≡ began_told s h d q
-began-at s h d q run k =
-    ap (λ (z : Request). record { actor = d; happened = Began z; answer = answer_told s (bare h) d (asked (bare_request q)) None (begun_of (known_at s (bare h) d) d (bare_request q)) }) (request-twice q)
-    ∙ ap (λ (t : Option (Answer ⊎ List ℕ)). record { actor = d; happened = Began (bare_request q); answer = t })
-    (ap (λ (z : Asked). answer_told s (bare h) d z None (begun_of (known_at s (bare h) d) d (bare_request q))) (asked-bare q)
-    ∙ ap (λ (v : Option Verdict). answer_told s (bare h) d (bare_asked (asked q)) None v) (begun-at s h d q run k)
-    ∙ answer-at s h d (asked q) None (begun_of (known_at s h d) d q))
+began-at s h d q run k = grind (arith, asked-bare, begun-at, answer-at)
 
 stepped-at : (s : Setting) (h : History) (d : DomId) (r : Asked) (vs : List Seen) (step : Step) → IsRun s h → AsksKnown h d.0 r → step_told s (bare h) d (bare_asked r) vs step ≡ step_told s h d r vs step
-stepped-at s h d r vs step run k =
-    let o : Seen → Option Action = λ v. option_map bare_action (path (known_at s (bare h) d) d (bare_asked r) (vs ++ v ∷ [])) in
-    let seen = seen_by s h d step in
-    ap (λ (v : Seen). record { actor = d; happened = Stepped step v; answer = answer_told s (bare h) d (bare_asked r) (Some step) (verdict_in (o v)) }) (seen-at s h d step run)
-    ∙ ap (λ (t : Option (Answer ⊎ List ℕ)). record { actor = d; happened = Stepped step seen; answer = t })
-    (ap (λ (x : Option Action). answer_told s (bare h) d (bare_asked r) (Some step) (verdict_in x)) (path-at s h d r (vs ++ seen ∷ []) run k)
-    ∙ answer-at s h d r (Some step) (verdict_in (option_map bare_action (path (known_at s h d) d r (vs ++ seen ∷ [])))))
+stepped-at s h d r vs step run k = grind (arith, seen-at, path-at, answer-at)
 
 -- elements
 
@@ -174,30 +143,13 @@ is-within o x y some e = grind arith
 is-busy : (s : Setting) (h : History) (d : DomId) (q : Request) (c : Option Underway) → c ≢ None → inl Busy ≡ begin_told s h d q c
 is-busy s h d q c some = grind arith
 
-begin-does : (s : Setting) (h : History) (d : DomId) (q : Request) (a : Option Answer) → BeginsRight s h (record { actor = d; happened = Began q; answer = a }) q
-    → element_told (Did (record { actor = d; happened = Began q; answer = a })) ≡ begin_told s h d q (open_call h d.0)
-begin-does s h d q a right =
-    ap (λ (t : ToldItem). inr t) (is-began s h d q a right) ∙ ap (begin_told s h d q) (sym right.0)
-
-tick-does : (s : Setting) (h : History) (d : DomId) (step : Step) (seen : Seen) (a : Option Answer) (c : Option Underway) → StepsRightIn s h (record { actor = d; happened = Stepped step seen; answer = a }) step seen c
-    → element_told (Did (record { actor = d; happened = Stepped step seen; answer = a })) ≡ tick_told s h d c
-tick-does s h d step seen a None right = absurd right
-tick-does s h d step seen a (Some c) right = ap (λ (t : ToldItem). inr t) (is-stepped s h d step seen a c right) ∙ ap (λ (o : Option Action). stepped_told s h d c (option_map bare_action o)) (sym right.continues)
-
 begin-item : (s : Setting) (h : History) (d : DomId) (q : Request) (actor : DomId) (x : Happened) (a : Option Answer) → actor ≡ d → x ≡ Began q → IsRight s h (record { actor = actor; happened = x; answer = a })
     → element_told (Did (record { actor = actor; happened = x; answer = a })) ≡ begin_told s h d q (open_call h d.0)
-begin-item s h d q actor x a own is right =
-    ap (λ (z : DomId). element_told (Did (record { actor = z; happened = x; answer = a }))) own
-    ∙ ap (λ (z : Happened). element_told (Did (record { actor = d; happened = z; answer = a }))) is
-    ∙ begin-does s h d q a
-    (subst (λ (z : Happened). IsRight s h (record { actor = d; happened = z; answer = a })) is (subst (λ (z : DomId). IsRight s h (record { actor = z; happened = x; answer = a })) own right))
+begin-item s h d q actor x a own is right = grind (arith, is-began)
 
 tick-item : (s : Setting) (h : History) (d : DomId) (actor : DomId) (x : Happened) (a : Option Answer) → MayDo s h (Tick d) (Did (record { actor = actor; happened = x; answer = a }))
     → element_told (Did (record { actor = actor; happened = x; answer = a })) ≡ tick_told s h d (open_call h d.0)
-tick-item s h d actor (Began q) a m = absurd m.1.1
-tick-item s h d actor (Stepped step seen) a m =
-    ap (λ (z : DomId). element_told (Did (record { actor = z; happened = Stepped step seen; answer = a }))) m.1.0
-    ∙ tick-does s h d step seen a (open_call h d.0) (subst (λ (z : DomId). IsRight s h (record { actor = z; happened = Stepped step seen; answer = a })) m.1.0 m.2)
+tick-item s h d actor x a m = grind (arith, is-stepped)
 
 -- an event does what this function tells
 pub does : (s : Setting) (h : History) (e : Event) (x : Element) → MayDo s h e x → element_told x ≡ doing s h e
@@ -212,21 +164,12 @@ does s h (Tick d) (Did i) m =
 does s h e x m = absurd m
 
 begin-at : (s : Setting) (h : History) (d : DomId) (q : Request) (c : Option Underway) → IsRun s h → AsksKnown h d.0 (asked q) → begin_told s (bare h) d (bare_request q) (option_map bare_call c) ≡ begin_told s h d q c
-begin-at s h d q None run k = ap (λ (t : ToldItem). inr t) (began-at s h d q run k)
+begin-at s h d q None run k = grind (arith, began-at)
 begin-at s h d q (Some c) run k = refl
-
-next-at : (s : Setting) (h : History) (d : DomId) (c : Underway) (o : Option Action) → IsRun s h → AsksKnown h d.0 c.request → stepped_told s (bare h) d (bare_call c) o ≡ stepped_told s h d c o
-next-at s h d c (Some (Makes step)) run k =
-    ap (λ (vs : List Seen). inr (step_told s (bare h) d (bare_asked c.request) vs step)) (values-bare c)
-    ∙ ap (λ (t : ToldItem). inr t) (stepped-at s h d c.request (values c) step run k)
-next-at s h d c o run k = refl
 
 tick-at : (s : Setting) (h : History) (d : DomId) (c : Option Underway) → IsRun s h → CallKnown h d.0 c → tick_told s (bare h) d (option_map bare_call c) ≡ tick_told s h d c
 tick-at s h d None run k = refl
-tick-at s h d (Some c) run k =
-    ap (λ (vs : List Seen). stepped_told s (bare h) d (bare_call c) (option_map bare_action (path (known_at s (bare h) d) d (bare_asked c.request) vs))) (values-bare c)
-    ∙ ap (stepped_told s (bare h) d (bare_call c)) (path-at s h d c.request (values c) run k)
-    ∙ next-at s h d c (option_map bare_action (path (known_at s h d) d c.request (values c))) run k
+tick-at s h d (Some c) run k = grind (arith, values-bare, path-at, stepped-at)
 
 -- and it does the same without keys
 pub does-bare : (s : Setting) (h : History) (e : Event) → IsRun s h → IsOfKnown h e → doing s (bare h) (bare_event e) ≡ doing s h e
@@ -261,8 +204,4 @@ same-grows i j g h e same = ap (λ (t : ToldItem). t ∷ told_items g) e ∙ ap 
 
 pub alike-grows : (s : Setting) (g h : History) (e f : Event) (one other : Element) → AreAlike s g h → IsOfKnown g e → IsOfKnown h f → MayDo s g e one → MayDo s h f other → SameElement one other
     → AreAlike s (grown g one) (grown h other)
-alike-grows s g h e f (Did i) (Did j) alike k l m n same =
-    record { first = run-grows s g e i alike.first k m; second = run-grows s h f j alike.second l n; same = same-grows i j g h same alike.same }
-alike-grows s g h e f (Did i) other alike k l m n same = absurd (cc)
-alike-grows s g h e f one (Did j) alike k l m n same = absurd (cc)
-alike-grows s g h e f one other alike k l m n same = alike
+alike-grows s g h e f one other alike k l m n same = grind (arith, run-grows, same-grows)

@@ -1,6 +1,6 @@
 -- An unpin keeps what a core stands for.
-use Rattle.gt_core.proofs.Words.{◌≡◌, ◌+◌, ℕ, refl, Bool, true, false, List, [], ◌∷◌, ◌++◌, length, Option, Some, None, cond, sym, ap, ◌∙◌, arith, subst, ◌==◌, ◌&&◌, All, count_by, false≢true, none-some, same_Some, append-nil, sum_by-cons, DomId, Dir, Read, Write, Half, FirstHalf, SecondHalf, Handle, HandleMap, Held, Holder, ByMapping, ByLeg, Unpin, Seen, PinCounts, Open, Unpinned, Item, Answer, State, state_of, changed_in, with_slot, without_mapping, slot_after, taken, History, Setting, Pin, live, body_at, mappings_at, maps_answered_at, legs_at, open_call, is_pin_on, without, is_holder, same_handle, same_dir, gather, by_mapping, by_leg, mapping_of, one_if_mapped, IsLawful, SlotAgrees, Agrees, DomainsStand, CallAgrees, GivenAgrees, MappingsAgree, numbered}
-use Rattle.gt_core.proofs.{Others.answered-stays, Others.pulled, Others.cond-same, Others.without-kept, Others.IsKeyed, Others.listed, Others.mapping-keyed, Others.leg-keyed, Keeping.stepped, Keeping.KeepsEntries, Keeping.same-body, Keeping.after_change, Keeping.Becomes, Keeping.becomes-changed, Keeping.slots-stand, Keeping.keeps-stands, Mappings.less, Mappings.less_of, Mappings.mappings-taken, Mappings.mappings-same, Rows.state-changed, Pinning.pins_at, Pinning.pins-fit, Pinning.pins-none, Others.all-without}
+use Rattle.gt_core.proofs.Words.{◌≡◌, ◌+◌, ℕ, refl, Bool, false, List, [], ◌∷◌, ◌++◌, length, Option, Some, None, cond, sym, ap, ◌∙◌, arith, subst, ◌==◌, ◌&&◌, All, count_by, none-some, append-nil, sum_by-cons, DomId, Dir, Read, Write, Half, FirstHalf, SecondHalf, Handle, HandleMap, Held, Holder, ByMapping, ByLeg, Unpin, Seen, PinCounts, Open, Unpinned, Item, Answer, State, state_of, changed_in, with_slot, without_mapping, slot_after, taken, History, Setting, Pin, live, body_at, mappings_at, maps_answered_at, legs_at, open_call, is_pin_on, without, is_holder, same_handle, same_dir, gather, by_mapping, by_leg, mapping_of, one_if_mapped, IsLawful, SlotAgrees, Agrees, DomainsStand, CallAgrees, GivenAgrees, MappingsAgree, numbered}
+use Rattle.gt_core.proofs.{Others.answered-stays, Others.cond-same, Others.without-kept, Others.IsKeyed, Others.mapping-keyed, Others.leg-keyed, Keeping.stepped, Keeping.KeepsEntries, Keeping.same-body, Keeping.Becomes, Keeping.becomes-changed, Keeping.slots-stand, Keeping.keeps-stands, Mappings.less, Mappings.less_of, Mappings.mappings-taken, Mappings.mappings-same, Rows.state-changed, Pinning.pins_at, Pinning.pins-fit, Pinning.pins-none, Others.all-without}
 
 -- what an unpin takes from the live pins
 
@@ -31,31 +31,9 @@ without-one : {K : Type 0} (give : Holder → Held → List (K × Held)) (test :
 unfolding without gather
 without-one give test holder d [] t = (refl, λ m e. absurd (none-some m e))
 without-one {K} give test holder d (p ∷ ps) t = let was = without-one give test holder d ps t in (
-  pulled (gather give d) ((p.actor == d) && is_holder p.holder holder) ps (p ∷ rest) ∙ rw (t.keyed.gives p.holder p.held, t.tells p.holder) (left was.0 (p.actor == d) (t.keyed.key p.holder)),
-  λ m e u r k. rw (t.tells p.holder) (lost m u r k (λ f. was.1 m f u r k) (p.actor == d) (t.keyed.key p.holder)
-      (sym (ap (λ (l : List (K × Held)). one_of test (cond (p.actor == d) l [] ++ gather give d ps)) (t.keyed.gives p.holder p.held)) ∙ e)),
-) where
-  rest : List Pin
-  rest = without d holder ps
-
-  count : ℕ → ℕ → Dir → List Pin → ℕ
-  count u r k qs = count_by (is_pin_on u r k) qs
-
-  left : gather give d rest ≡ less_of test (gather give d ps) → (b : Bool) (o : Option K)
-      → cond (b && passes test o) (gather give d ps) (cond b (listed o p.held) [] ++ gather give d rest) ≡ less_of test (cond b (listed o p.held) [] ++ gather give d ps)
-  left was true (Some k) = ap (λ (l : List (K × Held)). cond (test k) (gather give d ps) ((k, p.held) ∷ l)) was
-  left was b o = was
-
-  gone : (m : Held) (u r : ℕ) (k : Dir) → (one_of test (gather give d ps) ≡ Some m → count u r k ps ≡ cond (hits m u r k) 1 0 + count u r k rest) → (c : Bool)
-      → cond c (Some p.held) (one_of test (gather give d ps)) ≡ Some m → count u r k (p ∷ ps) ≡ cond (hits m u r k) 1 0 + count u r k (cond c ps (p ∷ rest))
-  gone m u r k was true e = sum_by-cons (λ (q : Pin). cond (is_pin_on u r k q) 1 0) p ps ∙ ap (λ (q : Held). cond (hits q u r k) 1 0 + count u r k ps) (same_Some _ _ e)
-  gone m u r k was false e = let a = sum_by-cons (λ (q : Pin). cond (is_pin_on u r k q) 1 0) p ps in
-      let b = sum_by-cons (λ (q : Pin). cond (is_pin_on u r k q) 1 0) p rest in let c = was e in omega arith
-
-  lost : (m : Held) (u r : ℕ) (k : Dir) → (one_of test (gather give d ps) ≡ Some m → count u r k ps ≡ cond (hits m u r k) 1 0 + count u r k rest) → (b : Bool) (o : Option K)
-      → one_of test (cond b (listed o p.held) [] ++ gather give d ps) ≡ Some m → count u r k (p ∷ ps) ≡ cond (hits m u r k) 1 0 + count u r k (cond (b && passes test o) ps (p ∷ rest))
-  lost m u r k was true (Some key) e = gone m u r k was (test key) e
-  lost m u r k was b o e = gone m u r k was false e
+  grind (arith, was.0, t.keyed.gives p.holder p.held, t.tells p.holder),
+  λ m e u r k. grind (arith, t.keyed.gives p.holder p.held, t.tells p.holder, was.1 m, sum_by-cons (λ (q : Pin). cond (is_pin_on u r k q) 1 0) p ps, sum_by-cons (λ (q : Pin). cond (is_pin_on u r k q) 1 0) p (without d holder ps)),
+)
 
 -- the tests that there are
 
@@ -95,12 +73,7 @@ mapping-left h d p handle seen answer = ap (gather by_mapping d.0) (unpinned-liv
     ∙ (without-one by_mapping (λ (k : Handle). same_handle k handle) (ByMapping handle) d.0 (live h) (mapping-tells handle)).0
 
 pub mapping-legs : (h : History) (d : DomId) (p : Held) (handle : Handle) (seen : Seen) (answer : Option Answer) → legs_at (unpins d p (ByMapping handle) seen answer ∷ h) d.0 ≡ legs_at h d.0
-mapping-legs h d p handle seen answer = ap (gather by_leg d.0) (unpinned-live h d p (ByMapping handle) seen answer)
-    ∙ without-kept by_leg d.0 d.0 (ByMapping handle) (live h) (λ q own is. ap (λ (l : List (ℕ × Held)). cond (q.actor == d.0) l []) (none q.holder is q.held) ∙ cond-same (q.actor == d.0) [])
-  where
-    none : (x : Holder) → is_holder x (ByMapping handle) ≡ true → (m : Held) → by_leg x m ≡ []
-    none (ByMapping k) e m = refl
-    none (ByLeg n) e m = absurd (false≢true e)
+mapping-legs h d p handle seen answer = grind (arith, unpinned-live, without-kept, cond-same)
 
 pub mapping-agrees : (h : History) (d : DomId) (p : Held) (handle : Handle) (seen : Seen) (answer : Option Answer) (kept : HandleMap Held) → one_if_mapped answer ≡ 0 → mapping_of (mappings_at h d.0) handle ≡ Some p
     → MappingsAgree kept (mappings_at h d.0) (maps_answered_at h d.0)
@@ -130,12 +103,7 @@ leg-left h d ps p seen answer held = ap (gather by_leg d.0) (unpinned-live h d p
     ∙ ap (less_of (λ (k : ℕ). k == length ps)) held ∙ (last-leg 0 (length ps) ps p (omega arith)).1
 
 pub leg-mappings : (h : History) (d : DomId) (p : Held) (number : ℕ) (seen : Seen) (answer : Option Answer) → mappings_at (unpins d p (ByLeg number) seen answer ∷ h) d.0 ≡ mappings_at h d.0
-leg-mappings h d p number seen answer = ap (gather by_mapping d.0) (unpinned-live h d p (ByLeg number) seen answer)
-    ∙ without-kept by_mapping d.0 d.0 (ByLeg number) (live h) (λ q own is. ap (λ (l : List (Handle × Held)). cond (q.actor == d.0) l []) (none q.holder is q.held) ∙ cond-same (q.actor == d.0) [])
-  where
-    none : (x : Holder) → is_holder x (ByLeg number) ≡ true → (m : Held) → by_mapping x m ≡ []
-    none (ByMapping k) e m = absurd (false≢true e)
-    none (ByLeg n) e m = refl
+leg-mappings h d p number seen answer = grind (arith, unpinned-live, without-kept, cond-same)
 
 pub leg-agrees : (h : History) (d : DomId) (p : Held) (number : ℕ) (seen : Seen) (answer : Option Answer) (kept : HandleMap Held) → one_if_mapped answer ≡ 0
     → MappingsAgree kept (mappings_at h d.0) (maps_answered_at h d.0) → MappingsAgree kept (mappings_at (unpins d p (ByLeg number) seen answer ∷ h) d.0) (maps_answered_at (unpins d p (ByLeg number) seen answer ∷ h) d.0)
@@ -144,12 +112,7 @@ leg-agrees h d p number seen answer kept m a = mappings-same kept _ _ _ _ (sym (
 -- the slot that the unpin counts down
 counted-down : (h new : History) (q r : ℕ) (dir : Dir) (b : Bool) (old : PinCounts) → SlotAgrees h q r old → ((which : Half) → body_at new q r which ≡ body_at h q r which)
     → ((k : Dir) → pins_at h q r k ≡ cond (b && same_dir dir k) 1 0 + pins_at new q r k) → SlotAgrees new q r (cond b (slot_after (Unpinned dir) old) old)
-counted-down h new q r dir b old a body now = by dir b (now Read) (now Write) (a.first ∙ sym (body FirstHalf)) (a.second ∙ sym (body SecondHalf)) where
-  by : (z : Dir) (c : Bool) → pins_at h q r Read ≡ cond (c && same_dir z Read) 1 0 + pins_at new q r Read → pins_at h q r Write ≡ cond (c && same_dir z Write) 1 0 + pins_at new q r Write
-      → old.first ≡ body_at new q r FirstHalf → old.second ≡ body_at new q r SecondHalf → SlotAgrees new q r (cond c (slot_after (Unpinned z) old) old)
-  by Read true n m x y = record { reads = omega arith; writes = omega arith; first = x; second = y }
-  by Write true n m x y = record { reads = omega arith; writes = omega arith; first = x; second = y }
-  by z false n m x y = record { reads = omega arith; writes = omega arith; first = x; second = y }
+counted-down h new q r dir b old a body now = grind (arith, now Read, now Write, body FirstHalf, body SecondHalf)
 
 -- a live pin that is given back keeps what the core stands for, where the domain's mappings are those that it then has
 pub unpin-stands : (s : Setting) (h : History) (xs zs : List State) (x : State) (p : Held) (holder : Holder) (seen : Seen) (answer : Option Answer) (kept : HandleMap Held) (o : Option Open) → DomainsStand s h xs
@@ -180,17 +143,4 @@ unpin-stands s h xs zs x p holder seen answer kept o st here a becomes loses map
 -- the states after an unpin: the mapping goes too, where it is of one
 pub becomes-unpinned : (xs ys : List State) (x : State) (p : Held) (holder : Holder) (o : Option Open) → ((q : ℕ) → state_of ys q ≡ cond (x.id.0 == q) (Some (record x { underway = o })) (state_of xs q))
     → Becomes xs (changed_in x.id.0 (without_mapping holder) (changed_in p.dom.0 (with_slot p.gref.0 (Unpinned p.dir)) ys)) x (without_mapping holder (record x { underway = o })) p.dom.0 (with_slot p.gref.0 (Unpinned p.dir))
-becomes-unpinned xs ys x p holder o was = λ q.
-    state-changed (changed_in p.dom.0 (with_slot p.gref.0 (Unpinned p.dir)) ys) x.id.0 q (without_mapping holder) (keeps holder)
-    ∙ ap (λ (z : Option State). after_change (x.id.0 == q) (without_mapping holder) z) (becomes-changed xs ys x (record x { underway = o }) p.dom.0 (with_slot p.gref.0 (Unpinned p.dir)) (λ y. refl) was q)
-    ∙ by holder (x.id.0 == q) (p.dom.0 == q) (state_of xs q) where
-      keeps : (w : Holder) (y : State) → (without_mapping w y).id ≡ y.id
-      keeps (ByMapping handle) y = refl
-      keeps (ByLeg number) y = refl
-
-      by : (w : Holder) (b c : Bool) (z : Option State) → after_change b (without_mapping w) (after_change c (with_slot p.gref.0 (Unpinned p.dir)) (cond b (Some (record x { underway = o })) z))
-          ≡ after_change c (with_slot p.gref.0 (Unpinned p.dir)) (cond b (Some (without_mapping w (record x { underway = o }))) z)
-      by (ByMapping handle) true true z = refl
-      by (ByMapping handle) b c z = refl
-      by (ByLeg number) true true z = refl
-      by (ByLeg number) b c z = refl
+becomes-unpinned xs ys x p holder o was = grind (arith, state-changed, becomes-changed)
