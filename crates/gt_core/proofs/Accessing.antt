@@ -50,11 +50,17 @@ pub mapping-pin : (s : Setting) (h : History) (xs : List State) (d : DomId) (han
 mapping-pin s h xs d handle m st found = let a = gathered-any by_mapping mapping-keyed d.0 m (live h) (found-in (mappings_at h d.0) handle m found) in
     let p = a.1 in let by = a.4 in let held = mapping-holder p.holder by.2 in
     let w : IsLawfullyHeld s p (ByMapping held.0) = subst (IsLawfullyHeld s p) held.1 (subst (IsLawful s) a.3 (st.lawful a.0 p a.2)) in
-    let own : record { 0 = p.actor } ≡ d = ap (λ (n : ℕ). record { 0 = n }) by.0 in (a.0, p, a.2, a.3, record {
-      own = by.0;
-      is = by.1;
-      lets = subst (λ (q : Held). LetsUse s d q.dom q.dir q.entry) by.1 (subst (λ (z : DomId). LetsUse s z p.held.dom p.held.dir p.held.entry) own w);
-    })
+    let own : record { 0 = p.actor } ≡ d = ap (λ (n : ℕ). record { 0 = n }) by.0 in (
+      a.0,
+      p,
+      a.2,
+      a.3,
+      record {
+        own = by.0;
+        is = by.1;
+        lets = subst (λ (q : Held). LetsUse s d q.dom q.dir q.entry) by.1 (subst (λ (z : DomId). LetsUse s z p.held.dom p.held.dir p.held.entry) own w);
+      },
+    )
 
 -- an access by a mapping, where its kind allows the direction, and one to a frame of the domain's own
 access-mapped : (s : Setting) (h : History) (xs : List State) (d : DomId) (r : Asked) (dir : Dir) (handle : Handle) (dom : DomId) (frame off len : ℕ) → DomainsStand s h xs → (a : IsMapped (known_at s h d) handle dom frame)

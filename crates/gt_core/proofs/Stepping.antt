@@ -95,7 +95,7 @@ module _ {s : Setting} {h : History} {xs : List State} {x : State} {o : Open} {c
       → refusal_of answer ≡ refusal_in (Some v) → GivesValue s h x.id c.request (Some o.step) answer → Ticked s h x.id o.step (seen_in t) (Some answer) (applied x.id o.step (seen_in t) ys)
   ends-core ys {v} answer t r is_plain unmapped same value = let q = plain answer is_plain in let e = ends-so x.id (phase_then t) v (sym t.acts) in
       let legs : legs_at (history_then t (Some answer)) x.id.0 ≡ [] = legs-after t (Some answer) q.0 q.1 (λ m f. unmapped m (let g : v ≡ KeptPin m = cc in g))
-          ∙ ap (λ (p : Phase). numbered 0 (reverse (held_in p))) e.1 ∙ ap (λ (l : List Held). numbered 0 (reverse l)) e.2 in (
+      ∙ ap (λ (p : Phase). numbered 0 (reverse (held_in p))) e.1 ∙ ap (λ (l : List Held). numbered 0 (reverse l)) e.2 in (
         right-in s h x.id o.step (seen_in t) (Some answer) c t.call (ends-right t answer same legs value),
         step-stands s h xs ys x c t.stands.phase (Some answer) None t.here t.agrees r q.0 q.1 o.step t.i (last-fact t) (λ store. absurd (store-goes t store)) (call-over s h x.id o.step (seen_in t) answer legs),
       )
@@ -123,7 +123,7 @@ module _ {s : Setting} {h : History} {xs : List State} {x : State} {o : Open} {c
       let stands = pin-stands s h xs ys x held answer kept None t.i.st t.here t.agrees r can.valid can.few lawful maps (call-over s h d (PinStep held) Taken (Mapped handle) legs) (given-goes-on d (PinStep held) Taken answer h x.given t.agrees.given) in
       let same : stepped d o.step (seen_in t) answer ≡ pins d held answer = ap (λ (v : Seen). stepped d o.step v answer) saw ∙ ap (λ (z : Step). stepped d z Taken answer) m.is in
       let value : GivesValue s h d c.request (Some o.step) (Mapped handle) = subst (λ (z : Step). GivesValue s h d c.request (Some z) (Mapped handle)) (sym m.is)
-          (subst (λ (q : Asked). GivesValue s h d q (Some (PinStep held)) (Mapped handle)) (sym m.of_map) (adds.serial ∙ t.agrees.mappings.given)) in (
+      (subst (λ (q : Asked). GivesValue s h d q (Some (PinStep held)) (Mapped handle)) (sym m.of_map) (adds.serial ∙ t.agrees.mappings.given)) in (
         right-in s h d o.step (seen_in t) answer c t.call (ends-right t (Mapped handle) refl (ap (λ (k : Item). legs_at (k ∷ h) d.0) same ∙ legs) value),
         subst (λ (v : Seen). DomainsStand s (stepped d o.step v answer ∷ h) (applied d o.step v ys)) (sym saw)
             (subst (λ (z : Step). DomainsStand s (stepped d z Taken answer ∷ h) (applied d z Taken ys)) (sym m.is) stands),
@@ -263,10 +263,13 @@ tick-does s fs gs ks xs ys zs dom at x o seen new action answer told is b wrote 
     let n = begun s h xs dom at x o seen new action st.domains b in
     let t = action-core s h fs xs zs at x o n.c new action answer n.ticks st.frames n.replaced (settled-before fs gs xs zs at x x o.call new o.step action answer wrote settled) in
     let r = subst (λ (d : DomId). Ticked s h d o.step seen answer (applied d o.step seen zs)) n.is (subst (λ (v : Seen). Ticked s h x.id o.step v answer (applied x.id o.step v zs)) (sym n.same) t) in
-    subst (λ (z : Element). MayDo s h (Tick dom) z × CoreStands s (grown h z) (core_of ys ks)) (sym (ap (ticked_element dom) is ∙ element answer)) ((n.named, (refl, tt), r.0), record {
-      domains = subst (DomainsStand s (stepped dom o.step seen answer ∷ h)) (sym left) r.1;
-      frames = subst (FramesStand s (stepped dom o.step seen answer ∷ h)) (sym same) (tick-frames s h xs dom at x o b.place b.here b.under fs gs seen answer st wrote);
-    })
+    subst (λ (z : Element). MayDo s h (Tick dom) z × CoreStands s (grown h z) (core_of ys ks)) (sym (ap (ticked_element dom) is ∙ element answer)) (
+      (n.named, (refl, tt), r.0),
+      record {
+        domains = subst (DomainsStand s (stepped dom o.step seen answer ∷ h)) (sym left) r.1;
+        frames = subst (FramesStand s (stepped dom o.step seen answer ∷ h)) (sym same) (tick-frames s h xs dom at x o b.place b.here b.under fs gs seen answer st wrote);
+      },
+    )
   where
     element : (a : Option Answer) → ticked_element dom (ticked_with o.step seen a) ≡ Did (stepped dom o.step seen a)
     element None = refl
