@@ -31,7 +31,7 @@ struct entry {
     bool read_only;
 } __attribute__((aligned(64)));
 
-// What a journal tells of a write.
+// What a journal records of a write.
 struct record {
     uint32_t writer;
     uint32_t domain;

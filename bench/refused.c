@@ -1,4 +1,4 @@
-/* Refuses one request for memory: the one whose number stands in REFUSED. Counts them all.
+/* Refuses one request for memory: the one whose number is in REFUSED. Counts them all.
    Loaded in front of a built test by bench/refused.sh. */
 #define _GNU_SOURCE
 #include <dlfcn.h>

@@ -1,5 +1,5 @@
 #!/usr/bin/env bash
-# Tries the wrong bodies of a crate that stand outside the gate, in crates/CRATE/wrong-bodies/. The
+# Tries the wrong bodies of a crate that are outside the gate, in crates/CRATE/wrong-bodies/. The
 # prover must refuse each. Whoever changes a crate runs this for it.
 # It works on a copy of the crate and of the repository's libraries below it, so it changes nothing.
 # What is proved of those libraries already is taken over; the rest is proved first.

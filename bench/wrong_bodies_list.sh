@@ -6,7 +6,7 @@ set -euo pipefail
 cd "$(dirname "${BASH_SOURCE[0]}")/.."
 page=docs/WRONG_BODIES.md
 
-# The libraries of crates.txt in its order, then the rest.
+# The libraries of crates.txt in its order.
 crates() { sed -n 's/^\([a-z0-9_]*\)[ :].*/\1/p' crates.txt; }
 
 # One line for each edit of a folder.
