@@ -1,17 +1,19 @@
 #!/usr/bin/env bash
 # Times the loads of `live_bench`, whole calls on a running monitor, beside the bare words (`gt_bench`) and beside a
-# program in C that keeps its entries as Xen keeps them, under a lock for the table and one for each entry: the table's lock
-# with its readers in one word, or spread over a word for each thread. Whole calls are recorded (`on`), recorded into room
-# that was made before the first call (`ahead`), or not recorded (`off`). Prints millions of operations a second (a map or
-# an unmap is one), how many times longer a round of each kind of whole calls takes than one of bare words, and the ratios
-# of each kind to C with one word. Below the table are the instructions of a round on one thread, as valgrind counts them.
+# program in C that keeps its entries as Xen keeps them, under a lock for the table and one for each entry: the
+# table's lock with its readers in one word, or spread over a word for each thread. Whole calls are recorded (`on`),
+# recorded into room that was made before the first call (`ahead`), or not recorded (`off`). Prints millions of
+# operations a second (a map or an unmap is one), how many times longer a round of each kind of whole calls takes than
+# one of bare words, and the ratios of each kind to C with one word. Below the table are the instructions of a round
+# on one thread, as valgrind counts them.
 #
-# A second table has the loads of bytes: thousands of loads, stores and copies a second, beside a program in C with a mutex
-# for each frame (`live_bytes.c`), without a journal and with one, and the ratio to each. What C loses by its journal is what
-# a journal costs there. `bench/live.sh [RUNS] calls` or `bytes` prints the one table alone.
+# A second table has the loads of bytes: thousands of loads, stores and copies a second, beside a program in C with a
+# mutex for each frame (`live_bytes.c`), without a journal and with one, and the ratio to each. What C loses by its
+# journal is what a journal costs there. `bench/live.sh [RUNS] calls` or `bytes` prints the one table alone.
 #
-# `bench/live.sh [RUNS] [TABLE]` makes so many runs of each program by turns (11), and takes from their time that of no rounds.
-# `PRIORITY='chrt -f 1' bench/live.sh` runs the programs before other work; `bench/live.sh 0` counts instructions alone.
+# `bench/live.sh [RUNS] [TABLE]` makes so many runs of each program by turns (11), and takes from their time that of
+# no rounds. `PRIORITY='chrt -f 1' bench/live.sh` runs the programs before other work; `bench/live.sh 0` counts
+# instructions alone.
 set -euo pipefail
 
 top="$(cd "$(dirname "${BASH_SOURCE[0]}")/.." && pwd)"
@@ -35,8 +37,8 @@ done
 programs=(live_bench-on live_bench-ahead live_bench-off gt_bench counted spread)
 movers=(live_bench plain journal)
 
-# How often each thread of a program does what it does, in a run that is long enough to be timed. A journal keeps what is
-# written, so there is no memory for long runs of stores and copies.
+# How often each thread of a program does what it does, in a run that is long enough to be timed. A journal keeps what
+# is written, so there is no memory for long runs of stores and copies.
 rounds_of() {
   case "$1 $2" in
     *" load-"* | plain*) echo 500000 ;;

@@ -1,10 +1,11 @@
-// The loads of bytes of `live_bench` in C: frames of 4,096 bytes under a mutex each, mappings under handles, and entries
-// as in live_tables.c, whose table has a reader-writer lock and each entry a ticket lock. -DJOURNAL keeps, for each
-// write, a record of its writer, its entry, its place and its bytes, as the frames of `gt_frames` do.
+// The loads of bytes of `live_bench` in C: frames of 4,096 bytes under a mutex each, mappings under handles, and
+// entries as in live_tables.c, whose table has a reader-writer lock and each entry a ticket lock. -DJOURNAL keeps,
+// for each write, a record of its writer, its entry, its place and its bytes, as the frames of `gt_frames` do.
 //
-// `PROGRAM LOAD THREADS ROUNDS` prints the load, the threads and the rounds done in all, as `live_bench` does. LOAD is
-// `load-64`, `load-4096`, `store-64`, `store-4096`, `copy-64` or `copy-4096`. Each thread has a page of its own that the
-// owner granted to it. A load answers fresh memory with the bytes read, a copy takes a pin and gives it back.
+// `PROGRAM LOAD THREADS ROUNDS` prints the load, the threads and the rounds done in all, as `live_bench` does. LOAD
+// is `load-64`, `load-4096`, `store-64`, `store-4096`, `copy-64` or `copy-4096`. Each thread has a page of its own
+// that the owner granted to it. A load answers fresh memory with the bytes read, a copy takes a pin and gives it
+// back.
 #include <pthread.h>
 #include <stdatomic.h>
 #include <stdbool.h>
@@ -129,7 +130,8 @@ static void unpin(struct domain *owner, uint32_t reference, bool writes) {
     atomic_fetch_sub_explicit(&owner->readers, 1, memory_order_release);
 }
 
-// Writes bytes to a locked frame; the source may overlap the range written. With a journal the record has its own bytes.
+// Writes bytes to a locked frame; the source may overlap the range written. With a journal the record has its own
+// bytes.
 static bool lay(const struct caller *caller, struct frame *frame, uint16_t offset, const uint8_t *bytes, uint16_t length) {
 #ifdef JOURNAL
     if (frame->records == frame->room) {

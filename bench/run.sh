@@ -1,8 +1,9 @@
 #!/usr/bin/env bash
 # Runs `gthost run` where the system refuses it threads, memory or the disk, and judges each run. It is no part of the
 # gate. Each run must end within a minute by itself, and tell its fault in one line. What it printed must be a
-# beginning of the whole text, and nothing where a thread was refused. Where a call finds no memory it is answered N26,
-# and a record that finds none counts as lost: then the lines, and how many records there are, must be those of the whole.
+# beginning of the whole text, and nothing where a thread was refused. Where a call finds no memory it is answered
+# N26, and a record that finds none counts as lost: then the lines, and how many records there are, must be those of
+# the whole.
 #
 # - Sixteen domains under less and less address space (`ulimit -v`), until the program does not start any more. Each
 #   thread takes some 8 MiB of it for its stack. Some of these runs must be refused a thread.
@@ -22,8 +23,9 @@ declare -A ends
 # Tells that a run is wrong.
 wrong() { echo "wrong: $1"; failed=1; }
 
-# What a text is like whose calls may have been refused memory: N26 is then an answer like others, and changes those that
-# follow from it. So of each answer its line and its domain are kept, and of each audit line its domain and its call.
+# What a text is like whose calls may have been refused memory: N26 is then an answer like others, and changes those
+# that follow from it. So of each answer its line and its domain are kept, and of each audit line its domain and its
+# call.
 alike() { sed -E 's/^([0-9]+ [0-9]+) .*/\1/; s/^(audit [0-9]+ [a-z]+) .*/\1/; /^lost /d' "$1"; }
 
 # How many audit lines a text has, together with those that it tells as lost.

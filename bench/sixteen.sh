@@ -1,8 +1,8 @@
 #!/usr/bin/env bash
-# Runs `gthost run` on a script of 16 domains with 1,000 lines each, whose order the script fixes where they meet: prints how
-# many lines it writes, whether ten runs write the same, the least seconds of them, and what valgrind finds lost at its end.
-# Each domain grants a page to the next one, maps that of the one before, stores, loads, copies, pokes and peeks, and takes
-# its page back once the next one is through with it.
+# Runs `gthost run` on a script of 16 domains with 1,000 lines each, whose order the script fixes where they meet:
+# prints how many lines it writes, whether ten runs write the same, the least seconds of them, and what valgrind finds
+# lost at its end. Each domain grants a page to the next one, maps that of the one before, stores, loads, copies,
+# pokes and peeks, and takes its page back once the next one is through with it.
 #
 # `bench/sixteen.sh [RUNS]` makes so many runs (10).
 set -euo pipefail

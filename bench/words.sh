@@ -1,10 +1,10 @@
 #!/usr/bin/env bash
-# Times the loads of `gt_bench` beside two programs in C: one that makes the same steps on the same words by hand, and one
-# with a ticket lock for each entry. Prints millions of operations a second (a map, an unmap, a grant or a revocation is
-# one) and the ratios of `gt_bench` to the two.
+# Times the loads of `gt_bench` beside two programs in C: one that makes the same steps on the same words by hand, and
+# one with a ticket lock for each entry. Prints millions of operations a second (a map, an unmap, a grant or a
+# revocation is one) and the ratios of `gt_bench` to the two.
 #
-# `bench/words.sh [RUNS]` makes so many runs of each program by turns (21), and takes from their time that of no rounds. Where
-# the machine has other work, `PRIORITY='chrt -f 1' bench/words.sh` runs the programs before it.
+# `bench/words.sh [RUNS]` makes so many runs of each program by turns (21), and takes from their time that of no
+# rounds. Where the machine has other work, `PRIORITY='chrt -f 1' bench/words.sh` runs the programs before it.
 set -euo pipefail
 
 top="$(cd "$(dirname "${BASH_SOURCE[0]}")/.." && pwd)"

@@ -5,7 +5,7 @@ ghost use Rattle.gt_handles.specs.Listing.{TakenIsCounted, TakenIsUnlisted};
 use crate::handles::Handles;
 
 impl<T> Handles<T> {
-    /// A law: a new map has the values of no list.
+    /// A law: a new map lists no value.
     pub fn nothing_is_listed()
         ensures { NothingIsListed T }
     {}

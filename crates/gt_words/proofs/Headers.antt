@@ -1,4 +1,4 @@
--- StepsOnControl on a header word keep the rule, and take the shown state to the one that their event gives.
+-- Steps on a header word keep the rule, and take the shown state to the one that their event gives.
 use Rattle.std.proofs.Common.{◌≡◌, ◌≢◌, ◌⊎◌, inl, inr, ⊎_elim, ℕ, ◌*◌, ◌<◌, ◌≤◌, Bool, true, false, cond, ◌==◌, List, [], ◌∷◌, map, get_or, set, sym, refl, ap, ◌∙◌, subst, arith, length-set, get_or-set_other, get_or-set_same, eq-eqb, ne_eqb, Option, Some, None, IfSome, if◌then◌else◌}
 use mathlib.Core.Option.{some, none}
 use mathlib.Core.Logic.{dite}
