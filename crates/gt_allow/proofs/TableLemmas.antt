@@ -12,7 +12,8 @@ use Rattle.gt_types.specs.declared.perms.Perms.{Perms}
 use Rattle.gt_types.specs.Names.{is_permission}
 use Rattle.gt_policy.specs.Allowing.{lists_perm}
 use Rattle.gt_policy.specs.Rows.{Lane, reaches}
-use Rattle.gt_allow.specs.Looking.{holds_at, looks, no_perms, IsRow, AreRows}
+use Rattle.gt_allow.specs.Looking.{holds_at, looks, IsRow, AreRows}
+use Rattle.gt_policy.specs.Resolving.{no_perms}
 
 abbrev holds_set : Perms → Perms → Bool
 holds_set set perm = is_permission perm && lists_perm set perm

@@ -4,6 +4,7 @@ use Rattle.std.specs.List.{slice_index_or}
 use Rattle.gt_types.specs.Names.{is_permission}
 use Rattle.gt_types.specs.declared.perms.Perms.{Perms}
 use Rattle.gt_policy.specs.Allowing.{lists_perm}
+use Rattle.gt_policy.specs.Resolving.{no_perms}
 use Rattle.gt_policy.specs.Rows.{Lane, reaches}
 
 -- the number of types, and for each pair of them the permissions that the source has
@@ -11,10 +12,6 @@ use Rattle.gt_policy.specs.Rows.{Lane, reaches}
 pub record Table : Type 0 where
   pub count : ℕ
   pub sets : List Perms
-
--- no permission (own)
-abbrev pub no_perms : Perms
-no_perms = record { 0 = 0 }
 
 -- the set at a place holds this one permission (own)
 abbrev pub holds_at : List Perms → ℕ → Perms → Bool
