@@ -75,7 +75,8 @@ answered-up : (h : History) (d : DomId) (p : Held) (handle : Handle) → maps_an
 unfolding maps_answered_at
 answered-up h d p handle = rw (same-number d.0) (omega arith)
 
--- a pin that is taken on a valid entry, and lawful, keeps what the core stands for, where the domain's mappings are those that it then has
+-- a lawful pin, taken on a valid entry, keeps what the core stands for, where the domain's mappings are those that it
+-- then has
 pub pin-stands : (s : Setting) (h : History) (xs ys : List State) (x : State) (p : Held) (answer : Option Answer) (kept : HandleMap Held) (o : Option Open) → DomainsStand s h xs → state_of xs x.id.0 ≡ Some x → Agrees s h x
     → ((q : ℕ) → state_of ys q ≡ cond (x.id.0 == q) (Some (record x { mappings = kept; underway = o })) (state_of xs q))
     → entry_at h p.dom.0 p.gref.0 ≢ Invalid → IsFew h (new_pin h x.id p answer) → IsLawful s (new_pin h x.id p answer)
