@@ -8,7 +8,8 @@ abbrev pub IsMoving : Phase → Type 0
 IsMoving (Ending pins verdict) = ⊥
 IsMoving phase = Unit {0}
 
--- a call that stands here has this to come, has shown nothing yet and holds nothing, and makes a step, with so many to come at the most
+-- a call that stands here has this to come, has shown nothing yet and holds nothing, and makes a step, with so many to
+-- come at the most
 pub record Begins (k : CallerKnowledge) (grammar : Continuation) (caller : DomId) (request : Asked) (steps : Continuation) (phase : Phase) (most : ℕ) : Type 0 where
   pub same : remains k caller phase ≡ steps
   pub shown : HasShown k grammar caller request [] phase

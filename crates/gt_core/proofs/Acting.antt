@@ -1,6 +1,6 @@
 -- What each step of an open call rests on, by the history.
-use Rattle.gt_core.proofs.Words.{◌≡◌, ◌≢◌, ◌<◌, ◌≤◌, ◌+◌, ◌⊎◌, inl, inr, ℕ, refl, Bool, true, false, List, [], ◌∷◌, Option, None, sym, ap, ◌∙◌, subst, reverse, arith, eqb-false, leb-false, ltb-false, false≢true, ◌==◌, nat_lt, domain_of, resolved, DomId, GrantRef, Dir, Read, Write, ForMap, TABLE_ENTRIES, LAST_GENERATION, MAX_TABLE_FRAMES, MAX_PINS, Rule, N16, Entry, Invalid, Page, Sub, Via, Change, Publish, ToInvalid, ToReadOnly, ToWritable, Half, FirstHalf, SecondHalf, frame_of, permits, control_of, Held, Asked, Grant, Map, Copy, SetVersion, SetupTable, Seen, PinStep, StoreHeader, Exchange, Makes, Aim, Mapping, Source, Dest, Phase, Exchanging, Changing, Walking, Last, Ending, Leg, LegPhase, Pinning, last_first, CallerKnowledge, begun, stands, first, first_look, before_pin, frames_of, path, held_of, map_leg, Continuation, opens, RestsOnRequest, IsFor, action_at, leg_step, HasShown, IsQuiet, State, History, Setting, entry_at, generation_at, body_at, reads_at, writes_at, control_at, word_at, known_at, legs_at, raise_of, IsSafeChange, IsSpelled, MayUse, leg_at, rule_before_pin, StepsSoFar, DomainsStand, FitsAsked, FitsTable, PhaseStands, numbered, Demote, Promote, pins_so_far, map_dir, Pins, Step, LAST_VERSION, N14, N17, pins_of, is_outside, is_past_owner, RestsOnTry, RestsOnGrant, Lets, NoneStands, RestsOnWord}
-use Rattle.gt_core.proofs.{Phases.by-leg, Phases.none-of, Phases.IsHere, Phases.makes-same, Phases.words-of, Phases.word-below, Phases.grant-invalid, Phases.of-run, Phases.by-giving, Seeing.word-shows, Judging.writes-shown, Aims.leg-here, Legs.IsAsTried, Legs.as-tried, Legs.still-judged, Legs.control-parts, Pinning.pins_at, Exchanging.FitsChange, Keeping.counts-fit, Phases.idle-pins}
+use Rattle.gt_core.proofs.Words.{◌≡◌, ◌≢◌, ◌<◌, ◌≤◌, ◌+◌, ◌⊎◌, inl, inr, ℕ, refl, Bool, true, false, List, [], ◌∷◌, None, sym, ap, ◌∙◌, subst, reverse, arith, eqb-false, leb-false, ltb-false, false≢true, domain_of, resolved, DomId, GrantRef, Dir, Read, Write, ForMap, TABLE_ENTRIES, LAST_GENERATION, MAX_TABLE_FRAMES, MAX_PINS, N16, Entry, Invalid, Page, Sub, Via, Change, Publish, ToInvalid, ToReadOnly, ToWritable, Half, FirstHalf, SecondHalf, frame_of, permits, control_of, Held, Asked, Grant, Map, Copy, SetVersion, SetupTable, Seen, PinStep, StoreHeader, Exchange, Makes, Aim, Mapping, Source, Dest, Phase, Exchanging, Changing, Walking, Last, Ending, Leg, Pinning, last_first, CallerKnowledge, begun, stands, first, first_look, frames_of, path, held_of, map_leg, Continuation, opens, RestsOnRequest, IsFor, action_at, HasShown, IsQuiet, State, History, Setting, entry_at, generation_at, body_at, reads_at, writes_at, control_at, word_at, known_at, legs_at, raise_of, IsSafeChange, IsSpelled, MayUse, leg_at, rule_before_pin, StepsSoFar, DomainsStand, FitsAsked, FitsTable, PhaseStands, numbered, Demote, Promote, pins_so_far, map_dir, Pins, Step, LAST_VERSION, N14, N17, pins_of, is_outside, is_past_owner, RestsOnTry, RestsOnGrant, Lets, NoneStands, RestsOnWord}
+use Rattle.gt_core.proofs.{Phases.by-leg, Phases.none-of, Phases.IsHere, Phases.makes-same, Phases.words-of, Phases.word-below, Phases.grant-invalid, Phases.of-run, Phases.by-giving, Steps.See.word-shows, Judging.writes-shown, Aims.leg-here, Legs.IsAsTried, Legs.as-tried, Legs.still-judged, Legs.control-parts, Steps.Pin.pins_at, Steps.Exchange.FitsChange, Keeping.counts-fit, Phases.idle-pins}
 
 -- an owner's change
 

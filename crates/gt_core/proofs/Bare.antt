@@ -1,7 +1,6 @@
 -- What a history leaves is the same without keys.
 use Rattle.gt_core.proofs.Words.{◌≡◌, ◌+◌, ◌⊎◌, inl, inr, ℕ, refl, Bool, true, false, List, [], ◌∷◌, ◌++◌, map, Option, Some, None, cond, sym, ap, ◌∙◌, ◌==◌, option_map, fun_ext, DomId, Entry, Header, Change, Half, asked, given_by, Request, Asked, Unmap, Load, Store, ByMapping, Seen, Step, Unpin, Answer, Happened, Began, Stepped, Item, Patch, written, History, Setting, Underway, Writing, entry_at, entry_after, change_at, change_of, raises_at, raise_after, body_at, or_else, stored_at, table_at, header_or, header_stored, open_call, underway_with, underway_after, maps_answered_at, one_if_mapped, contents_at, patches_by, patches_at, written_by, given_in, values, bare_handle, bare_request, bare_step, bare_happened, told, told_item, told_items, ToldItem, SameHistory, Held, Handle, arith}
 use Rattle.gt_core.specs.declared.trace.Answer.TheVariants.{Done}
-use Rattle.gt_calls.specs.declared.request.Request.TheVariants as requests
 
 -- an answer that tells this, where bytes are no matter
 abbrev pub answer_from : Answer ⊎ List ℕ → Answer

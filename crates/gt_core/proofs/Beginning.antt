@@ -1,7 +1,6 @@
 -- A beginning keeps what a core stands for.
-use Rattle.gt_core.proofs.Words.{arith, ◌≤◌, ◌≡◌, ◌≢◌, ◌<◌, ◌+◌, inl, inr, ℕ, refl, Bool, true, false, List, [], ◌∷◌, length, Option, Some, None, sym, ap, ◌∙◌, subst, get_or, set, reverse, eqb-true, true≢false, slice_get_read, same_Some, position-Some, nat_lt, nat_le, ◌==◌, ◌||◌, not, is_none, is_some, position, slice_get, domain_of, resolved, denial_of, DomId, TypeId, Read, Write, Perms, Triple, FRAME_SIZE, LAST_GENERATION, MAX_TABLE_FRAMES, Rule, N1, N5, N6, N9, N10, N16, Policy, Entry, Header, Change, ToReadOnly, ToWritable, Held, Request, CopyArgs, Asked, Grant, Revoke, Demote, Promote, Map, Unmap, Load, SetVersion, SetupTable, QuerySize, GetVersion, Store, Peek, Poke, Copy, Seen, Verdict, Given, Refused, FramesTold, Makes, Done, END_OF_SERIALS, Call, Phase, Walking, Accessing, Ending, Source, Dest, AtHeader, asked, begun_of, given_by, CallerKnowledge, first, refused_when, denied, unmap_denied, rights_to_map, rights_to_copy, size_of, begun, knowledge_of, frames_of, is_source_granted, is_dest_granted, opens, end_leg, action_at, at_dest, StandsAt, held_in, pins_at, GoesOn, Goes, Starts, path, Nothing, Step, Action, Rests, Pins, most_of, steps_left, Item, Began, Answer, AnswerDone, Open, State, state_of, kept_by, with_call, History, Setting, table_at, known_at, Underway, open_call, legs_at, one_if_mapped, LeavesAll, stood, AnsweredBy, GivesValue, refusal_in, refusal_of, IsRight, IsClean, phase_refusal, FitsAsked, PhaseStands, OpenAgrees, CallAgrees, FitsGiven, GivenAgrees, Agrees, StateAgrees, DomainsStand, Opens, numbered, misses, ◌^◌, MAX_MAPPINGS, N2, N3, N4, N7, N8, N20, N21, N22, N23, N24, field_refused, bytes_begun, IsSaid, granted_when, given_when, rights_to_unmap, rights_to_setup, rights_to_query, map_dir, is_already, change_begun, version_begun, setup_begun, query_begun, own_access_begun, is_version, has_valid, cannot_stand, is_for_reading, ends_named, ends_ranged, ends_owned, ends_framed, is_foreign, is_past_frames, first_phase, unmap_phase, load_phase, store_phase, IsFresh, IsAt, pins_by_call, MakesStep, steps_to_come, Frames, asks_memory, WantsMemory, IsOpened, answer_of, cond_both, All-nil, Field, first_refused, StartOpen, OpeningOpen}
-use Rattle.gt_calls.specs.{declared.held.Route.TheVariants.Own, Rules.is_invalid}
-use Rattle.gt_core.{specs.Standing.IsMapping, proofs.Keeping.KeepsEntries, proofs.Keeping.known-same, proofs.Keeping.open_call-own, proofs.Keeping.stood-own, proofs.Keeping.given-none, proofs.Keeping.quiet-stands, proofs.Others.KeepsKnown, proofs.Others.kept-known, proofs.Others.kept-legs, proofs.Placing.dest-leads, proofs.Phases.of-run, proofs.Rows.has_id, proofs.Rows.found, proofs.Rows.not-found, proofs.Rows.state_of-set}
+use Rattle.gt_core.proofs.Words.{arith, ◌≤◌, ◌≡◌, ◌≢◌, ◌<◌, ◌+◌, inl, ℕ, refl, true, false, List, [], ◌∷◌, length, Option, Some, None, sym, ap, ◌∙◌, subst, get_or, set, reverse, eqb-true, slice_get_read, position-Some, ◌==◌, is_some, position, slice_get, domain_of, DomId, Header, Held, Request, Asked, Seen, Verdict, Makes, Done, Call, Phase, asked, begun_of, given_by, CallerKnowledge, first, begun, knowledge_of, action_at, StandsAt, held_in, pins_at, GoesOn, Goes, Starts, Nothing, Step, Action, Rests, Pins, most_of, steps_left, Item, Began, Answer, Open, State, state_of, kept_by, with_call, History, Setting, table_at, known_at, Underway, open_call, legs_at, one_if_mapped, stood, AnsweredBy, GivesValue, refusal_in, refusal_of, IsRight, IsClean, phase_refusal, FitsAsked, PhaseStands, OpenAgrees, CallAgrees, FitsGiven, GivenAgrees, Agrees, StateAgrees, DomainsStand, Opens, numbered, misses, ◌^◌, IsSaid, first_phase, IsAt, pins_by_call, steps_to_come, asks_memory, WantsMemory, IsOpened, answer_of, cond_both, StartOpen, OpeningOpen}
+use Rattle.gt_core.{specs.Standing.IsMapping, proofs.Keeping.KeepsEntries, proofs.Keeping.known-same, proofs.Keeping.open_call-own, proofs.Keeping.stood-own, proofs.Keeping.given-none, proofs.Keeping.quiet-stands, proofs.Steps.Observers.KeepsKnown, proofs.Steps.Observers.kept-known, proofs.Steps.Observers.kept-legs, proofs.Rows.has_id, proofs.Rows.found, proofs.Rows.not-found, proofs.Rows.state_of-set}
 use Rattle.gt_calls.specs.declared.request.Request.TheVariants as requests
 
 -- beginnings

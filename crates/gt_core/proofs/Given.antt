@@ -1,8 +1,7 @@
 -- The handles that domains were answered: each serial once, and each mapping under one of them.
 use Rattle.gt_core.proofs.Words.{◌≡◌, ◌≤◌, ◌<◌, ◌+◌, inl, inr, ℕ, refl, Bool, true, false, List, [], ◌∷◌, Option, Some, None, cond, sym, ap, ◌∙◌, subst, arith, ◌==◌, ◌&&◌, eqb-true, eq-eqb, DomId, Denial, Handle, END_OF_SERIALS, Asked, Holder, ByMapping, ByLeg, Held, Seen, Step, Unpin, Makes, Verdict, asked, CallerKnowledge, begun, Continuation, after_beginning, steps_of, IsMapping, Answer, Happened, Began, Stepped, Item, History, Setting, Underway, Pin, live, same_handle, pinned_by, unpinned_by, open_call, underway_after, maps_answered_at, one_if_mapped, known_at, values, IsRight, StepsRightIn, AnsweredBy, bare_handle, IsGiven, IsKnown, AsksKnown, HappensKnown, IsRun, cond_both, All-nil, All}
 use Rattle.std.proofs.lemmas.List.Elements.{All-append, All-weaker}
-use Rattle.gt_core.proofs.{Others.all-without}
-use Rattle.gt_calls.specs.declared.request.Asked.TheVariants as requests
+use Rattle.gt_core.proofs.{Steps.Observers.all-without}
 use Rattle.gt_core.specs.declared.trace.Answer.TheVariants as answers
 
 -- a map that is answered

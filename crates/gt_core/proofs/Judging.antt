@@ -1,11 +1,11 @@
 -- The refusal that a step leads to is the first rule that stands, and where the call stands then.
-use Rattle.gt_core.proofs.Words.{◌≡◌, ◌+◌, ◌-◌, ℕ, zero, suc, refl, Bool, true, false, List, [], ◌∷◌, Option, Some, None, cond, sym, ap, ◌∙◌, subst, arith, nat_lt, nat_le, ◌==◌, ◌&&◌, ◌||◌, not, lt-ltb, eqb-true, eq-eqb, true≢false, false≢true, DomId, GrantRef, N10, N18, N19, Denial, MAX_TRIES, Entry, Invalid, Via, Control, Change, Publish, ToInvalid, ToReadOnly, ToWritable, allows_direction, control_of, MORE_TRIES, Held, Asked, Verdict, Step, LookHeader, LookControl, Exchange, Seen, Taken, Missed, Makes, Aim, Mapping, Source, Dest, Question, AsksSize, AsksVersion, Phase, Exchanging, Looking, Changing, Asking, Ending, Leg, LegPhase, CallerKnowledge, first, stands, first_look, is_kind, Continuation, end_leg, IsFor, IsOnFrom, RestsOnWord, phase_after, leg_after, leg_step, after_store, refused_as, next_to_give, IsTurn, History, Setting, word_at, control_at, entry_at, generation_at, reads_at, writes_at, known_at, seen_by, StepsSoFar, misses, is_demote, at_entry, first_at, refusal_in, or_then, PhaseStands, LegStands, Asks, phase_refusal, Write, Read, Pins, N11, N12, N13, N15, KindPage, KindVia, is_copying, after_own_miss, rule_at_via, cond_both, ltb-false, ltb-true, lt-leb, ◌<◌, inl}
+use Rattle.gt_core.proofs.Words.{◌≡◌, ◌+◌, ◌-◌, ℕ, zero, suc, refl, Bool, true, false, List, [], ◌∷◌, Option, Some, None, cond, sym, ap, ◌∙◌, subst, arith, nat_lt, nat_le, ◌==◌, ◌&&◌, ◌||◌, not, lt-ltb, eqb-true, eq-eqb, true≢false, false≢true, DomId, GrantRef, N18, N19, Denial, MAX_TRIES, Entry, Invalid, Via, Control, Change, Publish, ToInvalid, ToReadOnly, ToWritable, allows_direction, control_of, MORE_TRIES, Asked, Step, LookHeader, LookControl, Exchange, Seen, Taken, Missed, Aim, Mapping, Source, Dest, Question, AsksSize, AsksVersion, Phase, Exchanging, Looking, Changing, Asking, Leg, LegPhase, CallerKnowledge, first, stands, first_look, Continuation, end_leg, IsFor, IsOnFrom, RestsOnWord, phase_after, leg_after, leg_step, after_store, refused_as, IsTurn, History, Setting, word_at, control_at, entry_at, generation_at, reads_at, writes_at, known_at, seen_by, StepsSoFar, misses, is_demote, at_entry, first_at, option_or, PhaseStands, LegStands, Asks, phase_refusal, Write, Read, N11, N12, N13, N15, is_copying, rule_at_via, cond_both, ltb-false, ltb-true, lt-leb, ◌<◌, inl}
 use Rattle.gt_entry.specs.Spelling.{control_with}
-use Rattle.gt_core.proofs.{Aims.pair_of, Legs.Words, Legs.IsAsTried, Legs.TakesNone, Legs.leg-comes, Legs.ComesTo, Legs.IsLegOf, Legs.control-parts, Legs.misses-look, Legs.few, Phases.makes-same, Phases.IsPublished, Phases.idle-here, Legs.late-last, Legs.late-more, Phases.idle-pins}
+use Rattle.gt_core.proofs.{Aims.pair_of, Legs.Words, Legs.TakesNone, Legs.leg-comes, Legs.ComesTo, Legs.IsLegOf, Legs.control-parts, Legs.misses-look, Legs.few, Phases.IsPublished, Phases.idle-here, Legs.late-last, Legs.late-more, Phases.idle-pins}
 
 -- the first rule that stands at this step, or before it, is the refusal that the call comes to
 abbrev pub Judged : Setting → History → DomId → Asked → StepsSoFar → Phase → Step → Type 0
-Judged s h d r so_far phase step = or_then (phase_refusal phase) (first_at s h d r so_far step) ≡ phase_refusal (phase_after (known_at s h d) d phase (seen_by s h d step))
+Judged s h d r so_far phase step = option_or (phase_refusal phase) (first_at s h d r so_far step) ≡ phase_refusal (phase_after (known_at s h d) d phase (seen_by s h d step))
 
 -- a grant
 
@@ -131,6 +131,6 @@ pub asked-judged : (s : Setting) (h : History) (d : DomId) (r : Asked) (so_far :
 asked-judged s h d r so_far dom AsksSize a = subst (λ (z : Asked). Judged s h d z so_far (Asking dom AsksSize) (LookHeader dom)) (sym a.1) refl
 asked-judged s h d r so_far dom AsksVersion a = subst (λ (z : Asked). Judged s h d z so_far (Asking dom AsksVersion) (LookHeader dom)) (sym a.1) refl
 
-pub then-none : (o : Option Denial) → or_then o None ≡ o
+pub then-none : (o : Option Denial) → option_or o None ≡ o
 then-none None = refl
 then-none (Some d) = refl

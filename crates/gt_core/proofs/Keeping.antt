@@ -1,6 +1,6 @@
 -- What stays of a core's agreement with a history after one item more.
 use Rattle.gt_core.proofs.Words.{◌≡◌, ◌≢◌, ◌<◌, ◌+◌, ℕ, refl, Bool, true, false, List, ◌∷◌, length, Option, Some, None, cond, sym, ap, ◌∙◌, subst, eqb-true, eq-eqb, none-some, domain_of, ◌==◌, ◌&&◌, All, count_by, slice_get, option_map, fun_ext, DomId, Read, Write, TABLE_ENTRIES, Entry, Invalid, Header, Half, FirstHalf, SecondHalf, IsEntry, HandleMap, Held, control_with, knowledge_of, PinCounts, Open, Item, Answer, Stepped, Step, Seen, changed_at, State, state_of, changed_in, History, Setting, live, entry_at, generation_at, body_at, table_at, reads_at, writes_at, control_at, known_at, mappings_at, maps_answered_at, is_pin_on, open_call, underway_after, Underway, change_at, stored_at, header_stored, IsSpelled, stood, first_of_item, IsLawful, FitsTable, FitsWord, SlotAgrees, MappingsAgree, Agrees, StateAgrees, DomainsStand, CallAgrees, GivenAgrees, Dir, by_mapping, slot_after, with_slot, stood_with, MAX_PINS, cond_both, CountsChange, arith}
-use Rattle.gt_core.proofs.{Rows.get-changed, Rows.length-changed, Rows.state-changed, Mappings.mappings-same, Others.pulled, Others.unstored, Others.KeepsKnown, Others.KeepsAll, Others.cond-same, Others.kept-table, Others.kept-live, Others.answered-stays, Others.kept-entry, Others.kept-raises, Others.other-entry, Others.other-body, Others.other-maps, Others.other-raises, Others.other-pins, Others.other-table, Others.other-known, Placing.place-stays}
+use Rattle.gt_core.proofs.{Rows.get-changed, Rows.length-changed, Rows.state-changed, Mappings.mappings-same, Steps.Observers.pulled, Steps.Observers.unstored, Steps.Observers.KeepsKnown, Steps.Observers.KeepsAll, Steps.Observers.cond-same, Steps.Observers.kept-table, Steps.Observers.kept-live, Steps.Observers.answered-stays, Steps.Observers.kept-entry, Steps.Observers.kept-raises, Steps.Observers.other-entry, Steps.Observers.other-body, Steps.Observers.other-maps, Steps.Observers.other-raises, Steps.Observers.other-pins, Steps.Observers.other-table, Steps.Observers.other-known, Placing.place-stays}
 
 -- what a domain itself knows is what the core keeps of it
 pub known-same : (s : Setting) (h : History) (d : State) → Agrees s h d

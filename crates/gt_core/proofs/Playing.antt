@@ -1,6 +1,6 @@
 -- One event more, and what stands for each event.
 use Rattle.gt_core.proofs.Words.{◌≡◌, ◌<◌, ◌+◌, ℕ, refl, length, get_or, take, List, [], ◌∷◌, ◌++◌, sym, ap, ◌∙◌, subst, take_more, Event, Element, Result, OnErr, DomId, TypeId, Perms, Config, Request, frame_counts, FrameSet, all_zeros, AreKept, Begin, Tick, Begun, State, DomainsStand, CoreStands, Does, setting_of, begun_element, ticked_element, History, Setting, LegalAfter, MayDo, grown, history_after, IfOk, Ok, Err, Ticked, CoreState, StandsForSome, DoesAlone, Memory, Bool}
-use Rattle.gt_core.{specs.States.core_of, proofs.Framing.frames-begun, proofs.Framing.frames-start}
+use Rattle.gt_core.{specs.States.core_of, proofs.Steps.Write.frames-begun, proofs.Steps.Write.frames-start}
 
 -- one event more
 pub legal-more : (s : Setting) (h : History) (es : List Event) (xs : List Element) (e : Event) (x : Element) → LegalAfter s h es xs → MayDo s (history_after h xs) e x

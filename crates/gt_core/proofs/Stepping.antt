@@ -1,6 +1,6 @@
 -- What the core does for a step of an open call: it is right, and the core stands for it.
-use Rattle.gt_core.proofs.Words.{◌≡◌, ◌≢◌, inl, inr, ℕ, refl, Bool, List, [], ◌∷◌, ◌++◌, length, Option, Some, None, cond, sym, ap, ◌∙◌, subst, reverse, eqb-true, eq-eqb, length-reverse, reverse_onto, same_Some, ◌==◌, DomId, GrantRef, Denial, Entry, Invalid, Half, Handle, Held, Asked, ByMapping, ByLeg, Seen, Nothing, Taken, Missed, Verdict, Granted, Given, KeptPin, Refused, Step, PinStep, Unpin, StoreBody, StoreHeader, Exchange, ReadBytes, WriteBytes, CopyBytes, Action, Makes, Done, Call, Phase, Storing, Walking, Last, Ending, last_first, knowledge_of, path, phase_after, action_at, after_store, HasShown, pins_at, held_in, Goes, Open, Item, Answer, Denied, AnswerDone, Mapped, State, state_of, sees, History, Setting, live, word_at, known_at, legs_at, mappings_at, mapping_of, seen_by, Underway, values, open_call, underway_after, holder_after, one_if_mapped, StepsRight, GivesValue, refusal_in, refusal_of, DomainsStand, Agrees, CallAgrees, OpenAgrees, numbered, position, get_or, set, position-Some, domain_of, Value, FramesTold, BytesAnswer, HandleMap, applied, with_underway, with_mapping, Adds, IsReadable, IsAdmitted, AccessedBy, bytes_at, FrameSet, frame_at, contents_at, IsRight, StepsRightIn, CoreStands, FramesStand, core_of, Settled, IsLawful, IsLawfullyHeld, answer_with, Closed, IsRoomFor, IsMapping, ticked_with, ticked_element, Element, Tick, MayDo, Does, Did, grown, without, RestsOnRequest, WantsMemoryNow, IsWritingNext, TickTold, IsWriting, cond_both, CallerKnowledge, GivenAgrees, take, drop}
-use Rattle.gt_core.{proofs.Values.call-ends, proofs.Pinning.pins, proofs.Pinning.map-legs, proofs.Pinning.new_pin, proofs.Pinning.pin-stands, proofs.Pinning.map-agrees, proofs.Pinning.leg-agrees as pin-agrees, proofs.Keeping.stepped, proofs.Keeping.KeepsEntries, proofs.Keeping.open_call-own, proofs.Keeping.quiet-stands, proofs.Others.KeepsKnown, proofs.Placing.IsStore, proofs.Phases.IsHere, proofs.Phases.makes-same, proofs.Phases.by-giving, proofs.Storing.header-stands, proofs.Storing.store-stands, proofs.Framing.bytes-held, proofs.Framing.open-admitted, proofs.Framing.open-readable, proofs.Framing.frames-stepped, proofs.Outcomes.next_of, proofs.Outcomes.ends-so, proofs.Ticking.Ticks, proofs.Ticking.ticks, proofs.Ticking.given-goes-on, proofs.Ticking.legs-after, proofs.Ticking.open-after, proofs.Ticking.goes-right, proofs.Ticking.ends-right, proofs.Ticking.last-fact, proofs.Ticking.LastFact, proofs.Ticking.by-storing, proofs.Ticking.seen_in, proofs.Ticking.phase_then, proofs.Ticking.history_then, proofs.Unpinning.Loses, proofs.Unpinning.unpin-stands, proofs.Unpinning.becomes-unpinned, proofs.Unpinning.loses-leg, proofs.Unpinning.loses-mapping, proofs.Unpinning.mapping-agrees, proofs.Unpinning.leg-agrees as unpin-agrees, proofs.Acting.can-change, proofs.Acting.can-pin, proofs.Acting.store-invalid, proofs.Acting.header-fits, proofs.Acting.map-lawful, proofs.Acting.CanPin, proofs.Exchanging.exchange-stands, proofs.Beginning.agrees-found, proofs.Rows.has_id, proofs.Rows.found, proofs.Rows.state_of-set, specs.declared.trace.Bytes.Bytes}
+use Rattle.gt_core.proofs.Words.{◌≡◌, ◌≢◌, inl, inr, ℕ, refl, Bool, List, [], ◌∷◌, ◌++◌, length, Option, Some, None, cond, sym, ap, ◌∙◌, subst, reverse, eqb-true, eq-eqb, length-reverse, reverse_onto, same_Some, ◌==◌, DomId, GrantRef, Entry, Invalid, Handle, Held, Asked, ByMapping, ByLeg, Seen, Nothing, Taken, Missed, Verdict, Granted, Given, KeptPin, Refused, Step, PinStep, Unpin, StoreBody, StoreHeader, Exchange, ReadBytes, Action, Makes, Done, Call, Phase, knowledge_of, path, action_at, after_store, pins_at, held_in, Goes, Open, Item, Answer, Denied, AnswerDone, Mapped, State, state_of, sees, History, Setting, live, word_at, known_at, legs_at, mappings_at, mapping_of, seen_by, Underway, values, open_call, underway_after, holder_after, one_if_mapped, StepsRight, GivesValue, refusal_in, refusal_of, DomainsStand, Agrees, CallAgrees, OpenAgrees, numbered, position, get_or, set, position-Some, domain_of, Value, FramesTold, BytesAnswer, HandleMap, applied, with_underway, with_mapping, Adds, IsReadable, IsAdmitted, AccessedBy, bytes_at, FrameSet, frame_at, contents_at, IsRight, StepsRightIn, CoreStands, FramesStand, core_of, Settled, IsLawful, IsLawfullyHeld, answer_with, Closed, IsRoomFor, IsMapping, ticked_with, ticked_element, Element, Tick, MayDo, Does, Did, grown, without, RestsOnRequest, WantsMemoryNow, IsWritingNext, TickTold, IsWriting, cond_both, CallerKnowledge, GivenAgrees, take, drop}
+use Rattle.gt_core.{proofs.Values.call-ends, proofs.Steps.Pin.pins, proofs.Steps.Pin.map-legs, proofs.Steps.Pin.new_pin, proofs.Steps.Pin.pin-stands, proofs.Steps.Pin.map-agrees, proofs.Steps.Pin.leg-agrees as pin-agrees, proofs.Keeping.stepped, proofs.Keeping.open_call-own, proofs.Keeping.quiet-stands, proofs.Placing.IsStore, proofs.Phases.IsHere, proofs.Steps.Store.header-stands, proofs.Steps.Store.store-stands, proofs.Steps.Write.bytes-held, proofs.Steps.Write.open-admitted, proofs.Steps.Write.open-readable, proofs.Steps.Write.frames-stepped, proofs.Outcomes.next_of, proofs.Outcomes.ends-so, proofs.Ticking.Ticks, proofs.Ticking.ticks, proofs.Ticking.given-goes-on, proofs.Ticking.legs-after, proofs.Ticking.open-after, proofs.Ticking.goes-right, proofs.Ticking.ends-right, proofs.Ticking.last-fact, proofs.Ticking.LastFact, proofs.Ticking.by-storing, proofs.Ticking.seen_in, proofs.Ticking.phase_then, proofs.Ticking.history_then, proofs.Steps.Unpin.Loses, proofs.Steps.Unpin.unpin-stands, proofs.Steps.Unpin.becomes-unpinned, proofs.Steps.Unpin.loses-leg, proofs.Steps.Unpin.loses-mapping, proofs.Steps.Unpin.mapping-agrees, proofs.Steps.Unpin.leg-agrees as unpin-agrees, proofs.Acting.can-change, proofs.Acting.can-pin, proofs.Acting.store-invalid, proofs.Acting.header-fits, proofs.Acting.map-lawful, proofs.Acting.CanPin, proofs.Steps.Exchange.exchange-stands, proofs.Beginning.agrees-found, proofs.Rows.has_id, proofs.Rows.found, proofs.Rows.state_of-set, specs.declared.trace.Bytes.Bytes}
 
 -- the states where just the actor's call, or its handles or bytes, are others
 abbrev Replaced : List State → List State → State → State → Type 0
@@ -256,7 +256,8 @@ settled-before : (fs gs : FrameSet) (xs new : List State) (at : ℕ) (x d : Stat
 settled-before fs gs xs new at x d old call (ReadBytes dom frame off len) (Done Granted) answer wrote (a, is, closed) = (a, is, subst (λ (z : FrameSet). Closed z xs at d (ReadBytes dom frame off len) a new) wrote closed)
 settled-before fs gs xs new at x d old call step action answer wrote a = a
 
--- a tick whose step is told so, where the frames and the states then are those that its step and its call's settling left
+-- what a tick does whose step is told so; the frames and the states then are those that its step and its call's
+-- settling left
 pub tick-does : (s : Setting) (fs gs ks : FrameSet) (xs ys zs : List State) (dom : DomId) (at : ℕ) (x : State) (o : Open) (seen : Seen) (new : Call) (action : Action) (answer : Option Answer) (told : TickTold) → told ≡ ticked_with o.step seen answer
     → Begins s xs dom at x o seen new action → AccessedBy x o.call o.step fs gs → Settled gs xs at x o.step new action answer zs → ys ≡ applied dom o.step seen zs → ks ≡ gs → Does s (core_of xs fs) (Tick dom) (ticked_element dom told) (core_of ys ks)
 tick-does s fs gs ks xs ys zs dom at x o seen new action answer told is b wrote settled left same = λ h st.

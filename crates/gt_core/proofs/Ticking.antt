@@ -1,7 +1,7 @@
 -- A step of an open call is right, and the core stands for it.
-use Rattle.gt_core.proofs.Words.{◌≡◌, ◌≢◌, ◌<◌, ◌≤◌, ◌+◌, ◌⊎◌, inl, inr, ℕ, suc, refl, true, List, [], ◌∷◌, ◌++◌, length, Option, Some, None, sym, ap, ◌∙◌, subst, reverse, arith, eqb-true, map-append, length-append, length-reverse, reverse_onto, none-some, same_Some, ◌==◌, All, DomId, GrantRef, Denial, Entry, Invalid, Sub, Change, Half, FirstHalf, SecondHalf, Held, Pins, Asked, Demote, ByMapping, ByLeg, Seen, Nothing, Taken, Missed, Verdict, Granted, KeptPin, Step, PinStep, Unpin, StoreBody, StoreHeader, Exchange, ReadBytes, WriteBytes, CopyBytes, Action, Makes, Done, Call, Phase, Storing, StoringSecond, Walking, Last, Ending, last_first, no_pins, CallerKnowledge, knowledge_of, path, Rests, phase_after, action_at, next_to_give, after_store, StandsAt, HasShown, pins_at, held_in, Goes, GoesOn, most_of, steps_left, Open, Item, Answer, Stepped, State, state_of, sees, History, Setting, Pin, entry_at, word_at, table_at, known_at, legs_at, mappings_at, maps_answered_at, seen_by, Underway, values, open_call, underway_after, holder_after, one_if_mapped, StepsSoFar, StepsRight, Justified, IsSafe, PinIsSound, AnsweredBy, GivesValue, LeavesAll, IsSpelled, gives_back, verdict_in, refusal_in, refusal_of, refusal_if, or_then, first_of_item, first_in_call, stood, most_steps, DomainsStand, Agrees, OpenAgrees, GivenAgrees, FitsGiven, PhaseStands, IsClean, phase_refusal, numbered, exchange_sees, gather, by_leg, header_stored, IsSubPage, Leg, LegPhase, leg_step, Continuation, body_at, second_body, publishing, RestsOnRequest, stored_at, first_body, reverse-append, FitsNext, HoldsAfter, cond_both}
+use Rattle.gt_core.proofs.Words.{◌≡◌, ◌≢◌, ◌<◌, ◌≤◌, ◌+◌, ◌⊎◌, inl, inr, ℕ, suc, refl, true, List, [], ◌∷◌, ◌++◌, length, Option, Some, None, sym, ap, ◌∙◌, subst, reverse, arith, eqb-true, map-append, length-append, length-reverse, reverse_onto, none-some, same_Some, ◌==◌, All, DomId, GrantRef, Denial, Entry, Invalid, Sub, Change, FirstHalf, SecondHalf, Held, Pins, Asked, Demote, ByMapping, ByLeg, Seen, Nothing, Taken, Missed, Verdict, Granted, KeptPin, Step, PinStep, Unpin, StoreBody, StoreHeader, Exchange, ReadBytes, WriteBytes, CopyBytes, Action, Makes, Done, Call, Phase, Storing, StoringSecond, Walking, Last, Ending, last_first, no_pins, CallerKnowledge, knowledge_of, path, Rests, phase_after, action_at, next_to_give, StandsAt, HasShown, pins_at, held_in, Goes, GoesOn, most_of, steps_left, Open, Answer, State, state_of, sees, History, Setting, Pin, entry_at, word_at, known_at, legs_at, seen_by, Underway, values, open_call, underway_after, holder_after, one_if_mapped, StepsSoFar, StepsRight, Justified, IsSafe, PinIsSound, AnsweredBy, GivesValue, LeavesAll, gives_back, verdict_in, refusal_in, refusal_of, refusal_if, option_or, first_of_item, first_in_call, stood, most_steps, DomainsStand, Agrees, OpenAgrees, GivenAgrees, FitsGiven, PhaseStands, IsClean, phase_refusal, numbered, exchange_sees, gather, by_leg, Continuation, second_body, RestsOnRequest, first_body, reverse-append, FitsNext, HoldsAfter, cond_both}
 use Rattle.gt_calls.specs.Following.{Advances}
-use Rattle.gt_core.proofs.{Others.unstored, Others.known-as, Others.kept-entry, Others.kept-raises, Others.KeepsKnown, Others.kept-known, Others.kept-legs, Others.kept-table, Others.answered-stays, Storing.stores, Storing.half-stored, Storing.first-stays, Keeping.stepped, Keeping.KeepsEntries, Keeping.known-same, Keeping.open_call-own, Keeping.stood-own, Placing.IsStore, Placing.place-stays, Phases.by-leg, Phases.IsHere, Phases.makes-same, Phases.seen-fits, Phases.by-giving, Phases.call-is, Seeing.sees-agree, Unpinning.unpins, Unpinning.leg-left, Unpinning.leg-mappings, Unpinning.mapping-legs, Unpinning.from-zero, Pinning.pins, Pinning.leg-grows, Pinning.leg-maps, Acting.can-change, Acting.can-pin, Acting.store-invalid, Exchanging.exchanged-live, Accessing.read-justified, Accessing.write-justified, Accessing.copy-justified, Outcomes.next_of, Outcomes.IsSingle, Outcomes.single-ends, Outcomes.taken-ends, Outcomes.clean-next, Outcomes.ends-so, Placing.each-step, Placing.OfStep}
+use Rattle.gt_core.proofs.{Steps.Observers.unstored, Steps.Observers.known-as, Steps.Observers.kept-entry, Steps.Observers.kept-raises, Steps.Observers.kept-known, Steps.Observers.kept-legs, Steps.Observers.kept-table, Steps.Observers.answered-stays, Steps.Store.half-stored, Steps.Store.first-stays, Keeping.stepped, Keeping.known-same, Keeping.open_call-own, Keeping.stood-own, Placing.IsStore, Placing.place-stays, Phases.by-leg, Phases.IsHere, Phases.makes-same, Phases.seen-fits, Phases.by-giving, Phases.call-is, Steps.See.sees-agree, Steps.Unpin.unpins, Steps.Unpin.leg-left, Steps.Unpin.leg-mappings, Steps.Unpin.mapping-legs, Steps.Unpin.from-zero, Steps.Pin.pins, Steps.Pin.leg-grows, Steps.Pin.leg-maps, Acting.can-change, Acting.can-pin, Acting.store-invalid, Steps.Exchange.exchanged-live, Steps.Access.read-justified, Steps.Access.write-justified, Steps.Access.copy-justified, Outcomes.next_of, Outcomes.IsSingle, Outcomes.single-ends, Outcomes.taken-ends, Outcomes.clean-next, Outcomes.ends-so, Placing.each-step, Placing.OfStep}
 
 -- a call in this phase
 abbrev pub call_at : DomId → Asked → Phase → Call
@@ -153,8 +153,8 @@ module _ {s : Setting} {h : History} {xs : List State} {x : State} {o : Open} {c
   -- the first rule that stood at the places of the call, up to this step
   pub stood-after : (answer : Option Answer) → stood s (history_then answer) x.id.0 ≡ phase_refusal phase_then
   stood-after answer = let i = stepped x.id o.step seen_in answer in
-      stood-own s i h ∙ ap (λ (z : Option Denial). or_then z (first_of_item s h i)) t.stands.fair
-      ∙ ap (λ (u : Option Underway). or_then (phase_refusal t.stands.phase) (first_in_call s h x.id i.happened u)) t.call ∙ each.3
+      stood-own s i h ∙ ap (λ (z : Option Denial). option_or z (first_of_item s h i)) t.stands.fair
+      ∙ ap (λ (u : Option Underway). option_or (phase_refusal t.stands.phase) (first_in_call s h x.id i.happened u)) t.call ∙ each.3
 
   pin-fact : PinFact h o.step seen_in
   pin-fact p is saw = let i = subst (IsHere s h xs x.id c.request (values c) (reverse c.steps) t.stands.phase) is t.i in

@@ -1,9 +1,7 @@
--- What an event does after a history, but for keys, is a function of the history, and the same without keys; so runs that are alike stay so.
-use Rattle.gt_core.proofs.Words.{◌≡◌, ◌≢◌, ◌⊎◌, inl, inr, ℕ, refl, Bool, false, List, [], ◌∷◌, ◌++◌, length, Option, Some, None, sym, ap, ◌∙◌, subst, take, drop, option_map, none-some, same_Some, domain_of, DomId, DomainConfig, Denial, N6, MAX_TABLE_FRAMES, Header, header_word, Handle, asked, begun_of, CallerKnowledge, first, refused_when, unmap_denied, path, after_beginning, Held, Request, Asked, Map, Unmap, Load, Store, Peek, SetupTable, QuerySize, GetVersion, Holder, ByMapping, Seen, Word, Step, LookHeader, LookControl, LookBody, PinStep, Unpin, StoreHeader, Exchange, ReadBytes, WriteBytes, Action, Makes, Verdict, Answer, Event, Begin, Tick, Happened, Began, Stepped, Item, Element, Busy, Idle, NoDomain, Did, History, Setting, Underway, open_call, values, known_at, seen_by, exchange_sees, table_at, maps_answered_at, contents_at, mappings_at, mapping_of, MayDo, IsRight, StepsRight, StepsRightIn, AnsweredBy, GivesValue, refusal_of, refusal_in, verdict_in, gives_back, stood, bare_handle, bare_request, bare_event, bare_step, told, told_item, ToldItem, AsksKnown, IsOfKnown, IsRun, unmap_begun, load_begun, store_begun, Ends, BeginsRight, grown, told_items, SameHistory, HappensKnown, AreAlike, IsOf, SameEvent, SameElement, arith}
-use Rattle.std.proofs.Common.{is_none}
-use Rattle.gt_calls.specs.Path.{by_mapping}
-use Rattle.gt_core.{specs.History.frame_of, proofs.Pins.word-bare, proofs.Pins.mapping-bare, proofs.Pins.known-bare, proofs.Bare.bare, proofs.Bare.bared, proofs.Bare.bare_asked, proofs.Bare.bare_call, proofs.Bare.asked-bare, proofs.Bare.values-bare, proofs.Bare.contents-bare, proofs.Bare.bare-same, proofs.Given.CallKnown, proofs.Given.open-known}
-use Rattle.gt_calls.specs.declared.request.Request.TheVariants as requests
+-- What an event does after a history, but for keys, is a function of the history. It is the same without keys. So runs
+-- that are alike stay so.
+use Rattle.gt_core.proofs.Words.{◌≡◌, ◌≢◌, ◌⊎◌, inl, inr, ℕ, refl, Bool, List, [], ◌∷◌, ◌++◌, Option, Some, None, sym, ap, ◌∙◌, take, drop, option_map, domain_of, DomId, DomainConfig, Denial, MAX_TABLE_FRAMES, Header, header_word, Handle, asked, begun_of, CallerKnowledge, path, Held, Request, Asked, Map, Unmap, Load, Store, Peek, SetupTable, QuerySize, GetVersion, Seen, Word, Step, LookHeader, LookControl, LookBody, PinStep, StoreHeader, Exchange, ReadBytes, Action, Makes, Verdict, Answer, Event, Begin, Tick, Happened, Began, Stepped, Item, Element, Busy, Idle, NoDomain, Did, History, Setting, Underway, open_call, values, known_at, seen_by, exchange_sees, table_at, maps_answered_at, contents_at, mappings_at, mapping_of, MayDo, IsRight, StepsRight, AnsweredBy, refusal_in, verdict_in, bare_handle, bare_request, bare_event, bare_step, told, told_item, ToldItem, AsksKnown, IsOfKnown, IsRun, Ends, BeginsRight, grown, told_items, SameHistory, HappensKnown, AreAlike, IsOf, SameEvent, SameElement, arith}
+use Rattle.gt_core.{proofs.Pins.word-bare, proofs.Pins.mapping-bare, proofs.Pins.known-bare, proofs.Bare.bare, proofs.Bare.bared, proofs.Bare.bare_asked, proofs.Bare.bare_call, proofs.Bare.asked-bare, proofs.Bare.values-bare, proofs.Bare.contents-bare, proofs.Bare.bare-same, proofs.Given.CallKnown, proofs.Given.open-known}
 use Rattle.gt_core.specs.declared.trace.Answer.TheVariants as answers
 
 -- paths

@@ -1,6 +1,6 @@
 -- How a call reads and writes bytes in frames: the code's own representation.
 -- It is in specs/ because private contracts cite it.
-use Rattle.std.specs.Prelude.{◌≡◌, ℕ, List, length, Option, Some, None, IsTrue}
+use Rattle.std.specs.Prelude.{◌≡◌, ℕ, List, length, IsTrue}
 use Rattle.gt_handles.specs.Handles.{HandleMap, value_of}
 use Rattle.gt_calls.specs.declared.held.Held.{Held}
 use Rattle.gt_calls.specs.declared.held.Route.{Route}
@@ -11,6 +11,7 @@ use Rattle.gt_calls.specs.declared.action.Place.{Place}
 use Rattle.gt_calls.specs.declared.action.Step.{Step}
 use Rattle.gt_calls.specs.declared.action.Step.TheVariants.{Read as ReadBytes, Write as WriteBytes, Copy as CopyBytes}
 use Rattle.gt_calls.specs.declared.call.Call.{Call}
+use Rattle.gt_calls.specs.Holding.{begun_route}
 use Rattle.gt_calls.specs.Standing.{pins_by_call}
 use Rattle.gt_frames.specs.declared.places.FrameName.{FrameName}
 use Rattle.gt_frames.specs.declared.writ.Ground.{Ground}
@@ -30,18 +31,13 @@ ground_of Own = Owned
 ground_of (Direct p) = Granted p.entry
 ground_of (Through via p) = Forwarded via.entry via.dom p.entry
 
--- the route by the pin of a mapping (own)
-abbrev pub route_by : Option Held → Route
-route_by None = Own
-route_by (Some m) = Direct m
-
 -- the route by which a call writes: by the pin of a store's mapping, or by those of a copy's destination; else to the
 -- caller's own frame (own)
 abbrev pub route_of : HandleMap Held → Call → Route
 route_of mappings call = by call.request
   where
     by : Asked → Route
-    by (Store handle off len) = route_by (value_of mappings handle)
+    by (Store handle off len) = begun_route (value_of mappings handle)
     by (Copy c) = (pins_by_call call).dest
     by request = Own
 

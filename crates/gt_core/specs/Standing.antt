@@ -1,5 +1,5 @@
--- When a core stands for a history. The upper half, up to `IsRoomFor`, describes the code's own representation. It is
--- in specs/ because private contracts cite it.
+-- When a core stands for a history. Most of it describes the code's own representation: its states, handles, pin counts
+-- and phases. It is in specs/ because contracts cite it, most of them private.
 use Rattle.std.specs.Prelude.{◌≡◌, ◌≢◌, ◌<◌, ◌≤◌, ◌+◌, ◌⊎◌, reverse, ℕ, Bool, true, false, List, [], ◌∷◌, Option, Some}
 use Rattle.std.specs.Prelude.{None, slice_get, length, All}
 use Rattle.gt_types.specs.Names.{domain_of}
@@ -204,7 +204,8 @@ abbrev pub IsRoomFor : Asked → Action → Type 0
 IsRoomFor request (Ends (KeptPin held)) = IsMapping (Some request)
 IsRoomFor request action = Unit {0}
 
--- a run can't start for this reason: the first fault of its configuration, or, where that has none, refused memory (own)
+-- a run can't start for this reason: the first fault of its configuration, or, where that has none, refused memory
+-- (own)
 abbrev pub IsStartFaultOf : Config → StartFault → Type 0
 IsStartFaultOf config (ConfigFault fault) = IsFirstFault config fault
 IsStartFaultOf config NoMemory = IsWithinLimits config

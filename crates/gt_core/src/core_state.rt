@@ -1,5 +1,5 @@
 //! The core: a machine over events.
-ghost use Rattle.std.specs.Prelude.{◌≡◌, List, [], IfOk, IfErr, OnErr, IsOk};
+ghost use Rattle.std.specs.Prelude.{◌≡◌, [], IfOk, IfErr, OnErr, IsOk};
 ghost use Rattle.gt_types.specs.Config.{IsWithinLimits};
 ghost use Rattle.gt_core.specs.Legal.{Legal};
 ghost use Rattle.gt_core.specs.Standing.{Does, IsStartFaultOf, setting_in, setting_of};

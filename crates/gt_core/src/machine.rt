@@ -1,5 +1,5 @@
 //! The words and frames of a core, and what its calls do to them.
-ghost use Rattle.std.specs.Prelude.{◌≡◌, ◌<◌, List, [], length, slice_get, set, map, IfOk, IfErr, OnOk, OnErr, IsOk};
+ghost use Rattle.std.specs.Prelude.{◌≡◌, ◌<◌, [], length, slice_get, map, IfOk, IfErr, OnErr, IsOk};
 ghost use Rattle.std.specs.Prelude.{Option, Some, None};
 ghost use Rattle.gt_types.specs.Config.{IsWithinLimits};
 ghost use Rattle.gt_calls.specs.Rules.{knows};

@@ -1,5 +1,5 @@
 //! What is kept of an entry beside what its owner knows.
-ghost use Rattle.std.specs.Prelude.{◌≡◌, ◌≤◌, ◌+◌, min, if◌then◌else◌};
+ghost use Rattle.std.specs.Prelude.{◌≡◌, ◌≤◌, ◌+◌, min};
 ghost use Rattle.gt_core.specs.Effects.{slot_after};
 
 use gt_calls::Half;

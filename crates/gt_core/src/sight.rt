@@ -1,5 +1,5 @@
 //! What steps see, over plain lists.
-ghost use Rattle.std.specs.Prelude.{◌≡◌, true, false};
+ghost use Rattle.std.specs.Prelude.{◌≡◌};
 ghost use Rattle.gt_core.specs.Sight.{reads_in, writes_in, control_in, body_in, control_seen, header_seen, body_seen};
 ghost use Rattle.gt_core.specs.Sight.{exchange_sees, sees};
 
@@ -62,7 +62,7 @@ fn look_control(domains: &[DomainState], dom: DomId, gref: GrantRef) -> u64
     0
 }
 
-pub fn look_body(domains: &[DomainState], dom: DomId, gref: GrantRef, half: Half) -> u64
+fn look_body(domains: &[DomainState], dom: DomId, gref: GrantRef, half: Half) -> u64
     ensures { result ≡ body_seen domains.now dom.0 gref.0 half }
 {
     for domain in domains {

@@ -1,6 +1,6 @@
 -- A header, or a body word of an invalid entry, that its owner stores keeps what a core stands for.
 use Rattle.gt_core.proofs.Words.{◌≡◌, ◌%◌, ℕ, refl, Bool, true, List, ◌∷◌, Option, Some, None, cond, sym, ap, ◌∙◌, arith, subst, ◌==◌, DomId, Header, StoreHeader, Nothing, Open, Item, Answer, State, state_of, changed_in, with_header, History, Setting, header_or, table_at, one_if_mapped, open_call, FitsTable, Agrees, DomainsStand, CallAgrees, GivenAgrees, ◌≢◌, GrantRef, Invalid, Half, FirstHalf, SecondHalf, StoreBody, Stored, with_slot, entry_at, body_at}
-use Rattle.gt_core.proofs.{Others.unstored, Others.KeepsKnown, Others.kept-live, Others.other-table, Others.kept-table, Keeping.stepped, Keeping.SlotsAgree, Keeping.actor-agrees, Keeping.kept-stands, Keeping.mappings-stay, Keeping.same-number, Keeping.Moves, Keeping.slots-kept, Keeping.each-stays, Keeping.becomes-changed, Keeping.own-changed, Keeping.slots-stand}
+use Rattle.gt_core.proofs.{Steps.Observers.unstored, Steps.Observers.KeepsKnown, Steps.Observers.kept-live, Steps.Observers.other-table, Steps.Observers.kept-table, Keeping.stepped, Keeping.SlotsAgree, Keeping.actor-agrees, Keeping.kept-stands, Keeping.mappings-stay, Keeping.same-number, Keeping.Moves, Keeping.slots-kept, Keeping.each-stays, Keeping.becomes-changed, Keeping.own-changed, Keeping.slots-stand}
 
 -- the item of a header that is stored
 abbrev pub headed : DomId → ℕ → ℕ → Option Answer → Item

@@ -1,6 +1,6 @@
 -- A pin that was taken keeps what a core stands for.
 use Rattle.gt_core.proofs.Words.{◌≡◌, ◌≢◌, ◌<◌, ◌+◌, ℕ, refl, Bool, true, List, [], ◌∷◌, ◌++◌, length, Option, Some, cond, sym, ap, ◌∙◌, arith, subst, ◌==◌, ◌&&◌, All, count_by, All-push, append-nil, DomId, Dir, Read, Write, MAX_PINS, Invalid, Half, FirstHalf, SecondHalf, HandleMap, Handle, Held, Holder, ByLeg, PinStep, Taken, PinCounts, Open, Item, Answer, Mapped, State, state_of, changed_in, with_slot, slot_after, Adds, History, Setting, Pin, live, entry_at, body_at, reads_at, writes_at, mappings_at, maps_answered_at, legs_at, open_call, is_pin_on, same_dir, FitsWord, control_at, gather, by_mapping, by_leg, holder_after, one_if_mapped, IsLawful, SlotAgrees, Agrees, DomainsStand, CallAgrees, GivenAgrees, MappingsAgree, sum_by_push}
-use Rattle.gt_core.{specs.declared.pin_counts.CountsChange.TheVariants.Pinned, proofs.Others.answered-stays, proofs.Others.gather-append, proofs.Keeping.stepped, proofs.Keeping.KeepsEntries, proofs.Keeping.same-body, proofs.Keeping.becomes-changed, proofs.Keeping.slots-stand, proofs.Keeping.keeps-stands, proofs.Keeping.same-number, proofs.Mappings.mappings-added, proofs.Mappings.mappings-same}
+use Rattle.gt_core.{specs.declared.pin_counts.CountsChange.TheVariants.Pinned, proofs.Steps.Observers.answered-stays, proofs.Steps.Observers.gather-append, proofs.Keeping.stepped, proofs.Keeping.KeepsEntries, proofs.Keeping.same-body, proofs.Keeping.becomes-changed, proofs.Keeping.slots-stand, proofs.Keeping.keeps-stands, proofs.Keeping.same-number, proofs.Mappings.mappings-added, proofs.Mappings.mappings-same}
 
 abbrev pub pins_at : History → ℕ → ℕ → Dir → ℕ
 pins_at h t r dir = count_by (is_pin_on t r dir) (live h)
@@ -75,7 +75,8 @@ answered-up : (h : History) (d : DomId) (p : Held) (handle : Handle) → maps_an
 unfolding maps_answered_at
 answered-up h d p handle = rw (same-number d.0) (omega arith)
 
--- a pin that is taken on a valid entry, and lawful, keeps what the core stands for, where the domain's mappings are those that it then has
+-- a lawful pin, taken on a valid entry, keeps what the core stands for, where the domain's mappings are those that it
+-- then has
 pub pin-stands : (s : Setting) (h : History) (xs ys : List State) (x : State) (p : Held) (answer : Option Answer) (kept : HandleMap Held) (o : Option Open) → DomainsStand s h xs → state_of xs x.id.0 ≡ Some x → Agrees s h x
     → ((q : ℕ) → state_of ys q ≡ cond (x.id.0 == q) (Some (record x { mappings = kept; underway = o })) (state_of xs q))
     → entry_at h p.dom.0 p.gref.0 ≢ Invalid → IsFew h (new_pin h x.id p answer) → IsLawful s (new_pin h x.id p answer)
