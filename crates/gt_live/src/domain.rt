@@ -28,7 +28,7 @@ use gt_types::{Allows, Denial, DomId, Facts, GrantRef, Memory, Rule, Size, TypeI
 use gt_words::Seat;
 use std::alloc::Global;
 
-/// A domain of the run: its seat, and what it knows by itself.
+/// A domain of the run: its seat, and what it knows by itself. It can't be dropped; `finish` takes it apart. (own)
 pub struct Domain {
     alloc: Global,
     seat: Seat,
@@ -54,7 +54,7 @@ impl Left {
         self.trail.records()
     }
 
-    /// How many records were lost, since memory was refused.
+    /// How many records were lost: memory was refused for them, or the trail keeps no more.
     pub fn lost(&self) -> u64
         ensures { result ≡ self.now.trail.lost }
     {
@@ -225,7 +225,8 @@ impl Domain {
         &self.seat
     }
 
-    /// The mapping under a handle, by whose pin the domain reaches any range of the mapping's frame.
+    /// The mapping under a handle, by whose pin the domain reaches any range of the mapping's frame; None where the
+    /// handle names none of its mappings.
     pub fn mapping<P: Allows>(&self, monitor: &Monitor<P>, handle: Handle) -> Option<Held>
         requires mine { IsOf P.may monitor.now self.now }
         ensures value { result ≡ value_of self.now.mappings handle }
@@ -408,7 +409,7 @@ impl Domain {
         done(self.call(monitor, Request::Revoke { gref }))
     }
 
-    /// Makes an entry of its own read-only, where it has no write pins.
+    /// Makes an entry of its own read-only, where it has no write pins. Ok without a change where it is so already.
     ///
     /// # Errors
     /// N9, N10, N22, or with the word found N18 or N19, and nothing changes.
@@ -423,7 +424,7 @@ impl Domain {
         done(self.call(monitor, Request::Demote { gref }))
     }
 
-    /// Makes an entry of its own writable.
+    /// Makes an entry of its own writable. Ok without a change where it is so already.
     ///
     /// # Errors
     /// N9, N10, N22, or with the word found N18, and nothing changes.
@@ -438,7 +439,8 @@ impl Domain {
         done(self.call(monitor, Request::Promote { gref }))
     }
 
-    /// Gives its table this version, 1 or 2, while all its entries are invalid.
+    /// Gives its table this version, 1 or 2, while all its entries are invalid. Ok without a change where it has that
+    /// version already.
     ///
     /// # Errors
     /// N2 or N24, and nothing changes.
@@ -460,7 +462,7 @@ impl Domain {
         done(self.told_call(monitor, Request::SetVersion { version }, call))
     }
 
-    /// Gives its table so many frames, where it has fewer, and answers how many it then has.
+    /// Gives its table so many frames, at most 4, where it has fewer, and answers how many it then has.
     ///
     /// # Errors
     /// N5 or N23, and nothing changes.
@@ -588,11 +590,13 @@ impl Domain {
         }
     }
 
-    /// Maps an entry of a domain, for reading and writing (flags 2) or for reading (flags 6).
+    /// Maps an entry of a domain, for reading and writing (flags 2) or for reading (flags 6): the bits host_map and
+    /// readonly of the public header. `DOMID_SELF` names the caller.
     ///
     /// # Errors
-    /// The first rule that stands; or N26, where none stands at the beginning and memory is refused. Mappings and pins
-    /// are as they were.
+    /// The first rule that stands: N1, N2, N5 or N8 at the beginning, N9 with the header's word, N10 to N13, N16, N17 or
+    /// N18 with the entry's. N26 where none stands at the beginning and memory is refused. Mappings and pins are as they
+    /// were.
     pub fn map<P: Allows>(
         &mut self,
         monitor: &Monitor<P>,

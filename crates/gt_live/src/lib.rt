@@ -1,16 +1,17 @@
 //! The monitor of a run: each domain is a value that moves into a thread.
 //!
 //! [`Monitor::new`] gives the monitor, which all threads share, and a [`Domain`] for each one
-//! configured. A call is driven along its path, as `gt_calls` says what comes next, and each step is
-//! made on the shared words of `gt_words`. Those that access bytes, and no others, take the lock of a
-//! frame for it (`gt_access`).
+//! configured. Each call makes the steps of its path in `gt_calls`, on the shared words of `gt_words`.
+//! Maps, unmaps and calls of one access make theirs themselves; all others ask the call's machine for
+//! the next one. Those that access bytes, and no others, take the lock of a frame for it (`gt_access`).
 //!
 //! What holds: what a call adds to its domain's steps is, action by action, the path of that call, with
 //! the answer that the path gives (`specs/Walks.antt`). Between calls a domain has just the pins of its
 //! mappings, and one that has left has none (`specs/Domains.antt`). An Ok of a call that accesses bytes
 //! is the receipt of just what its path accesses (`specs/Accesses.antt`).
 //!
-//! It uses `gt_calls`, `gt_words`, `gt_access`, `gt_frames`, `gt_handles` and `gt_audit`.
+//! It uses `gt_calls`, `gt_words`, `gt_access`, `gt_frames`, `gt_handles`, `gt_audit`, `gt_entry` and
+//! `gt_types`.
 #![tactic(auto)]
 
 mod domain;

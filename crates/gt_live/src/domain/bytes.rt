@@ -154,7 +154,7 @@ impl Domain {
     /// Writes `bytes` from the offset `off` on through a mapping.
     ///
     /// # Errors
-    /// N3, N6 or N7; or N26 or N16 at the access. Nothing changes, the frame neither.
+    /// N3, N6 or N7; or N26 or N16 at the access. Nothing changes, not even the frame.
     pub fn store<'a, R: Wait, P: Allows>(
         &mut self,
         rt: &R,
@@ -185,7 +185,7 @@ impl Domain {
     /// Writes `bytes` from the offset `off` on to a frame of its own.
     ///
     /// # Errors
-    /// N3 or N16; or N26 or N16 at the access. Nothing changes, the frame neither.
+    /// N3 or N16; or N26 or N16 at the access. Nothing changes, not even the frame.
     pub fn poke<'a, R: Wait, P: Allows>(
         &mut self,
         rt: &R,
