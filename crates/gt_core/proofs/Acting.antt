@@ -1,6 +1,6 @@
 -- What each step of an open call rests on, by the history.
-use Rattle.gt_core.proofs.Words.{◌≡◌, ◌≢◌, ◌<◌, ◌≤◌, ◌+◌, ◌⊎◌, inl, inr, ℕ, refl, Bool, true, false, List, [], ◌∷◌, None, sym, ap, ◌∙◌, subst, reverse, arith, eqb-false, leb-false, ltb-false, false≢true, domain_of, resolved, DomId, GrantRef, Dir, Read, Write, ForMap, TABLE_ENTRIES, LAST_GENERATION, MAX_TABLE_FRAMES, MAX_PINS, N16, Entry, Invalid, Page, Sub, Via, Change, Publish, ToInvalid, ToReadOnly, ToWritable, Half, FirstHalf, SecondHalf, frame_of, permits, control_of, Held, Asked, Grant, Map, Copy, SetVersion, SetupTable, Seen, PinStep, StoreHeader, Exchange, Makes, Aim, Mapping, Source, Dest, Phase, Exchanging, Changing, Walking, Last, Ending, Leg, Pinning, last_first, CallerKnowledge, begun, stands, first, first_look, frames_of, path, held_of, map_leg, Continuation, opens, RestsOnRequest, IsFor, action_at, HasShown, IsQuiet, State, History, Setting, entry_at, generation_at, body_at, reads_at, writes_at, control_at, word_at, known_at, legs_at, raise_of, IsSafeChange, IsSpelled, MayUse, leg_at, rule_before_pin, StepsSoFar, DomainsStand, FitsAsked, FitsTable, PhaseStands, numbered, Demote, Promote, pins_so_far, map_dir, Pins, Step, LAST_VERSION, N14, N17, pins_of, is_outside, is_past_owner, RestsOnTry, RestsOnGrant, Lets, NoneStands, RestsOnWord}
-use Rattle.gt_core.proofs.{Phases.by-leg, Phases.none-of, Phases.IsHere, Phases.makes-same, Phases.words-of, Phases.word-below, Phases.grant-invalid, Phases.of-run, Phases.by-giving, Steps.See.word-shows, Judging.writes-shown, Aims.leg-here, Legs.IsAsTried, Legs.as-tried, Legs.still-judged, Legs.control-parts, Steps.Pin.pins_at, Steps.Exchange.FitsChange, Keeping.counts-fit, Phases.idle-pins}
+use Rattle.gt_core.proofs.Words.{◌≡◌, ◌≢◌, ◌<◌, ◌≤◌, ◌+◌, ◌⊎◌, inl, inr, ℕ, refl, Bool, true, false, List, [], ◌∷◌, None, sym, ap, ◌∙◌, subst, reverse, arith, eqb-false, leb-false, ltb-false, false≢true, domain_of, resolved, DomId, GrantRef, Dir, Read, Write, ForMap, TABLE_ENTRIES, LAST_GENERATION, MAX_TABLE_FRAMES, MAX_PINS, N16, Entry, Invalid, Page, Sub, Via, Change, Publish, ToInvalid, ToReadOnly, ToWritable, Half, FirstHalf, SecondHalf, frame_of, permits, control_of, Held, Asked, Grant, Map, Copy, SetVersion, SetupTable, Seen, PinStep, StoreHeader, Exchange, Makes, Aim, Mapping, Source, Dest, Phase, Exchanging, Changing, Walking, Last, Ending, Leg, Pinning, last_first, CallerKnowledge, begun, stands, first, first_look, frames_of, path, held_of, map_leg, Continuation, opens, RestsOnRequest, IsFor, action_at, HasShown, IsQuiet, State, History, Setting, entry_at, generation_at, body_at, reads_at, writes_at, control_at, word_at, known_at, legs_at, raise_of, IsSafeChange, IsSpelled, MayUse, leg_at, rule_before_pin, StepsSoFar, DomainsStand, FitsAsked, FitsTable, PhaseStands, numbered, Demote, Promote, pins_so_far, map_dir, Pins, Step, LAST_VERSION, N14, N17, pins_of, is_outside, is_past_owner, RestsOnTry, RestsOnGrant, Lets, NoneStands, RestsOnWord, IsLegalHistory}
+use Rattle.gt_core.proofs.{Phases.by-leg, Phases.none-of, Phases.IsHere, Phases.makes-same, Phases.words-of, Phases.word-below, Phases.grant-invalid, Phases.of-run, Phases.by-giving, Steps.See.word-shows, Judging.writes-shown, Aims.leg-here, Legs.IsAsTried, Legs.as-tried, Legs.still-judged, Legs.control-parts, Steps.Observers.pins_at, Steps.Exchange.FitsChange, Keeping.counts-fit, Phases.idle-pins}
 
 -- an owner's change
 
@@ -96,11 +96,11 @@ pins-now : (s : Setting) (h : History) (t r : ℕ) (dir : Dir) → (reads_at h t
 pins-now s h t r Read a = ((control-parts (entry_at h t r) (generation_at s h t r) (reads_at h t r) (writes_at h t r)).1, a.0)
 pins-now s h t r Write a = ((control-parts (entry_at h t r) (generation_at s h t r) (reads_at h t r) (writes_at h t r)).2, a.1)
 
-taken-pin : (s : Setting) (h : History) (xs : List State) (d : DomId) (r : Asked) (so_far : StepsSoFar) (aim : Aim) (l : Leg) (more word body second : ℕ) → DomainsStand s h xs → IsFor (known_at s h d) d r aim l
+taken-pin : (s : Setting) (h : History) (xs : List State) (d : DomId) (r : Asked) (so_far : StepsSoFar) (aim : Aim) (l : Leg) (more word body second : ℕ) → IsLegalHistory s h → DomainsStand s h xs → IsFor (known_at s h d) d r aim l
     → legs_at h d.0 ≡ numbered 0 (reverse (last_first (pins_so_far aim))) → PhaseStands s h d r so_far (Walking aim l (Pinning more word body second)) → word_at s h l.dom.0 l.gref.0 ≡ word
     → CanPin s h d r (held_of l word body second)
-taken-pin s h xs d r so_far aim l more word body second st is held place same =
-    let a : IsAsTried s h l word body second = as-tried s h l so_far more word body second None place.1.0 place.1.1 (words-of s h xs l st) same in
+taken-pin s h xs d r so_far aim l more word body second legal st is held place same =
+    let a : IsAsTried s h l word body second = as-tried s h l so_far more word body second None place.1.0 place.1.1 (words-of s h xs l legal st) same in
     let p : Held = held_of l word body second in
     let judged : rule_before_pin s h l l.dom l.gref ≡ None = still-judged s h l word body second a ∙ place.1.1.judged in
     let q = pins-now s h l.dom.0 l.gref.0 l.dir (counts-fit s h l.dom.0 l.gref.0 (st.words l.dom.0 l.gref.0 place.1.0.within)) in
@@ -118,7 +118,7 @@ can-pin s h xs d r shown so_far phase p i same = by phase i.at.has_shown i.place
   by : (z : Phase) → HasShown (known_at s h d) (path (known_at s h d) d r) d r shown z → PhaseStands s h d r so_far z → action_at d z ≡ Makes (PinStep p)
       → legs_at h d.0 ≡ numbered 0 (reverse (last_first (Rattle.gt_calls.specs.Standing.pins_at z))) → CanPin s h d r p
   by (Walking aim l (Pinning more word body second)) a b e held = let q : held_of l word body second ≡ p = cc in
-      subst (CanPin s h d r) q (taken-pin s h xs d r so_far aim l more word body second i.st a.1 held b (subst (λ (z : Held). word_at s h z.dom.0 z.gref.0 ≡ z.word) (sym q) same))
+      subst (CanPin s h d r) q (taken-pin s h xs d r so_far aim l more word body second i.legal i.st a.1 held b (subst (λ (z : Held). word_at s h z.dom.0 z.gref.0 ≡ z.word) (sym q) same))
   by (Walking aim l at) a b e held = cc
   by (Last last verdict) a b e held = absurd (subst IsQuiet (makes-same _ _ e) a.0)
   by (Ending pins verdict) a b e held = absurd (by-giving (λ (z : Step). z ≡ PinStep p → ⊥) (λ q n f. cc) (last_first pins) verdict _ e refl)

@@ -1,7 +1,7 @@
 -- The refusal that a step leads to is the first rule that stands, and where the call stands then.
 use Rattle.gt_core.proofs.Words.{◌≡◌, ◌+◌, ◌-◌, ℕ, zero, suc, refl, Bool, true, false, List, [], ◌∷◌, Option, Some, None, cond, sym, ap, ◌∙◌, subst, arith, nat_lt, nat_le, ◌==◌, ◌&&◌, ◌||◌, not, lt-ltb, eqb-true, eq-eqb, true≢false, false≢true, DomId, GrantRef, N18, N19, Denial, MAX_TRIES, Entry, Invalid, Via, Control, Change, Publish, ToInvalid, ToReadOnly, ToWritable, allows_direction, control_of, MORE_TRIES, Asked, Step, LookHeader, LookControl, Exchange, Seen, Taken, Missed, Aim, Mapping, Source, Dest, Question, AsksSize, AsksVersion, Phase, Exchanging, Looking, Changing, Asking, Leg, LegPhase, CallerKnowledge, first, stands, first_look, Continuation, end_leg, IsFor, IsOnFrom, RestsOnWord, phase_after, leg_after, leg_step, after_store, refused_as, IsTurn, History, Setting, word_at, control_at, entry_at, generation_at, reads_at, writes_at, known_at, seen_by, StepsSoFar, misses, is_demote, at_entry, first_at, option_or, PhaseStands, LegStands, Asks, phase_refusal, Write, Read, N11, N12, N13, N15, is_copying, rule_at_via, cond_both, ltb-false, ltb-true, lt-leb, ◌<◌, inl}
+use Rattle.gt_core.proofs.{Aims.pair_of, Legs.Words, Legs.TakesNone, Legs.ComesTo, Legs.IsLegOf, Legs.control-parts, Legs.misses-look, Legs.few, Phases.IsPublished, Phases.idle-here, Legs.late-last, Legs.late-more, Phases.idle-pins, Legs.leg-comes}
 use Rattle.gt_entry.specs.Spelling.{control_with}
-use Rattle.gt_core.proofs.{Aims.pair_of, Legs.Words, Legs.TakesNone, Legs.leg-comes, Legs.ComesTo, Legs.IsLegOf, Legs.control-parts, Legs.misses-look, Legs.few, Phases.IsPublished, Phases.idle-here, Legs.late-last, Legs.late-more, Phases.idle-pins}
 
 -- the first rule that stands at this step, or before it, is the refusal that the call comes to
 abbrev pub Judged : Setting → History → DomId → Asked → StepsSoFar → Phase → Step → Type 0

@@ -1,6 +1,6 @@
 -- What stays of a core's agreement with a history after one item more.
-use Rattle.gt_core.proofs.Words.{◌≡◌, ◌≢◌, ◌<◌, ◌+◌, ℕ, refl, Bool, true, false, List, ◌∷◌, length, Option, Some, None, cond, sym, ap, ◌∙◌, subst, eqb-true, eq-eqb, none-some, domain_of, ◌==◌, ◌&&◌, All, count_by, slice_get, option_map, fun_ext, DomId, Read, Write, TABLE_ENTRIES, Entry, Invalid, Header, Half, FirstHalf, SecondHalf, IsEntry, HandleMap, Held, control_with, knowledge_of, PinCounts, Open, Item, Answer, Stepped, Step, Seen, changed_at, State, state_of, changed_in, History, Setting, live, entry_at, generation_at, body_at, table_at, reads_at, writes_at, control_at, known_at, mappings_at, maps_answered_at, is_pin_on, open_call, underway_after, Underway, change_at, stored_at, header_stored, IsSpelled, stood, first_of_item, IsLawful, FitsTable, FitsWord, SlotAgrees, MappingsAgree, Agrees, StateAgrees, DomainsStand, CallAgrees, GivenAgrees, Dir, by_mapping, slot_after, with_slot, stood_with, MAX_PINS, cond_both, CountsChange, arith}
-use Rattle.gt_core.proofs.{Rows.get-changed, Rows.length-changed, Rows.state-changed, Mappings.mappings-same, Steps.Observers.pulled, Steps.Observers.unstored, Steps.Observers.KeepsKnown, Steps.Observers.KeepsAll, Steps.Observers.cond-same, Steps.Observers.kept-table, Steps.Observers.kept-live, Steps.Observers.answered-stays, Steps.Observers.kept-entry, Steps.Observers.kept-raises, Steps.Observers.other-entry, Steps.Observers.other-body, Steps.Observers.other-maps, Steps.Observers.other-raises, Steps.Observers.other-pins, Steps.Observers.other-table, Steps.Observers.other-known, Placing.place-stays}
+use Rattle.gt_core.proofs.Words.{◌≡◌, ◌≢◌, ◌<◌, ◌+◌, ℕ, refl, Bool, true, false, List, ◌∷◌, length, Option, Some, None, cond, sym, ap, ◌∙◌, subst, eqb-true, eq-eqb, none-some, domain_of, ◌==◌, ◌&&◌, All, count_by, slice_get, option_map, fun_ext, DomId, Read, Write, TABLE_ENTRIES, Entry, Header, Half, IsEntry, HandleMap, Held, control_with, knowledge_of, PinCounts, Open, Item, changed_at, State, state_of, changed_in, History, Setting, live, entry_at, generation_at, body_at, table_at, reads_at, writes_at, control_at, known_at, mappings_at, maps_answered_at, is_pin_on, open_call, underway_after, Underway, change_at, stored_at, header_stored, stood, first_of_item, IsLawful, FitsTable, FitsWord, SlotAgrees, MappingsAgree, Agrees, StateAgrees, DomainsStand, CallAgrees, GivenAgrees, Dir, by_mapping, slot_after, with_slot, stood_with, MAX_PINS, cond_both, CountsChange, arith}
+use Rattle.gt_core.proofs.{Rows.get-changed, Rows.length-changed, Rows.state-changed, Mappings.mappings-same, Steps.Observers.pulled, Steps.Observers.unstored, Steps.Observers.KeepsKnown, Steps.Observers.KeepsAll, Steps.Observers.cond-same, Steps.Observers.kept-table, Steps.Observers.kept-live, Steps.Observers.answered-stays, Steps.Observers.kept-entry, Steps.Observers.kept-raises, Steps.Observers.other-entry, Steps.Observers.other-body, Steps.Observers.other-maps, Steps.Observers.other-raises, Steps.Observers.other-pins, Steps.Observers.other-table, Steps.Observers.other-known, Staying.place-stays}
 
 -- what a domain itself knows is what the core keeps of it
 pub known-same : (s : Setting) (h : History) (d : State) → Agrees s h d
@@ -101,14 +101,12 @@ actor-agrees s i h x header slots mappings o given q a head len agree same call 
 
 -- entries
 
--- what there is of an entry: its parts, its live pins, and its body words
+-- what there is of an entry: its parts, and its live pins
 pub record Facts : Type 0 where
   pub entry : Entry
   pub generation : ℕ
   pub reads : ℕ
   pub writes : ℕ
-  pub first : ℕ
-  pub second : ℕ
 
 abbrev pub facts_at : Setting → History → ℕ → ℕ → Facts
 facts_at s h t r = record {
@@ -116,19 +114,15 @@ facts_at s h t r = record {
   generation = generation_at s h t r;
   reads = reads_at h t r;
   writes = writes_at h t r;
-  first = body_at h t r FirstHalf;
-  second = body_at h t r SecondHalf;
 }
 
--- they fit: the control word has room for them, an invalid entry has no pins, and its body words spell a valid one
+-- they fit: the control word has room for them
 pub record Fits (place : ℕ) (f : Facts) : Type 0 where
   pub word : place < TABLE_ENTRIES → FitsWord (control_with f.entry f.generation f.reads f.writes)
   pub entry : IsEntry f.entry
-  pub free : f.entry ≡ Invalid → (f.reads ≡ 0) × (f.writes ≡ 0)
-  pub spelled : f.entry ≢ Invalid → IsSpelled f.entry f.first f.second
 
 pub facts-fit : (s : Setting) (h : History) (xs : List State) (t r : ℕ) → DomainsStand s h xs → Fits r (facts_at s h t r)
-facts-fit s h xs t r st = record { word = st.words t r; entry = st.entries t r; free = st.free t r; spelled = st.spelled t r }
+facts-fit s h xs t r st = record { word = st.words t r; entry = st.entries t r }
 
 -- the counts that a control word holds are below 4,096
 pub counts-fit : (s : Setting) (h : History) (t r : ℕ) → FitsWord (control_at s h t r) → (reads_at h t r < MAX_PINS + 1) × (writes_at h t r < MAX_PINS + 1)
@@ -187,24 +181,20 @@ all-stand s h xs each tables lawful fit = grind arith
 
 -- for one that changes no entry and stores no word
 pub keeps-stands : (s : Setting) (i : Item) (h : History) (xs zs : List State) → KeepsEntries i → DomainsStand s h xs → ((dom : DomId) → StateAgrees s (i ∷ h) dom (state_of zs dom.0)) → All (IsLawful s) (live (i ∷ h))
-    → ((t r : ℕ) (k : Dir) → r < TABLE_ENTRIES → count_by (is_pin_on t r k) (live (i ∷ h)) < MAX_PINS + 1) → ((t r : ℕ) (k : Dir) → entry_at h t r ≡ Invalid → count_by (is_pin_on t r k) (live (i ∷ h)) ≡ 0)
-    → DomainsStand s (i ∷ h) zs
-keeps-stands s i h xs zs q st each lawful counts free = all-stand s (i ∷ h) zs each (λ dom. subst FitsTable (sym (kept-table s i h dom q.header)) (st.tables dom)) lawful
+    → ((t r : ℕ) (k : Dir) → r < TABLE_ENTRIES → count_by (is_pin_on t r k) (live (i ∷ h)) < MAX_PINS + 1) → DomainsStand s (i ∷ h) zs
+keeps-stands s i h xs zs q st each lawful counts = all-stand s (i ∷ h) zs each (λ dom. subst FitsTable (sym (kept-table s i h dom q.header)) (st.tables dom)) lawful
     (λ t r. let f = facts-fit s h xs t r st in subst (Fits r) (sym (same t r)) (record {
       word = λ within. fits-with _ _ _ _ _ _ (counts t r Read within) (counts t r Write within) (f.word within);
       entry = f.entry;
-      free = λ e. (free t r Read e, free t r Write e);
-      spelled = f.spelled;
     }))
   where
     same : (t r : ℕ) → facts_at s (i ∷ h) t r ≡ record (facts_at s h t r) { reads = reads_at (i ∷ h) t r; writes = writes_at (i ∷ h) t r }
-    same t r = let e = kept-entry i h t r q.changes in let n = kept-raises i h t r q.changes in
-        let a = same-body i h t r FirstHalf q in let b = same-body i h t r SecondHalf q in cc
+    same t r = let e = kept-entry i h t r q.changes in let n = kept-raises i h t r q.changes in cc
 
--- for one that changes no entry and no pin, where the tables fit, and the words of valid entries stay
+-- for one that changes no entry and no pin, where the tables fit
 pub kept-stands : (s : Setting) (i : Item) (h : History) (xs zs : List State) → KeepsKnown i → DomainsStand s h xs → ((dom : DomId) → StateAgrees s (i ∷ h) dom (state_of zs dom.0)) → ((dom : DomId) → FitsTable (table_at s (i ∷ h) dom))
-    → ((t r : ℕ) → entry_at h t r ≢ Invalid → (which : Half) → body_at (i ∷ h) t r which ≡ body_at h t r which) → DomainsStand s (i ∷ h) zs
-kept-stands s i h xs zs k st each tables bodies = grind (arith, all-stand, kept-live, facts-fit, kept-entry, kept-raises)
+    → DomainsStand s (i ∷ h) zs
+kept-stands s i h xs zs k st each tables = grind (arith, all-stand, kept-live, facts-fit, kept-entry, kept-raises)
 
 -- the mappings of a domain stay, where no pin is taken or given back
 pub mappings-stay : (i : Item) (h : History) (q : ℕ) (kept : HandleMap Held) → KeepsKnown i → MappingsAgree kept (mappings_at h q) (maps_answered_at h q) → MappingsAgree kept (mappings_at (i ∷ h) q) (maps_answered_at (i ∷ h) q)
@@ -216,14 +206,10 @@ pub quiet-stands : (s : Setting) (i : Item) (h : History) (xs zs : List State) (
     → CallAgrees s (i ∷ h) x.id o (open_call (i ∷ h) x.id.0) → GivenAgrees (i ∷ h) x.id.0 given → DomainsStand s (i ∷ h) zs
 quiet-stands s i h xs zs x o given e k own st here a becomes call bytes = kept-stands s i h xs zs k st (each-stays s i h xs zs x (record x { underway = o; given = given }) st here own becomes refl
     (actor-agrees s i h x x.header x.slots x.mappings o given e.changes a (a.header ∙ sym (kept-table s i h x.id e.header)) a.room (stay x a.slots) (mappings-stay i h x.id.0 x.mappings k a.mappings) call bytes)
-    (λ y apart b. stay y b)) (λ dom. subst FitsTable (sym (kept-table s i h dom e.header)) (st.tables dom)) (λ t r valid which. same-body i h t r which e)
+    (λ y apart b. stay y b)) (λ dom. subst FitsTable (sym (kept-table s i h dom e.header)) (st.tables dom))
   where
     stay : (y : State) → SlotsAgree h y.id.0 y.slots → SlotsAgree (i ∷ h) y.id.0 y.slots
     stay y b = slots-kept i h y.id.0 y.slots (kept-live i h k) (λ r which. same-body i h y.id.0 r which e) b
-
--- the item of a step
-abbrev pub stepped : DomId → Step → Seen → Option Answer → Item
-stepped d step seen answer = record { actor = d; happened = Stepped step seen; answer = answer }
 
 -- the states after one change more
 pub becomes-changed : (xs ys : List State) (x new : State) (t : ℕ) (g : State → State) → ((y : State) → (g y).id ≡ y.id) → ((q : ℕ) → state_of ys q ≡ cond (x.id.0 == q) (Some new) (state_of xs q))

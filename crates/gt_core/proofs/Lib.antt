@@ -2,6 +2,7 @@ pub mod Acting
 pub mod Aims
 pub mod Bare
 pub mod Beginning
+pub mod Entries
 pub mod Given
 pub mod Judging
 pub mod Keeping
@@ -16,6 +17,7 @@ pub mod Rows
 pub mod Settling
 pub mod Showing
 pub mod Starting
+pub mod Staying
 pub mod Stepping
 pub mod Steps
 pub mod Ticking

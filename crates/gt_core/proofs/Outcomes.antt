@@ -1,7 +1,7 @@
 -- Where a step leads a call: what it ends with, what it has left, and what its answer is.
 use Rattle.gt_core.proofs.Words.{◌≡◌, ◌⊎◌, inl, inr, ℕ, refl, List, [], ◌∷◌, ◌++◌, Option, Some, None, sym, ap, subst, All-push, All, DomId, GrantRef, Denial, Entry, Via, Change, Held, Direct, Through, Pins, Asked, ByMapping, ByLeg, Seen, Nothing, Taken, Verdict, Granted, Refused, Step, Unpin, StoreHeader, Exchange, ReadBytes, WriteBytes, Makes, Done, Aim, Mapping, Source, Dest, Phase, Exchanging, Changing, Walking, Accessing, Last, Ending, Leg, AtHeader, LegNext, LegRefused, Pinned, last_first, pins_so_far, no_pins, CallerKnowledge, via_judged, is_dest_granted, source_pair, dest_pair, second_leg, end_leg, Continuation, phase_after, action_at, after_leg, after_source_pin, after_dest_pin, where_via, next_to_give, HasShown, IsQuiet, History, Setting, known_at, seen_by, StepsSoFar, LeavesAll, refusal_in, PhaseStands, EndsAfter, IsClean, Write, cond_both, CopyArgs, Route, at_dest}
+use Rattle.gt_core.proofs.{Phases.by-leg, Phases.makes-same, Phases.by-giving}
 use Rattle.gt_calls.specs.declared.{held.Route.TheVariants.Own, action.Verdict.TheVariants.Mapped}
-use Rattle.gt_core.proofs.Phases.{by-leg, makes-same, by-giving}
 
 -- the next phase
 abbrev pub next_of : Setting → History → DomId → Phase → Step → Phase

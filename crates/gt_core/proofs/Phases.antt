@@ -1,8 +1,8 @@
 -- Each step of an open call is on words that there are. Its refusal is the first rule that stands. And where the call
 -- stands after it.
-use Rattle.gt_core.proofs.Words.{◌≡◌, ◌≢◌, ◌<◌, ◌≤◌, ◌+◌, ℕ, refl, Bool, true, false, List, [], ◌∷◌, Option, Some, None, cond, sym, ap, ◌∙◌, subst, reverse, arith, ◌==◌, is_none, eq-eqb, true≢false, false≢true, none-some, domain_of, DomId, GrantRef, DomainConfig, TABLE_ENTRIES, Entry, Invalid, Change, Publish, ToInvalid, ToReadOnly, ToWritable, control_word, Held, Asked, Grant, Revoke, Demote, Promote, QuerySize, GetVersion, Verdict, Step, LookHeader, LookControl, LookBody, PinStep, Unpin, StoreBody, StoreHeader, Exchange, ReadBytes, WriteBytes, Seen, Taken, Missed, Action, Makes, Done, Question, AsksSize, AsksVersion, Phase, Leg, LegPhase, AtHeader, Look, Body, last_first, begun, size_of, opens, Continuation, FitsStep, path, RestsOnWord, action_at, leg_step, next_to_give, IsTurn, IsQuiet, StandsAt, State, state_of, History, Setting, word_at, table_at, entry_at, generation_at, reads_at, writes_at, known_at, seen_by, legs_at, StepsSoFar, DomainsStand, StateAgrees, PhaseStands, LegStands, Asks, numbered, pins_at, Rests, FitsAsked, length, ByLeg, is_invalid, IsExchanged, idle_word, CallerKnowledge, Handle, ByMapping, Half, Call, FirstHalf, SecondHalf, Second, Pinning, Relook, held_of, cond_both}
+use Rattle.gt_core.proofs.Words.{◌≡◌, ◌≢◌, ◌<◌, ◌≤◌, ◌+◌, ℕ, refl, Bool, true, false, List, [], ◌∷◌, Option, Some, None, cond, sym, ap, ◌∙◌, subst, reverse, arith, ◌==◌, is_none, eq-eqb, true≢false, false≢true, none-some, domain_of, DomId, GrantRef, DomainConfig, TABLE_ENTRIES, Entry, Invalid, Change, Publish, ToInvalid, ToReadOnly, ToWritable, control_word, Held, Asked, Grant, Revoke, Demote, Promote, QuerySize, GetVersion, Verdict, Step, LookHeader, LookControl, LookBody, PinStep, Unpin, StoreBody, StoreHeader, Exchange, ReadBytes, WriteBytes, Seen, Taken, Missed, Action, Makes, Done, Question, AsksSize, AsksVersion, Phase, Leg, LegPhase, AtHeader, Look, Body, last_first, begun, size_of, opens, Continuation, FitsStep, path, RestsOnWord, action_at, leg_step, next_to_give, IsTurn, IsQuiet, StandsAt, State, state_of, History, Setting, word_at, table_at, entry_at, generation_at, reads_at, writes_at, known_at, seen_by, legs_at, StepsSoFar, DomainsStand, StateAgrees, PhaseStands, LegStands, Asks, numbered, pins_at, Rests, FitsAsked, length, ByLeg, is_invalid, IsExchanged, idle_word, CallerKnowledge, Handle, ByMapping, Half, Call, FirstHalf, SecondHalf, Second, Pinning, Relook, held_of, cond_both, Read, Write, IsLegalHistory}
+use Rattle.gt_core.proofs.{Steps.See.word-shows, Steps.See.table-fits, Steps.See.IsWithin, Legs.Words, Entries.free, Entries.spelled}
 use Rattle.gt_entry.specs.Spelling.{control_with}
-use Rattle.gt_core.proofs.{Steps.See.word-shows, Steps.See.table-fits, Steps.See.IsWithin, Legs.Words}
 
 pub none-of : (k : CallerKnowledge) (d : DomId) (r q : Asked) → r ≡ q → begun k d r ≡ None → begun k d q ≡ None
 none-of k d r q is none = subst (λ (z : Asked). begun k d z ≡ None) is none
@@ -15,6 +15,7 @@ call-is call d r p a b e = ap (λ (z : DomId). record { caller = z; request = ca
 
 -- where a call stands before its next step, in a core that stands for the history
 pub record IsHere (s : Setting) (h : History) (xs : List State) (d : DomId) (r : Asked) (shown : List Seen) (so_far : StepsSoFar) (phase : Phase) (step : Step) : Type 0 where
+  pub legal : IsLegalHistory s h
   pub st : DomainsStand s h xs
   pub own : state_of xs d.0 ≢ None
   pub at : StandsAt (known_at s h d) d r shown phase
@@ -54,11 +55,11 @@ pub of-run : (o : Option DomainConfig) → is_none o ≡ false → o ≢ None
 of-run None e n = absurd (true≢false e)
 of-run (Some c) e n = absurd (none-some c (sym n))
 
-pub words-of : (s : Setting) (h : History) (xs : List State) (l : Leg) → DomainsStand s h xs → Words s h l
-words-of s h xs l st = record {
+pub words-of : (s : Setting) (h : History) (xs : List State) (l : Leg) → IsLegalHistory s h → DomainsStand s h xs → Words s h l
+words-of s h xs l legal st = record {
   round = λ within. word-shows s h xs l.dom.0 l.gref.0 st within;
   is_entry = st.entries l.dom.0 l.gref.0;
-  spelled = st.spelled l.dom.0 l.gref.0;
+  spelled = spelled s h l.dom.0 l.gref.0 legal;
   size = (table-fits _ (st.tables l.dom)).0;
   header = (table-fits _ (st.tables l.dom)).1;
 }
@@ -143,10 +144,10 @@ pub grant-invalid : (s : Setting) (h : History) (d : DomId) (gref : GrantRef) (e
 grant-invalid s h d gref entry none = invalid-is (entry_at h d.0 gref.0) (opens (known_at s h d) d (Grant gref entry) none).free
 
 -- a publication is of the word that its entry has
-pub publish-here : (s : Setting) (h : History) (xs : List State) (d : DomId) (r : Asked) (shown : List Seen) (gref : GrantRef) (looked : ℕ) (change : Change) → DomainsStand s h xs → begun (known_at s h d) d r ≡ None
+pub publish-here : (s : Setting) (h : History) (d : DomId) (r : Asked) (shown : List Seen) (gref : GrantRef) (looked : ℕ) (change : Change) → IsLegalHistory s h → begun (known_at s h d) d r ≡ None
     → RestsOnWord (known_at s h d) (path (known_at s h d) d r) d r shown gref looked change → IsPublished s h d (Exchange gref looked change)
-publish-here s h xs d r shown gref looked (Publish entry) st none rests =
-    let free = st.free d.0 gref.0 (grant-invalid s h d gref entry (subst (λ (z : Asked). begun (known_at s h d) d z ≡ None) rests.0 none)) in
-    let a : reads_at h d.0 gref.0 ≡ 0 = free.0 in let b : writes_at h d.0 gref.0 ≡ 0 = free.1 in
+publish-here s h d r shown gref looked (Publish entry) legal none rests =
+    let is = (grant-invalid s h d gref entry (subst (λ (z : Asked). begun (known_at s h d) d z ≡ None) rests.0 none)) in
+    let a : reads_at h d.0 gref.0 ≡ 0 = free s h d.0 gref.0 Read legal is in let b : writes_at h d.0 gref.0 ≡ 0 = free s h d.0 gref.0 Write legal is in
     idle-here s h d gref (omega arith) ∙ sym rests.1
-publish-here s h xs d r shown gref looked change st none rests = tt
+publish-here s h d r shown gref looked change legal none rests = tt

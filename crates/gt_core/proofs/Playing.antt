@@ -1,6 +1,7 @@
 -- One event more, and what stands for each event.
-use Rattle.gt_core.proofs.Words.{◌≡◌, ◌<◌, ◌+◌, ℕ, refl, length, get_or, take, List, [], ◌∷◌, ◌++◌, sym, ap, ◌∙◌, subst, take_more, Event, Element, Result, OnErr, DomId, TypeId, Perms, Config, Request, frame_counts, FrameSet, all_zeros, AreKept, Begin, Tick, Begun, State, DomainsStand, CoreStands, Does, setting_of, begun_element, ticked_element, History, Setting, LegalAfter, MayDo, grown, history_after, IfOk, Ok, Err, Ticked, CoreState, StandsForSome, DoesAlone, Memory, Bool}
-use Rattle.gt_core.{specs.States.core_of, proofs.Steps.Write.frames-begun, proofs.Steps.Write.frames-start}
+use Rattle.gt_core.proofs.Words.{◌≡◌, ◌<◌, ◌+◌, ℕ, refl, length, get_or, take, List, [], ◌∷◌, ◌++◌, sym, ap, ◌∙◌, subst, take_more, Event, Element, Result, OnErr, DomId, TypeId, Perms, Config, Request, frame_counts, FrameSet, all_zeros, AreKept, Begin, Tick, Begun, State, DomainsStand, CoreStands, Does, setting_of, begun_element, ticked_element, History, Setting, LegalAfter, MayDo, grown, history_after, IfOk, Ok, Err, Ticked, CoreState, StandsForSome, DoesAlone, Memory, Bool, zeros, stands, Did, IsLegalHistory}
+use Rattle.gt_core.proofs.{Steps.Write.frames-begun, Steps.Write.frames-start}
+use Rattle.gt_core.specs.States.{core_of}
 
 -- one event more
 pub legal-more : (s : Setting) (h : History) (es : List Event) (xs : List Element) (e : Event) (x : Element) → LegalAfter s h es xs → MayDo s (history_after h xs) e x
@@ -30,17 +31,25 @@ plays-on s s' es i e trace trace' old new x was within at pushed same turn =
       stands = subst (λ (h : History). CoreStands s h new) (sym (ap (history_after []) pushed ∙ history-more [] trace x)) t.1;
     }
 
+-- a legal history grows by what an event may do
+pub legal-grows : (s : Setting) (h : History) (e : Event) (x : Element) → MayDo s h e x → IsLegalHistory s h → IsLegalHistory s (grown h x)
+unfolding IsLegalHistory
+legal-grows s h (Begin d request) (Did i) m legal = (m.2, legal)
+legal-grows s h (Tick d) (Did i) m legal = (m.2, legal)
+legal-grows s h e x m legal = legal
+
 -- a core at rest stands for the empty history
 pub core-starts : (config : Config) (may : TypeId → TypeId → Perms → Bool) (xs : List State) (fs : FrameSet) → DomainsStand (setting_of config may) [] xs → fs ≡ all_zeros (frame_counts config.domains.items) → AreKept fs
     → CoreStands (setting_of config may) [] (core_of xs fs)
-core-starts config may xs fs domains zeros kept = record { domains = domains; frames = frames-start (setting_of config may) fs zeros kept }
+unfolding IsLegalHistory
+core-starts config may xs fs domains zeros kept = record { legal = tt; domains = domains; frames = frames-start (setting_of config may) fs zeros kept }
 
 -- a beginning changes no frame
 begun-stands : (s : Setting) (xs ys : List State) (fs : FrameSet) (dom : DomId) (request : Request) (b : Begun)
     → DoesAlone s xs (Begin dom request) (begun_element dom request b) ys
     → Does s (core_of xs fs) (Begin dom request) (begun_element dom request b) (core_of ys fs)
 begun-stands s xs ys fs dom request b stands h st = let r = stands h st.domains in
-    (r.0, record { domains = r.1; frames = frames-begun s h fs dom request b st.frames })
+    (r.0, record { legal = legal-grows s h (Begin dom request) (begun_element dom request b) r.0 st.legal; domains = r.1; frames = frames-begun s h fs dom request b st.frames })
 
 pub begin-does : (s : Setting) (xs ys : List State) (fs : FrameSet) (dom : DomId) (request : Request) (r : Result Begun Memory)
     → IfOk r (λ b. DoesAlone s xs (Begin dom request) (begun_element dom request b) ys)

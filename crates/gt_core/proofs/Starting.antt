@@ -84,6 +84,4 @@ starts config may l = let s = setting_of config may in
       words = λ t r within. rest-word s t r l.generation;
       entries = λ t r. tt;
       lawful = All-nil (IsLawful s);
-      free = λ t r e. (refl, refl);
-      spelled = λ t r valid. absurd (valid refl);
     }

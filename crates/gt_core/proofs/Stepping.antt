@@ -1,6 +1,7 @@
 -- What the core does for a step of an open call: it is right, and the core stands for it.
-use Rattle.gt_core.proofs.Words.{◌≡◌, ◌≢◌, inl, inr, ℕ, refl, Bool, List, [], ◌∷◌, ◌++◌, length, Option, Some, None, cond, sym, ap, ◌∙◌, subst, reverse, eqb-true, eq-eqb, length-reverse, reverse_onto, same_Some, ◌==◌, DomId, GrantRef, Entry, Invalid, Handle, Held, Asked, ByMapping, ByLeg, Seen, Nothing, Taken, Missed, Verdict, Granted, Given, KeptPin, Refused, Step, PinStep, Unpin, StoreBody, StoreHeader, Exchange, ReadBytes, Action, Makes, Done, Call, Phase, knowledge_of, path, action_at, after_store, pins_at, held_in, Goes, Open, Item, Answer, Denied, AnswerDone, Mapped, State, state_of, sees, History, Setting, live, word_at, known_at, legs_at, mappings_at, mapping_of, seen_by, Underway, values, open_call, underway_after, holder_after, one_if_mapped, StepsRight, GivesValue, refusal_in, refusal_of, DomainsStand, Agrees, CallAgrees, OpenAgrees, numbered, position, get_or, set, position-Some, domain_of, Value, FramesTold, BytesAnswer, HandleMap, applied, with_underway, with_mapping, Adds, IsReadable, IsAdmitted, AccessedBy, bytes_at, FrameSet, frame_at, contents_at, IsRight, StepsRightIn, CoreStands, FramesStand, core_of, Settled, IsLawful, IsLawfullyHeld, answer_with, Closed, IsRoomFor, IsMapping, ticked_with, ticked_element, Element, Tick, MayDo, Does, Did, grown, without, RestsOnRequest, WantsMemoryNow, IsWritingNext, TickTold, IsWriting, cond_both, CallerKnowledge, GivenAgrees, take, drop}
-use Rattle.gt_core.{proofs.Values.call-ends, proofs.Steps.Pin.pins, proofs.Steps.Pin.map-legs, proofs.Steps.Pin.new_pin, proofs.Steps.Pin.pin-stands, proofs.Steps.Pin.map-agrees, proofs.Steps.Pin.leg-agrees as pin-agrees, proofs.Keeping.stepped, proofs.Keeping.open_call-own, proofs.Keeping.quiet-stands, proofs.Placing.IsStore, proofs.Phases.IsHere, proofs.Steps.Store.header-stands, proofs.Steps.Store.store-stands, proofs.Steps.Write.bytes-held, proofs.Steps.Write.open-admitted, proofs.Steps.Write.open-readable, proofs.Steps.Write.frames-stepped, proofs.Outcomes.next_of, proofs.Outcomes.ends-so, proofs.Ticking.Ticks, proofs.Ticking.ticks, proofs.Ticking.given-goes-on, proofs.Ticking.legs-after, proofs.Ticking.open-after, proofs.Ticking.goes-right, proofs.Ticking.ends-right, proofs.Ticking.last-fact, proofs.Ticking.LastFact, proofs.Ticking.by-storing, proofs.Ticking.seen_in, proofs.Ticking.phase_then, proofs.Ticking.history_then, proofs.Steps.Unpin.Loses, proofs.Steps.Unpin.unpin-stands, proofs.Steps.Unpin.becomes-unpinned, proofs.Steps.Unpin.loses-leg, proofs.Steps.Unpin.loses-mapping, proofs.Steps.Unpin.mapping-agrees, proofs.Steps.Unpin.leg-agrees as unpin-agrees, proofs.Acting.can-change, proofs.Acting.can-pin, proofs.Acting.store-invalid, proofs.Acting.header-fits, proofs.Acting.map-lawful, proofs.Acting.CanPin, proofs.Steps.Exchange.exchange-stands, proofs.Beginning.agrees-found, proofs.Rows.has_id, proofs.Rows.found, proofs.Rows.state_of-set, specs.declared.trace.Bytes.Bytes}
+use Rattle.gt_core.proofs.Words.{◌≡◌, ◌≢◌, inl, inr, ℕ, refl, Bool, List, [], ◌∷◌, ◌++◌, length, Option, Some, None, cond, sym, ap, ◌∙◌, subst, reverse, eqb-true, eq-eqb, length-reverse, reverse_onto, same_Some, ◌==◌, DomId, GrantRef, Entry, Invalid, Handle, Held, Asked, ByMapping, ByLeg, Seen, Nothing, Taken, Missed, Verdict, Granted, Given, KeptPin, Refused, Step, PinStep, Unpin, StoreBody, StoreHeader, Exchange, ReadBytes, Action, Makes, Done, Call, Phase, knowledge_of, path, action_at, after_store, pins_at, held_in, Goes, Open, Item, Answer, Denied, AnswerDone, Mapped, State, state_of, sees, History, Setting, live, word_at, known_at, legs_at, mappings_at, mapping_of, seen_by, Underway, values, open_call, underway_after, holder_after, one_if_mapped, StepsRight, GivesValue, refusal_in, refusal_of, DomainsStand, Agrees, CallAgrees, OpenAgrees, numbered, position, get_or, set, position-Some, domain_of, Value, FramesTold, BytesAnswer, HandleMap, applied, with_underway, with_mapping, Adds, IsReadable, IsAdmitted, AccessedBy, bytes_at, FrameSet, frame_at, contents_at, IsRight, StepsRightIn, CoreStands, FramesStand, core_of, Settled, IsLawful, IsLawfullyHeld, answer_with, Closed, IsRoomFor, IsMapping, ticked_with, ticked_element, Element, Tick, MayDo, Does, Did, grown, without, RestsOnRequest, WantsMemoryNow, IsWritingNext, TickTold, IsWriting, cond_both, CallerKnowledge, GivenAgrees, take, drop, asked, told, taken, IsLegalHistory}
+use Rattle.gt_core.proofs.{Values.call-ends, Steps.Observers.pins, Steps.Pin.map-legs, Steps.Observers.new_pin, Steps.Pin.pin-stands, Steps.Pin.map-agrees, Steps.Pin.leg-agrees as pin-agrees, Steps.Observers.stepped, Keeping.open_call-own, Keeping.quiet-stands, Placing.IsStore, Phases.IsHere, Steps.Store.header-stands, Steps.Store.store-stands, Steps.Write.bytes-held, Steps.Write.open-admitted, Steps.Write.open-readable, Steps.Write.frames-stepped, Outcomes.next_of, Outcomes.ends-so, Ticking.Ticks, Ticking.ticks, Ticking.given-goes-on, Ticking.legs-after, Ticking.open-after, Ticking.goes-right, Ticking.ends-right, Ticking.last-fact, Ticking.LastFact, Ticking.by-storing, Ticking.seen_in, Ticking.phase_then, Ticking.history_then, Steps.Unpin.Loses, Steps.Unpin.unpin-stands, Steps.Unpin.becomes-unpinned, Steps.Unpin.loses-leg, Steps.Unpin.loses-mapping, Steps.Unpin.mapping-agrees, Steps.Unpin.leg-agrees as unpin-agrees, Acting.can-change, Acting.can-pin, Acting.header-fits, Acting.map-lawful, Acting.CanPin, Steps.Exchange.exchange-stands, Beginning.agrees-found, Rows.has_id, Rows.found, Rows.state_of-set}
+use Rattle.gt_core.specs.declared.trace.Bytes.{Bytes}
 
 -- the states where just the actor's call, or its handles or bytes, are others
 abbrev Replaced : List State → List State → State → State → Type 0
@@ -23,7 +24,7 @@ module _ (s : Setting) (h : History) (xs ys : List State) (x : State) (c : Under
   step-stands (PinStep p) i last store call = let w = word_at s h p.dom.0 p.gref.0 in let v : Seen = Missed w in
       cond_both (w == p.word) Taken v (λ seen. CallThen (PinStep p) seen → StandThen (PinStep p) seen)
       (λ is now. let can = can-pin s h xs x.id c.request (values c) (reverse c.steps) phase p i (eqb-true w p.word is) in
-      pin-stands s h xs ys x p answer x.mappings o' i.st here a r can.valid can.few (subst (IsLawfullyHeld s (new_pin h x.id p answer)) (sym (leg (length (legs_at h x.id.0)))) tt)
+      pin-stands s h xs ys x p answer x.mappings o' i.st here a r can.few (subst (IsLawfullyHeld s (new_pin h x.id p answer)) (sym (leg (length (legs_at h x.id.0)))) tt)
       (pin-agrees h x.id p answer x.mappings (leg (length (legs_at h x.id.0))) m a.mappings) now (given (PinStep p) Taken))
       (λ is now. quiet-stands s (stepped x.id (PinStep p) v answer) h xs ys x o' x.given (record { changes = λ r. refl; stores = λ r which. refl; header = refl })
       (record { changes = λ r. refl; pins = λ before ps. refl; unpins = λ pins. refl; maps = m }) refl i.st here a r now (given (PinStep p) v)) call
@@ -45,7 +46,7 @@ module _ (s : Setting) (h : History) (xs ys : List State) (x : State) (c : Under
       header-stands s h xs ys x version frames answer o' i.st here a r m (header-fits s h xs x.id c.request version frames i.st i.rests.0 i.rests.1) call (given (StoreHeader version frames) Nothing)
   step-stands (StoreBody gref half word) i last store call = let step : Step = StoreBody gref half word in
       subst (λ (z : Option Answer). DomainsStand s (stepped x.id step Nothing z ∷ h) (applied x.id step Nothing ys)) (sym (store tt))
-      (store-stands s h xs ys x gref half word o' i.st here a (store-invalid s h x.id c.request gref half word i.rests.0 i.rests.1) r
+      (store-stands s h xs ys x gref half word o' i.st here a r
       (subst (λ (z : Option Answer). CallAgrees s (stepped x.id step Nothing z ∷ h) x.id o' (open_call (stepped x.id step Nothing z ∷ h) x.id.0)) (store tt) call) (given-goes-on x.id step Nothing None h x.given a.given))
   step-stands step i last store call = quiet-stands s (stepped x.id step (seen_by s h x.id step) answer) h xs ys x o' x.given (record { changes = λ r. refl; stores = λ r which. refl; header = refl })
       (record { changes = λ r. refl; pins = λ before ps. refl; unpins = λ pins. refl; maps = m }) refl i.st here a r call (given step _)
@@ -120,7 +121,7 @@ module _ {s : Setting} {h : History} {xs : List State} {x : State} {o : Open} {c
       let lawful : IsLawful s (new_pin h d held answer) = subst (λ (q : Held). IsLawfullyHeld s (record { actor = d.0; holder = ByMapping handle; held = q }) (ByMapping handle)) (sym can.is) law in
       let legs : legs_at (pins d held answer ∷ h) d.0 ≡ [] = map-legs h d held handle ∙ t.stands.held ∙ ap (λ (l : List Held). numbered 0 (reverse l)) m.none in
       let maps = map-agrees h d held handle x.mappings kept (subst (λ (q : Held). Adds x.mappings kept handle q) (sym can.is) adds) t.agrees.mappings in
-      let stands = pin-stands s h xs ys x held answer kept None t.i.st t.here t.agrees r can.valid can.few lawful maps (call-over s h d (PinStep held) Taken (Mapped handle) legs) (given-goes-on d (PinStep held) Taken answer h x.given t.agrees.given) in
+      let stands = pin-stands s h xs ys x held answer kept None t.i.st t.here t.agrees r can.few lawful maps (call-over s h d (PinStep held) Taken (Mapped handle) legs) (given-goes-on d (PinStep held) Taken answer h x.given t.agrees.given) in
       let same : stepped d o.step (seen_in t) answer ≡ pins d held answer = ap (λ (v : Seen). stepped d o.step v answer) saw ∙ ap (λ (z : Step). stepped d z Taken answer) m.is in
       let value : GivesValue s h d c.request (Some o.step) (Mapped handle) = subst (λ (z : Step). GivesValue s h d c.request (Some z) (Mapped handle)) (sym m.is)
       (subst (λ (q : Asked). GivesValue s h d q (Some (PinStep held)) (Mapped handle)) (sym m.of_map) (adds.serial ∙ t.agrees.mappings.given)) in (
@@ -206,10 +207,10 @@ pub record Begun (s : Setting) (h : History) (xs : List State) (dom : DomId) (at
   pub ticks : Ticks s h xs x o c new action
   pub replaced : (new : State) → new.id.0 ≡ x.id.0 → Replaced xs (set xs at new) x new
 
-begun : (s : Setting) (h : History) (xs : List State) (dom : DomId) (at : ℕ) (x : State) (o : Open) (seen : Seen) (new : Call) (action : Action) → DomainsStand s h xs → Begins s xs dom at x o seen new action → Begun s h xs dom at x o seen new action
-begun s h xs dom at x o seen new action st b = let a = open-here s h xs dom at x o b.place b.here b.under st in let u = a.3 in
+begun : (s : Setting) (h : History) (xs : List State) (dom : DomId) (at : ℕ) (x : State) (o : Open) (seen : Seen) (new : Call) (action : Action) → IsLegalHistory s h → DomainsStand s h xs → Begins s xs dom at x o seen new action → Begun s h xs dom at x o seen new action
+begun s h xs dom at x o seen new action legal st b = let a = open-here s h xs dom at x o b.place b.here b.under st in let u = a.3 in
     let g : state_of xs x.id.0 ≡ Some x = ap (λ (z : DomId). state_of xs z.0) a.1 ∙ found xs dom.0 at x b.place ∙ ap (λ (y : State). Some y) (sym b.here) in
-    let t = ticks s h xs x o u.0 seen new action st g a.2 u.1 u.2 (b.saw ∙ ap (λ (z : DomId). sees xs z o.step) (sym a.1)) b.caller b.asks b.goes in
+    let t = ticks s h xs x o u.0 seen new action legal st g a.2 u.1 u.2 (b.saw ∙ ap (λ (z : DomId). sees xs z o.step) (sym a.1)) b.caller b.asks b.goes in
     let places = position-Some (has_id dom.0) xs at x b.place in record {
       named = a.0;
       is = a.1;
@@ -238,12 +239,12 @@ action-core s h fs xs zs at x o c new action answer t fr r settled = by action t
   by (Done (Refused denial)) t (a, is, (gives, left)) = become (Some (Denied denial)) _ (is ∙ ap (λ (z : Answer). Some z) gives) left (ends-core _ (Denied denial) t (r (with_underway None x) refl) tt (λ m e. cc) refl tt)
 
 -- a map that is over had asked for its room when it began
-pub room-asked : (s : Setting) (h : History) (xs : List State) (dom : DomId) (at : ℕ) (x : State) (o : Open) (seen : Seen) (new : Call) (action : Action) → DomainsStand s h xs → Begins s xs dom at x o seen new action → IsRoomFor o.call.request action
-room-asked s h xs dom at x o seen new (Done (KeptPin held)) st b =
-    let n = begun s h xs dom at x o seen new (Done (KeptPin held)) st b in let t = n.ticks in
+pub room-asked : (s : Setting) (h : History) (xs : List State) (dom : DomId) (at : ℕ) (x : State) (o : Open) (seen : Seen) (new : Call) (action : Action) → IsLegalHistory s h → DomainsStand s h xs → Begins s xs dom at x o seen new action → IsRoomFor o.call.request action
+room-asked s h xs dom at x o seen new (Done (KeptPin held)) legal st b =
+    let n = begun s h xs dom at x o seen new (Done (KeptPin held)) legal st b in let t = n.ticks in
     let m = call-ends s h xs x.id n.c.request (values n.c) (reverse n.c.steps) t.stands.phase o.step t.i (KeptPin held) (sym t.acts) in
     subst (λ (q : Asked). IsMapping (Some q)) (sym (t.stands.asks ∙ m.of_map)) tt
-room-asked s h xs dom at x o seen new action st b = tt
+room-asked s h xs dom at x o seen new action legal st b = tt
 
 -- a step that reads changes no frame, so that its range is there after it too
 pub readable-after : (fs gs : FrameSet) (x : State) (call : Call) (step : Step) → AccessedBy x call step fs gs → IsReadable fs call step → IsReadable gs call step
@@ -260,13 +261,15 @@ settled-before fs gs xs new at x d old call step action answer wrote a = a
 -- settling left
 pub tick-does : (s : Setting) (fs gs ks : FrameSet) (xs ys zs : List State) (dom : DomId) (at : ℕ) (x : State) (o : Open) (seen : Seen) (new : Call) (action : Action) (answer : Option Answer) (told : TickTold) → told ≡ ticked_with o.step seen answer
     → Begins s xs dom at x o seen new action → AccessedBy x o.call o.step fs gs → Settled gs xs at x o.step new action answer zs → ys ≡ applied dom o.step seen zs → ks ≡ gs → Does s (core_of xs fs) (Tick dom) (ticked_element dom told) (core_of ys ks)
+unfolding IsLegalHistory
 tick-does s fs gs ks xs ys zs dom at x o seen new action answer told is b wrote settled left same = λ h st.
-    let n = begun s h xs dom at x o seen new action st.domains b in
+    let n = begun s h xs dom at x o seen new action st.legal st.domains b in
     let t = action-core s h fs xs zs at x o n.c new action answer n.ticks st.frames n.replaced (settled-before fs gs xs zs at x x o.call new o.step action answer wrote settled) in
     let r = subst (λ (d : DomId). Ticked s h d o.step seen answer (applied d o.step seen zs)) n.is (subst (λ (v : Seen). Ticked s h x.id o.step v answer (applied x.id o.step v zs)) (sym n.same) t) in
     subst (λ (z : Element). MayDo s h (Tick dom) z × CoreStands s (grown h z) (core_of ys ks)) (sym (ap (ticked_element dom) is ∙ element answer)) (
       (n.named, (refl, tt), r.0),
       record {
+        legal = (r.0, st.legal);
         domains = subst (DomainsStand s (stepped dom o.step seen answer ∷ h)) (sym left) r.1;
         frames = subst (FramesStand s (stepped dom o.step seen answer ∷ h)) (sym same) (tick-frames s h xs dom at x o b.place b.here b.under fs gs seen answer st wrote);
       },

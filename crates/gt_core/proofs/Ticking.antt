@@ -1,7 +1,7 @@
 -- A step of an open call is right, and the core stands for it.
-use Rattle.gt_core.proofs.Words.{◌≡◌, ◌≢◌, ◌<◌, ◌≤◌, ◌+◌, ◌⊎◌, inl, inr, ℕ, suc, refl, true, List, [], ◌∷◌, ◌++◌, length, Option, Some, None, sym, ap, ◌∙◌, subst, reverse, arith, eqb-true, map-append, length-append, length-reverse, reverse_onto, none-some, same_Some, ◌==◌, All, DomId, GrantRef, Denial, Entry, Invalid, Sub, Change, FirstHalf, SecondHalf, Held, Pins, Asked, Demote, ByMapping, ByLeg, Seen, Nothing, Taken, Missed, Verdict, Granted, KeptPin, Step, PinStep, Unpin, StoreBody, StoreHeader, Exchange, ReadBytes, WriteBytes, CopyBytes, Action, Makes, Done, Call, Phase, Storing, StoringSecond, Walking, Last, Ending, last_first, no_pins, CallerKnowledge, knowledge_of, path, Rests, phase_after, action_at, next_to_give, StandsAt, HasShown, pins_at, held_in, Goes, GoesOn, most_of, steps_left, Open, Answer, State, state_of, sees, History, Setting, Pin, entry_at, word_at, known_at, legs_at, seen_by, Underway, values, open_call, underway_after, holder_after, one_if_mapped, StepsSoFar, StepsRight, Justified, IsSafe, PinIsSound, AnsweredBy, GivesValue, LeavesAll, gives_back, verdict_in, refusal_in, refusal_of, refusal_if, option_or, first_of_item, first_in_call, stood, most_steps, DomainsStand, Agrees, OpenAgrees, GivenAgrees, FitsGiven, PhaseStands, IsClean, phase_refusal, numbered, exchange_sees, gather, by_leg, Continuation, second_body, RestsOnRequest, first_body, reverse-append, FitsNext, HoldsAfter, cond_both}
+use Rattle.gt_core.proofs.Words.{◌≡◌, ◌≢◌, ◌<◌, ◌≤◌, ◌+◌, ◌⊎◌, inl, inr, ℕ, suc, refl, true, List, [], ◌∷◌, ◌++◌, length, Option, Some, None, sym, ap, ◌∙◌, subst, reverse, arith, eqb-true, map-append, length-append, length-reverse, reverse_onto, none-some, same_Some, ◌==◌, All, DomId, GrantRef, Denial, Entry, Invalid, Sub, Change, FirstHalf, SecondHalf, Held, Pins, Asked, Demote, ByMapping, ByLeg, Seen, Nothing, Taken, Missed, Verdict, Granted, KeptPin, Step, PinStep, Unpin, StoreBody, StoreHeader, Exchange, ReadBytes, WriteBytes, CopyBytes, Action, Makes, Done, Call, Phase, Storing, StoringSecond, Walking, Last, Ending, last_first, no_pins, CallerKnowledge, knowledge_of, path, Rests, phase_after, action_at, next_to_give, StandsAt, HasShown, pins_at, held_in, Goes, GoesOn, most_of, steps_left, Open, Answer, State, state_of, sees, History, Setting, Pin, entry_at, word_at, known_at, legs_at, seen_by, Underway, values, open_call, underway_after, holder_after, one_if_mapped, StepsSoFar, StepsRight, Justified, IsSafe, PinIsSound, AnsweredBy, GivesValue, LeavesAll, gives_back, verdict_in, refusal_in, refusal_of, refusal_if, option_or, first_of_item, first_in_call, stood, most_steps, DomainsStand, Agrees, OpenAgrees, GivenAgrees, FitsGiven, PhaseStands, IsClean, phase_refusal, numbered, exchange_sees, gather, by_leg, Continuation, second_body, RestsOnRequest, first_body, reverse-append, FitsNext, HoldsAfter, cond_both, first, IsLegalHistory}
+use Rattle.gt_core.proofs.{Steps.Observers.unstored, Steps.Observers.known-as, Steps.Observers.kept-entry, Steps.Observers.kept-raises, Steps.Observers.kept-known, Steps.Observers.kept-legs, Steps.Observers.kept-table, Steps.Observers.answered-stays, Steps.Store.half-stored, Steps.Store.first-stays, Steps.Observers.stepped, Keeping.known-same, Keeping.open_call-own, Keeping.stood-own, Placing.IsStore, Staying.place-stays, Phases.by-leg, Phases.IsHere, Phases.makes-same, Phases.seen-fits, Phases.by-giving, Phases.call-is, Steps.See.sees-agree, Steps.Observers.unpins, Steps.Unpin.leg-left, Steps.Unpin.leg-mappings, Steps.Unpin.mapping-legs, Steps.Unpin.from-zero, Steps.Observers.pins, Steps.Pin.leg-grows, Steps.Pin.leg-maps, Acting.can-change, Acting.can-pin, Acting.store-invalid, Steps.Observers.exchanged-live, Steps.Access.read-justified, Steps.Access.write-justified, Steps.Access.copy-justified, Outcomes.next_of, Outcomes.IsSingle, Outcomes.single-ends, Outcomes.taken-ends, Outcomes.clean-next, Outcomes.ends-so, Placing.each-step, Placing.OfStep}
 use Rattle.gt_calls.specs.Following.{Advances}
-use Rattle.gt_core.proofs.{Steps.Observers.unstored, Steps.Observers.known-as, Steps.Observers.kept-entry, Steps.Observers.kept-raises, Steps.Observers.kept-known, Steps.Observers.kept-legs, Steps.Observers.kept-table, Steps.Observers.answered-stays, Steps.Store.half-stored, Steps.Store.first-stays, Keeping.stepped, Keeping.known-same, Keeping.open_call-own, Keeping.stood-own, Placing.IsStore, Placing.place-stays, Phases.by-leg, Phases.IsHere, Phases.makes-same, Phases.seen-fits, Phases.by-giving, Phases.call-is, Steps.See.sees-agree, Steps.Unpin.unpins, Steps.Unpin.leg-left, Steps.Unpin.leg-mappings, Steps.Unpin.mapping-legs, Steps.Unpin.from-zero, Steps.Pin.pins, Steps.Pin.leg-grows, Steps.Pin.leg-maps, Acting.can-change, Acting.can-pin, Acting.store-invalid, Steps.Exchange.exchanged-live, Steps.Access.read-justified, Steps.Access.write-justified, Steps.Access.copy-justified, Outcomes.next_of, Outcomes.IsSingle, Outcomes.single-ends, Outcomes.taken-ends, Outcomes.clean-next, Outcomes.ends-so, Placing.each-step, Placing.OfStep}
 
 -- a call in this phase
 abbrev pub call_at : DomId → Asked → Phase → Call
@@ -20,12 +20,12 @@ pub record Ticks (s : Setting) (h : History) (xs : List State) (x : State) (o : 
   pub acts : action ≡ action_at x.id (next_of s h x.id stands.phase o.step)
   pub holds : HoldsAfter o.step (seen_by s h x.id o.step) (held_in stands.phase) (held_in (next_of s h x.id stands.phase o.step)) action
 
-pub ticks : (s : Setting) (h : History) (xs : List State) (x : State) (o : Open) (c : Underway) (seen : Seen) (new : Call) (action : Action) → DomainsStand s h xs → state_of xs x.id.0 ≡ Some x → Agrees s h x → open_call h x.id.0 ≡ Some c
+pub ticks : (s : Setting) (h : History) (xs : List State) (x : State) (o : Open) (c : Underway) (seen : Seen) (new : Call) (action : Action) → IsLegalHistory s h → DomainsStand s h xs → state_of xs x.id.0 ≡ Some x → Agrees s h x → open_call h x.id.0 ≡ Some c
     → OpenAgrees s h x.id o c → seen ≡ sees xs x.id o.step → new.caller ≡ o.call.caller → new.request ≡ o.call.request
     → Goes (knowledge_of s.domains s.first_generation s.may x.own x.header x.mappings) o.call seen new action → (seen ≡ seen_by s h x.id o.step) × Ticks s h xs x o c new action
-ticks s h xs x o c seen new action st here agrees call a saw caller asks goes = let k = known_at s h x.id in
+ticks s h xs x o c seen new action legal st here agrees call a saw caller asks goes = let k = known_at s h x.id in
     let i : IsHere s h xs x.id c.request (values c) (reverse c.steps) a.phase o.step =
-    record { st = st; own = λ e. none-some x (sym e ∙ here); at = a.at; acts = a.acts; place = a.place; held = a.held; rests = a.rests; fits = a.fits } in
+    record { legal = legal; st = st; own = λ e. none-some x (sym e ∙ here); at = a.at; acts = a.acts; place = a.place; held = a.held; rests = a.rests; fits = a.fits } in
     let each = each-step s h xs x.id c.request (values c) (reverse c.steps) a.phase o.step i in let step = o.step in
     let same : seen ≡ seen_by s h x.id step = saw ∙ sees-agree s h xs x.id step st each.0 in
     let next = next_of s h x.id a.phase step in let old : Call = call_at x.id c.request a.phase in

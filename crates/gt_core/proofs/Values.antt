@@ -1,7 +1,7 @@
 -- What an answer of a call is, by its last step.
-use Rattle.gt_core.proofs.Words.{◌≡◌, ◌⊎◌, inl, inr, ℕ, refl, Bool, true, false, List, [], ◌∷◌, length, Option, Some, cond, sym, ap, ◌∙◌, subst, eqb-true, ◌==◌, nat_lt, DomId, GrantRef, Denial, N18, N19, Entry, Header, Change, control_of, header_of, header_word, Held, Asked, Map, ByLeg, Seen, Taken, Missed, Verdict, Granted, Given, Refused, Step, LookHeader, PinStep, Unpin, StoreBody, Exchange, ReadBytes, Action, Makes, Done, Aim, Mapping, AsksSize, AsksVersion, Phase, Storing, StoringSecond, Exchanging, Looking, Changing, Walking, Accessing, Asking, Last, Ending, Leg, LegPhase, Pinning, Pinned, last_first, pins_so_far, CallerKnowledge, path, held_of, is_stopped, Continuation, IsFor, RestsOnWord, RestsOnRequest, phase_after, action_at, leg_after, leg_step, after_store, refused_as, next_to_give, HasShown, IsQuiet, IsTurn, held_in, AnswerDone, State, History, Setting, word_at, table_at, known_at, seen_by, StepsSoFar, GivesValue, PhaseStands, EndsAfter, EndsCopy, answer_with, MAX_TABLE_FRAMES, ◌-◌, without_last, Size, Version, cond_both, FirstHalf, SecondHalf, first_body, second_body, CopyBytes, CopyArgs, Copy, LookControl, Pins, LegStands, legs_at, numbered, pins_at, reverse, arith}
-use Rattle.gt_calls.specs.{declared.action.Verdict.TheVariants.Mapped, Path.place_of}
+use Rattle.gt_core.proofs.Words.{◌≡◌, ◌⊎◌, inl, inr, ℕ, refl, Bool, true, false, List, [], ◌∷◌, length, Option, Some, cond, sym, ap, ◌∙◌, subst, eqb-true, ◌==◌, nat_lt, DomId, GrantRef, Denial, N18, N19, Entry, Header, Change, control_of, header_of, header_word, Held, Asked, Map, ByLeg, Seen, Taken, Missed, Verdict, Granted, Given, Refused, Step, LookHeader, PinStep, Unpin, StoreBody, Exchange, ReadBytes, Action, Makes, Done, Aim, Mapping, AsksSize, AsksVersion, Phase, Storing, StoringSecond, Exchanging, Looking, Changing, Walking, Accessing, Asking, Last, Ending, Leg, LegPhase, Pinning, Pinned, last_first, pins_so_far, CallerKnowledge, path, held_of, is_stopped, Continuation, IsFor, RestsOnWord, RestsOnRequest, phase_after, action_at, leg_after, leg_step, after_store, refused_as, next_to_give, HasShown, IsQuiet, IsTurn, held_in, AnswerDone, State, History, Setting, word_at, table_at, known_at, seen_by, StepsSoFar, GivesValue, PhaseStands, EndsAfter, EndsCopy, answer_with, MAX_TABLE_FRAMES, ◌-◌, without_last, Size, Version, cond_both, FirstHalf, SecondHalf, first_body, second_body, CopyBytes, CopyArgs, Copy, LookControl, Pins, LegStands, legs_at, numbered, pins_at, reverse, arith, stands}
 use Rattle.gt_core.proofs.{Phases.OfAction, Phases.IsHere, Phases.makes-same, Judging.walk-comes, Legs.ComesTo, Legs.IsLegOf, Legs.Words, Aims.pair_of, Aims.leg-here, Phases.words-of, Outcomes.next_of, Outcomes.walk-done, Steps.See.table-fits}
+use Rattle.gt_calls.specs.{declared.action.Verdict.TheVariants.Mapped, Path.place_of}
 
 -- the next phase of a call that stands at a question
 abbrev Next : Setting → History → DomId → Phase → Step → Verdict → Type 0
@@ -98,7 +98,7 @@ call-ends s h xs d r shown so_far phase step i = subst (OfAction (Led phase)) i.
   walked : (aim : Aim) (l : Leg) (at : LegPhase) (v : Verdict) → IsFor k d r aim l → IsLegOf s h d r l (pair_of d aim) → LegStands s h l so_far at
       → ((denial : Denial) × (v ≡ Refused denial)) ⊎ ((p : Held) × (v ≡ Mapped p) × (leg_after l at (seen_by s h d (leg_step l at)) ≡ Pinned p) × (aim ≡ Mapping)) → EndsWith s h d r (Walking aim l at) (leg_step l at) v
   walked aim l at v is leg stands (inl x) = subst (EndsWith s h d r (Walking aim l at) (leg_step l at)) (sym x.1) tt
-  walked aim l at v is leg stands (inr x) = let g = pinned-leg s h d r so_far aim l at x.0 (words-of s h xs l i.st) is leg stands x.2 in let map = of-map k d r aim l is x.3 in subst (EndsWith s h d r (Walking aim l at) (leg_step l at)) (sym x.1)
+  walked aim l at v is leg stands (inr x) = let g = pinned-leg s h d r so_far aim l at x.0 (words-of s h xs l i.legal i.st) is leg stands x.2 in let map = of-map k d r aim l is x.3 in subst (EndsWith s h d r (Walking aim l at) (leg_step l at)) (sym x.1)
       (record { is = g.0; taken = g.1; dom = map.0; gref = map.1; flags = map.2; of_map = map.3; none = ap (λ (z : Aim). last_first (pins_so_far z)) x.3 })
 
   ending : (pins : Pins) (verdict : Verdict) (held : List Held) → next_to_give held verdict ≡ Makes step → (copy : CopyArgs) × (r ≡ Copy copy) × EndsCopy verdict → Led (Ending pins verdict) step

@@ -99,7 +99,7 @@ use Rattle.gt_calls.specs.declared.call.Phase.TheVariants.{Walking, Accessing, A
 use Rattle.gt_core.specs.History.{History, Setting, Pin, live, entry_at, generation_at, body_at, table_at, reads_at}
 use Rattle.gt_core.specs.History.{writes_at, control_at, patches_at, contents_at, known_at, maps_answered_at}
 use Rattle.gt_core.specs.History.{mappings_at, mapping_of, legs_at, frame_of, Underway, open_call, values}
-use Rattle.gt_core.specs.Legal.{MayDo, grown, LeavesAll, MayUse, IsSpelled, stood, StepsSoFar, misses, looked_at}
+use Rattle.gt_core.specs.Legal.{MayDo, IsLegalHistory, grown, LeavesAll, MayUse, IsSpelled, stood, StepsSoFar, misses, looked_at}
 use Rattle.gt_core.specs.Legal.{is_in_body, refusal_in}
 
 -- a call opens so: no rule stands at its beginning, and it is about to make its first step (own)
@@ -430,9 +430,6 @@ pub record DomainsStand (s : Setting) (h : History) (domains : List State) : Typ
   pub words : (t r : ℕ) → r < TABLE_ENTRIES → FitsWord (control_at s h t r)
   pub entries : (t r : ℕ) → IsEntry (entry_at h t r)
   pub lawful : All (IsLawful s) (live h)
-  pub free : (t r : ℕ) → entry_at h t r ≡ Invalid → (reads_at h t r ≡ 0) × (writes_at h t r ≡ 0)
-  pub spelled : (t r : ℕ) → entry_at h t r ≢ Invalid
-      → IsSpelled (entry_at h t r) (body_at h t r FirstHalf) (body_at h t r SecondHalf)
 
 -- there are the frames of the run; each was written as in the history, so that it holds what the history left in it,
 -- and has its size; and each write to it was by right (own)
@@ -442,8 +439,9 @@ pub record FramesStand (s : Setting) (h : History) (fs : FrameSet) : Type 0 wher
   pub kept : AreKept fs
   pub filled : (t f : ℕ) → length (contents_at h t f) ≡ FRAME_SIZE
 
--- the core stands for the history (own)
+-- the core stands for the history, which is a legal one (own)
 pub record CoreStands (s : Setting) (h : History) (core : CoreState) : Type 0 where
+  pub legal : IsLegalHistory s h
   pub domains : DomainsStand s h core.domains
   pub frames : FramesStand s h core.frames
 

@@ -1,29 +1,11 @@
 -- An exchange that was taken keeps what a core stands for.
-use Rattle.gt_core.proofs.Words.{◌≡◌, ◌≢◌, ◌<◌, ◌≤◌, ◌+◌, ℕ, refl, Bool, true, List, ◌∷◌, length, Option, Some, None, cond, sym, ap, ◌∙◌, arith, subst, get_or, eqb-true, none-some, slice_get-get_or, option_map, ◌==◌, All, slice_get, fun_ext, DomId, GrantRef, TABLE_ENTRIES, LAST_GENERATION, Entry, Invalid, Change, Publish, IsEntry, Exchange, Taken, Own, Open, Item, Answer, entry_in, generation_in, row_entry, row_generation, changed_at, State, state_of, changed_in, with_own, own_after, History, Setting, Pin, live, entry_at, raises_at, raise_of, generation_at, open_call, change_of, entry_after, raise_after, one_if_mapped, IsSafeChange, IsLawful, FitsTable, Agrees, DomainsStand, CallAgrees, GivenAgrees, append-nil, gather, by_mapping}
-use Rattle.gt_core.proofs.{Steps.Observers.unstored, Steps.Observers.answered-stays, Steps.Observers.kept-table, Keeping.stepped, Keeping.SlotsAgree, Keeping.same-number, Keeping.counts-fit, Rows.get-changed, Rows.length-changed, Mappings.mappings-same, Keeping.slots-kept, Keeping.Facts, Keeping.facts_at, Keeping.Fits, Keeping.facts-fit, Keeping.each-stays, Keeping.all-stand, Keeping.own-changed}
+use Rattle.gt_core.proofs.Words.{◌≡◌, ◌≢◌, ◌<◌, ◌≤◌, ◌+◌, ℕ, refl, Bool, true, List, ◌∷◌, length, Option, Some, None, cond, sym, ap, ◌∙◌, arith, subst, get_or, eqb-true, none-some, slice_get-get_or, option_map, ◌==◌, All, slice_get, fun_ext, DomId, GrantRef, TABLE_ENTRIES, LAST_GENERATION, Entry, Invalid, Change, Publish, IsEntry, Own, Open, Item, Answer, entry_in, generation_in, row_entry, row_generation, changed_at, State, state_of, changed_in, with_own, own_after, History, Setting, Pin, live, entry_at, raises_at, raise_of, generation_at, open_call, change_of, entry_after, raise_after, one_if_mapped, IsSafeChange, IsLawful, FitsTable, Agrees, DomainsStand, CallAgrees, GivenAgrees, gather, by_mapping, first}
+use Rattle.gt_core.proofs.{Steps.Observers.unstored, Steps.Observers.answered-stays, Steps.Observers.kept-table, Keeping.SlotsAgree, Keeping.same-number, Keeping.counts-fit, Rows.get-changed, Rows.length-changed, Mappings.mappings-same, Keeping.slots-kept, Keeping.Facts, Keeping.facts_at, Keeping.Fits, Keeping.facts-fit, Keeping.each-stays, Keeping.all-stand, Keeping.own-changed, Steps.Observers.exchanged, Steps.Observers.exchanged-entry, Steps.Observers.exchanged-raises, Steps.Observers.exchanged-live}
 
 -- each number of the entry that is published fits its type
 abbrev pub FitsChange : Change → Type 0
 FitsChange (Publish entry) = IsEntry entry
 FitsChange change = Unit {0}
-
--- the item of an exchange that was taken
-abbrev pub exchanged : DomId → GrantRef → ℕ → Change → Option Answer → Item
-exchanged d gref looked change answer = stepped d (Exchange gref looked change) Taken answer
-
--- what the exchange leaves
-
-exchanged-entry : (h : History) (i : Item) (t r : ℕ) → entry_at (i ∷ h) t r ≡ entry_after (change_of i t r) (entry_at h t r)
-unfolding entry_at
-exchanged-entry h i t r = refl
-
-exchanged-raises : (h : History) (i : Item) (t r : ℕ) → raises_at (i ∷ h) t r ≡ raises_at h t r + raise_after (change_of i t r)
-unfolding raises_at
-exchanged-raises h i t r = refl
-
-pub exchanged-live : (h : History) (d : DomId) (gref : GrantRef) (looked : ℕ) (change : Change) (answer : Option Answer) → live (exchanged d gref looked change answer ∷ h) ≡ live h
-unfolding live
-exchanged-live h d gref looked change answer = append-nil (live h)
 
 -- the owner's rows
 

@@ -1,5 +1,5 @@
 -- What an item leaves of the entries, words, pins and mappings, and of the other domains.
-use Rattle.gt_core.proofs.Words.{◌≡◌, ◌+◌, ℕ, refl, Bool, true, false, List, [], ◌∷◌, ◌++◌, Option, None, cond, ap, ◌∙◌, arith, ◌==◌, DomId, Header, Change, Item, History, Setting, entry_at, entry_after, raises_at, raise_after, live, Pin, pinned_by, unpinned_by, change_at, change_of, maps_answered_at, one_if_mapped, known_at, mappings_at, gather, by_mapping, legs_at, by_leg, header_stored, header_or, table_at, append-nil, Half, or_else, stored_at, body_at, ◌&&◌, Holder, Held, without, is_holder, cond_both, Some, Handle, ByMapping, ByLeg, append_assoc, All-cons, All-head, All-tail, All}
+use Rattle.gt_core.proofs.Words.{◌≡◌, ◌+◌, ℕ, refl, Bool, true, false, List, [], ◌∷◌, ◌++◌, Option, None, cond, ap, ◌∙◌, arith, ◌==◌, DomId, Header, Change, Item, History, Setting, entry_at, entry_after, raises_at, raise_after, live, Pin, pinned_by, unpinned_by, change_at, change_of, maps_answered_at, one_if_mapped, known_at, mappings_at, gather, by_mapping, legs_at, by_leg, header_stored, header_or, table_at, append-nil, Half, or_else, stored_at, body_at, ◌&&◌, Holder, Held, without, is_holder, cond_both, Some, Handle, ByMapping, ByLeg, append_assoc, All-cons, All-head, All-tail, All, length, sum_by_push, count_by, Dir, GrantRef, Seen, Taken, Step, Exchange, PinStep, Unpin, holder_after, is_pin_on, Answer, Stepped}
 
 -- the item changes no entry, pin or mapping
 pub record KeepsKnown (i : Item) : Type 0 where
@@ -137,3 +137,61 @@ leg-keyed = record { key = key; gives = gives } where
   gives : (x : Holder) (p : Held) → by_leg x p ≡ listed (key x) p
   gives (ByMapping k) p = refl
   gives (ByLeg n) p = refl
+
+-- the items of steps
+
+-- the item of a step
+abbrev pub stepped : DomId → Step → Seen → Option Answer → Item
+stepped d step seen answer = record { actor = d; happened = Stepped step seen; answer = answer }
+
+-- the pin that is held after a step that took it
+abbrev pub new_pin : History → DomId → Held → Option Answer → Pin
+new_pin h d p answer = record { actor = d.0; holder = holder_after answer (length (gather by_leg d.0 (live h))); held = record p { entry = entry_at h p.dom.0 p.gref.0 } }
+
+-- the item of a pin that was taken
+abbrev pub pins : DomId → Held → Option Answer → Item
+pins d p answer = stepped d (PinStep p) Taken answer
+
+pub pinned-live : (h : History) (d : DomId) (p : Held) (answer : Option Answer) → live (pins d p answer ∷ h) ≡ live h ++ new_pin h d p answer ∷ []
+unfolding live
+pinned-live h d p answer = refl
+
+abbrev pub pins_at : History → ℕ → ℕ → Dir → ℕ
+pins_at h t r dir = count_by (is_pin_on t r dir) (live h)
+
+-- the item of an unpin
+abbrev pub unpins : DomId → Held → Holder → Seen → Option Answer → Item
+unpins d p holder seen answer = stepped d (Unpin p holder) seen answer
+
+pub unpinned-live : (h : History) (d : DomId) (p : Held) (holder : Holder) (seen : Seen) (answer : Option Answer) → live (unpins d p holder seen answer ∷ h) ≡ without d.0 holder (live h)
+unfolding live
+unpinned-live h d p holder seen answer = append-nil (without d.0 holder (live h))
+
+-- the item of an exchange that was taken
+abbrev pub exchanged : DomId → GrantRef → ℕ → Change → Option Answer → Item
+exchanged d gref looked change answer = stepped d (Exchange gref looked change) Taken answer
+
+pub exchanged-entry : (h : History) (i : Item) (t r : ℕ) → entry_at (i ∷ h) t r ≡ entry_after (change_of i t r) (entry_at h t r)
+unfolding entry_at
+exchanged-entry h i t r = refl
+
+pub exchanged-raises : (h : History) (i : Item) (t r : ℕ) → raises_at (i ∷ h) t r ≡ raises_at h t r + raise_after (change_of i t r)
+unfolding raises_at
+exchanged-raises h i t r = refl
+
+pub exchanged-live : (h : History) (d : DomId) (gref : GrantRef) (looked : ℕ) (change : Change) (answer : Option Answer) → live (exchanged d gref looked change answer ∷ h) ≡ live h
+unfolding live
+exchanged-live h d gref looked change answer = append-nil (live h)
+
+-- a history that has one pin more
+
+abbrev pub Grows : History → Item → Pin → Type 0
+Grows h i p = live (i ∷ h) ≡ live h ++ p ∷ []
+
+pub grown-count : (h : History) (i : Item) (p : Pin) (t r : ℕ) (k : Dir) → Grows h i p
+    → pins_at (i ∷ h) t r k ≡ pins_at h t r k + cond (is_pin_on t r k p) 1 0
+grown-count h i p t r k e = ap (λ (ps : List Pin). count_by (is_pin_on t r k) ps) e ∙ sum_by_push (λ (x : Pin). cond (is_pin_on t r k x) 1 0) (live h) p
+
+-- what holds at the place of a pin
+pub at-place : (P : ℕ → ℕ → Dir → Type 0) (p : Pin) (t r : ℕ) (k : Dir) → P p.held.dom.0 p.held.gref.0 p.held.dir → is_pin_on t r k p ≡ true → P t r k
+at-place P p t r k a e = grind arith

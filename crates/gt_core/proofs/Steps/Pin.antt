@@ -1,34 +1,11 @@
 -- A pin that was taken keeps what a core stands for.
-use Rattle.gt_core.proofs.Words.{◌≡◌, ◌≢◌, ◌<◌, ◌+◌, ℕ, refl, Bool, true, List, [], ◌∷◌, ◌++◌, length, Option, Some, cond, sym, ap, ◌∙◌, arith, subst, ◌==◌, ◌&&◌, All, count_by, All-push, append-nil, DomId, Dir, Read, Write, MAX_PINS, Invalid, Half, FirstHalf, SecondHalf, HandleMap, Handle, Held, Holder, ByLeg, PinStep, Taken, PinCounts, Open, Item, Answer, Mapped, State, state_of, changed_in, with_slot, slot_after, Adds, History, Setting, Pin, live, entry_at, body_at, reads_at, writes_at, mappings_at, maps_answered_at, legs_at, open_call, is_pin_on, same_dir, FitsWord, control_at, gather, by_mapping, by_leg, holder_after, one_if_mapped, IsLawful, SlotAgrees, Agrees, DomainsStand, CallAgrees, GivenAgrees, MappingsAgree, sum_by_push}
-use Rattle.gt_core.{specs.declared.pin_counts.CountsChange.TheVariants.Pinned, proofs.Steps.Observers.answered-stays, proofs.Steps.Observers.gather-append, proofs.Keeping.stepped, proofs.Keeping.KeepsEntries, proofs.Keeping.same-body, proofs.Keeping.becomes-changed, proofs.Keeping.slots-stand, proofs.Keeping.keeps-stands, proofs.Keeping.same-number, proofs.Mappings.mappings-added, proofs.Mappings.mappings-same}
-
-abbrev pub pins_at : History → ℕ → ℕ → Dir → ℕ
-pins_at h t r dir = count_by (is_pin_on t r dir) (live h)
-
--- the pin that is held after a step that took it
-abbrev pub new_pin : History → DomId → Held → Option Answer → Pin
-new_pin h d p answer = record { actor = d.0; holder = holder_after answer (length (gather by_leg d.0 (live h))); held = record p { entry = entry_at h p.dom.0 p.gref.0 } }
-
--- the item of a pin that was taken
-abbrev pub pins : DomId → Held → Option Answer → Item
-pins d p answer = stepped d (PinStep p) Taken answer
-
--- a history that has one pin more
-
-abbrev Grows : History → Item → Pin → Type 0
-Grows h i p = live (i ∷ h) ≡ live h ++ p ∷ []
+use Rattle.gt_core.proofs.Words.{◌≡◌, ◌<◌, ◌+◌, ℕ, refl, Bool, true, List, [], ◌∷◌, ◌++◌, length, Option, Some, cond, sym, ap, ◌∙◌, arith, subst, ◌==◌, ◌&&◌, All, All-push, append-nil, DomId, Dir, Read, Write, MAX_PINS, Half, FirstHalf, SecondHalf, HandleMap, Handle, Held, Holder, ByLeg, PinCounts, Open, Item, Answer, Mapped, State, state_of, changed_in, with_slot, slot_after, Adds, History, Setting, Pin, live, entry_at, body_at, mappings_at, maps_answered_at, legs_at, open_call, is_pin_on, same_dir, FitsWord, control_at, gather, by_mapping, by_leg, holder_after, one_if_mapped, IsLawful, SlotAgrees, Agrees, DomainsStand, CallAgrees, GivenAgrees, MappingsAgree}
+use Rattle.gt_core.proofs.{Steps.Observers.answered-stays, Steps.Observers.gather-append, Keeping.KeepsEntries, Keeping.same-body, Keeping.becomes-changed, Keeping.slots-stand, Keeping.keeps-stands, Keeping.same-number, Mappings.mappings-added, Mappings.mappings-same, Steps.Observers.new_pin, Steps.Observers.pinned-live, Steps.Observers.Grows, Steps.Observers.grown-count, Steps.Observers.at-place, Steps.Observers.pins, Steps.Observers.pins_at}
+use Rattle.gt_core.specs.declared.pin_counts.CountsChange.TheVariants.{Pinned}
 
 -- the pin may be counted
 abbrev pub IsFew : History → Pin → Type 0
 IsFew h p = pins_at h p.held.dom.0 p.held.gref.0 p.held.dir < MAX_PINS
-
-grown-count : (h : History) (i : Item) (p : Pin) (t r : ℕ) (k : Dir) → Grows h i p
-    → pins_at (i ∷ h) t r k ≡ pins_at h t r k + cond (is_pin_on t r k p) 1 0
-grown-count h i p t r k e = ap (λ (ps : List Pin). count_by (is_pin_on t r k) ps) e ∙ sum_by_push (λ (x : Pin). cond (is_pin_on t r k x) 1 0) (live h) p
-
--- what holds at the place of a pin
-at-place : (P : ℕ → ℕ → Dir → Type 0) (p : Pin) (t r : ℕ) (k : Dir) → P p.held.dom.0 p.held.gref.0 p.held.dir → is_pin_on t r k p ≡ true → P t r k
-at-place P p t r k a e = grind arith
 
 -- the slot that the pin counts up
 counted-up : (h new : History) (q r : ℕ) (dir : Dir) (b : Bool) (old : PinCounts) → SlotAgrees h q r old → ((which : Half) → body_at new q r which ≡ body_at h q r which)
@@ -41,18 +18,8 @@ counted-up h new q r dir b old a body now few = grind (arith, now Read, now Writ
 pub pins-fit : (s : Setting) (h : History) (t r : ℕ) (k : Dir) → FitsWord (control_at s h t r) → pins_at h t r k < MAX_PINS + 1
 pins-fit s h t r k f = grind arith
 
-pub pins-none : (h : History) (t r : ℕ) (k : Dir) → (reads_at h t r ≡ 0) × (writes_at h t r ≡ 0) → pins_at h t r k ≡ 0
-pins-none h t r k none = grind arith
-
 now-fits : (b : Bool) (now was : ℕ) → was < MAX_PINS + 1 → (b ≡ true → was < MAX_PINS) → now ≡ was + cond b 1 0 → now < MAX_PINS + 1
 now-fits b now was a few e = grind arith
-
-now-none : (b : Bool) (now was : ℕ) → was ≡ 0 → (b ≡ true → ⊥) → now ≡ was + cond b 1 0 → now ≡ 0
-now-none b now was a none e = grind arith
-
-pub pinned-live : (h : History) (d : DomId) (p : Held) (answer : Option Answer) → live (pins d p answer ∷ h) ≡ live h ++ new_pin h d p answer ∷ []
-unfolding live
-pinned-live h d p answer = refl
 
 -- what the pin gives to its domain
 gathered : {A : Type 0} (give : Holder → Held → List A) (h : History) (d : DomId) (p : Held) (answer : Option Answer)
@@ -75,15 +42,15 @@ answered-up : (h : History) (d : DomId) (p : Held) (handle : Handle) → maps_an
 unfolding maps_answered_at
 answered-up h d p handle = rw (same-number d.0) (omega arith)
 
--- a lawful pin, taken on a valid entry, keeps what the core stands for, where the domain's mappings are those that it
+-- a lawful pin keeps what the core stands for, where the domain's mappings are those that it
 -- then has
 pub pin-stands : (s : Setting) (h : History) (xs ys : List State) (x : State) (p : Held) (answer : Option Answer) (kept : HandleMap Held) (o : Option Open) → DomainsStand s h xs → state_of xs x.id.0 ≡ Some x → Agrees s h x
     → ((q : ℕ) → state_of ys q ≡ cond (x.id.0 == q) (Some (record x { mappings = kept; underway = o })) (state_of xs q))
-    → entry_at h p.dom.0 p.gref.0 ≢ Invalid → IsFew h (new_pin h x.id p answer) → IsLawful s (new_pin h x.id p answer)
+    → IsFew h (new_pin h x.id p answer) → IsLawful s (new_pin h x.id p answer)
     → MappingsAgree kept (mappings_at (pins x.id p answer ∷ h) x.id.0) (maps_answered_at (pins x.id p answer ∷ h) x.id.0)
     → CallAgrees s (pins x.id p answer ∷ h) x.id o (open_call (pins x.id p answer ∷ h) x.id.0) → GivenAgrees (pins x.id p answer ∷ h) x.id.0 x.given
     → DomainsStand s (pins x.id p answer ∷ h) (changed_in p.dom.0 (with_slot p.gref.0 (Pinned p.dir)) ys)
-pin-stands s h xs ys x p answer kept o st here a becomes valid few lawful maps call given =
+pin-stands s h xs ys x p answer kept o st here a becomes few lawful maps call given =
     let i : Item = pins x.id p answer in let q : Pin = new_pin h x.id p answer in
     let keeps : KeepsEntries i = record { changes = λ r. refl; stores = λ r which. refl; header = refl } in let grows : Grows h i q = pinned-live h x.id p answer in
     let there = λ (t r : ℕ) (k : Dir). at-place (λ (t r : ℕ) (k : Dir). pins_at h t r k < MAX_PINS) q t r k few in
@@ -92,8 +59,6 @@ pin-stands s h xs ys x p answer kept o st here a becomes valid few lawful maps c
     (λ u r old w. counted-up h (i ∷ h) u r p.dir ((p.dom.0 == u) && (p.gref.0 == r)) old w (λ which. same-body i h u r which keeps) (λ k. grown-count h i q u r k grows) (there u r)) maps call given)
     (subst (All (IsLawful s)) (sym grows) (All-push (IsLawful s) (live h) q st.lawful lawful))
     (λ u r k within. now-fits (is_pin_on u r k q) (pins_at (i ∷ h) u r k) (pins_at h u r k) (pins-fit s h u r k (st.words u r within)) (there u r k) (grown-count h i q u r k grows))
-    (λ u r k none. now-none (is_pin_on u r k q) (pins_at (i ∷ h) u r k) (pins_at h u r k) (pins-none h u r k (st.free u r none))
-    (λ e. at-place (λ (t n : ℕ) (k : Dir). entry_at h t n ≢ Invalid) q u r k valid e none) (grown-count h i q u r k grows))
 
 -- the mappings after the pin of a map
 pub map-agrees : (h : History) (d : DomId) (p : Held) (handle : Handle) (old kept : HandleMap Held) → Adds old kept handle (record p { entry = entry_at h p.dom.0 p.gref.0 }) → MappingsAgree old (mappings_at h d.0) (maps_answered_at h d.0)

@@ -1,6 +1,6 @@
 -- A header, or a body word of an invalid entry, that its owner stores keeps what a core stands for.
-use Rattle.gt_core.proofs.Words.{◌≡◌, ◌%◌, ℕ, refl, Bool, true, List, ◌∷◌, Option, Some, None, cond, sym, ap, ◌∙◌, arith, subst, ◌==◌, DomId, Header, StoreHeader, Nothing, Open, Item, Answer, State, state_of, changed_in, with_header, History, Setting, header_or, table_at, one_if_mapped, open_call, FitsTable, Agrees, DomainsStand, CallAgrees, GivenAgrees, ◌≢◌, GrantRef, Invalid, Half, FirstHalf, SecondHalf, StoreBody, Stored, with_slot, entry_at, body_at}
-use Rattle.gt_core.proofs.{Steps.Observers.unstored, Steps.Observers.KeepsKnown, Steps.Observers.kept-live, Steps.Observers.other-table, Steps.Observers.kept-table, Keeping.stepped, Keeping.SlotsAgree, Keeping.actor-agrees, Keeping.kept-stands, Keeping.mappings-stay, Keeping.same-number, Keeping.Moves, Keeping.slots-kept, Keeping.each-stays, Keeping.becomes-changed, Keeping.own-changed, Keeping.slots-stand}
+use Rattle.gt_core.proofs.Words.{◌≡◌, ◌%◌, ℕ, refl, Bool, true, List, ◌∷◌, Option, Some, None, cond, sym, ap, ◌∙◌, arith, subst, ◌==◌, DomId, Header, StoreHeader, Nothing, Open, Item, Answer, State, state_of, changed_in, with_header, History, Setting, header_or, table_at, one_if_mapped, open_call, FitsTable, Agrees, DomainsStand, CallAgrees, GivenAgrees, GrantRef, Half, FirstHalf, SecondHalf, StoreBody, Stored, with_slot, body_at}
+use Rattle.gt_core.proofs.{Steps.Observers.unstored, Steps.Observers.KeepsKnown, Steps.Observers.kept-live, Steps.Observers.other-table, Steps.Observers.kept-table, Steps.Observers.stepped, Keeping.SlotsAgree, Keeping.actor-agrees, Keeping.kept-stands, Keeping.mappings-stay, Keeping.same-number, Keeping.Moves, Keeping.slots-kept, Keeping.each-stays, Keeping.becomes-changed, Keeping.own-changed, Keeping.slots-stand}
 
 -- the item of a header that is stored
 abbrev pub headed : DomId → ℕ → ℕ → Option Answer → Item
@@ -35,7 +35,7 @@ header-stands s h xs ys x version frames answer o st here a becomes m fits call 
     (actor-agrees s i h x (record { version = version % 4; frames = frames % 256 }) x.slots x.mappings o x.given k.changes a
     (room-there version frames fits ∙ sym (headed-table s h x.id version frames answer x.id (same-number x.id.0)))
     a.room (slots x a.slots) (mappings-stay i h x.id.0 x.mappings k a.mappings) call given) (λ y apart b. slots y b))
-    (λ dom. headed-fits s h x.id version frames answer dom (x.id.0 == dom.0) refl fits (st.tables dom)) (λ t r valid which. unstored i h t r which refl)
+    (λ dom. headed-fits s h x.id version frames answer dom (x.id.0 == dom.0) refl fits (st.tables dom))
 
 -- the item of a store
 abbrev pub stores : DomId → GrantRef → Half → ℕ → Item
@@ -53,24 +53,18 @@ pub first-stays : (d : DomId) (gref : GrantRef) (word r : ℕ) (h : History) →
 unfolding body_at
 first-stays d gref word r h = grind arith
 
--- the words of a valid entry stay
-valid-stays : (d : DomId) (gref : GrantRef) (half : Half) (word : ℕ) (h : History) (t r : ℕ) (which : Half) → entry_at h d.0 gref.0 ≡ Invalid → entry_at h t r ≢ Invalid
-    → body_at (stores d gref half word ∷ h) t r which ≡ body_at h t r which
-unfolding body_at
-valid-stays d gref half word h t r which invalid valid = grind arith
-
 -- each slot agrees, with the word stored
 moves-stored : (d : DomId) (gref : GrantRef) (half : Half) (word : ℕ) (h : History) → Moves h (stores d gref half word ∷ h) d.0 gref.0 (Stored half word)
 unfolding body_at
 moves-stored d gref half word h q r old a = grind (arith, kept-live, store-keeps)
 
--- a body word stored on an invalid entry keeps what the core stands for
+-- a body word that is stored keeps what the core stands for
 pub store-stands : (s : Setting) (h : History) (xs ys : List State) (x : State) (gref : GrantRef) (half : Half) (word : ℕ) (o : Option Open) → DomainsStand s h xs
-    → state_of xs x.id.0 ≡ Some x → Agrees s h x → entry_at h x.id.0 gref.0 ≡ Invalid → ((q : ℕ) → state_of ys q ≡ cond (x.id.0 == q) (Some (record x { underway = o })) (state_of xs q))
+    → state_of xs x.id.0 ≡ Some x → Agrees s h x → ((q : ℕ) → state_of ys q ≡ cond (x.id.0 == q) (Some (record x { underway = o })) (state_of xs q))
     → CallAgrees s (stores x.id gref half word ∷ h) x.id o (open_call (stores x.id gref half word ∷ h) x.id.0) → GivenAgrees (stores x.id gref half word ∷ h) x.id.0 x.given
     → DomainsStand s (stores x.id gref half word ∷ h) (changed_in x.id.0 (with_slot gref.0 (Stored half word)) ys)
-store-stands s h xs ys x gref half word o st here a invalid becomes call given = let i = stores x.id gref half word in let k = store-keeps x.id gref half word in
+store-stands s h xs ys x gref half word o st here a becomes call given = let i = stores x.id gref half word in let k = store-keeps x.id gref half word in
     kept-stands s i h xs _ k st
     (slots-stand s i h xs _ x x.mappings o x.id.0 gref.0 (Stored half word) k.changes refl refl st here a (becomes-changed xs ys x (record x { underway = o }) x.id.0 (with_slot gref.0 (Stored half word)) (λ y. refl) becomes)
     (moves-stored x.id gref half word h) (mappings-stay i h x.id.0 x.mappings k a.mappings) call given)
-    (λ dom. subst FitsTable (sym (kept-table s i h dom refl)) (st.tables dom)) (λ t r valid which. valid-stays x.id gref half word h t r which invalid valid)
+    (λ dom. subst FitsTable (sym (kept-table s i h dom refl)) (st.tables dom))

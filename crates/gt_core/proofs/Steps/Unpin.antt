@@ -1,6 +1,6 @@
 -- An unpin keeps what a core stands for.
-use Rattle.gt_core.proofs.Words.{◌≡◌, ◌+◌, ℕ, refl, Bool, false, List, [], ◌∷◌, ◌++◌, length, Option, Some, None, cond, sym, ap, ◌∙◌, arith, subst, ◌==◌, ◌&&◌, All, count_by, none-some, append-nil, sum_by-cons, DomId, Dir, Read, Write, Half, FirstHalf, SecondHalf, Handle, HandleMap, Held, Holder, ByMapping, ByLeg, Unpin, Seen, PinCounts, Open, Unpinned, Item, Answer, State, state_of, changed_in, with_slot, without_mapping, slot_after, taken, History, Setting, Pin, live, body_at, mappings_at, maps_answered_at, legs_at, open_call, is_pin_on, without, is_holder, same_handle, same_dir, gather, by_mapping, by_leg, mapping_of, one_if_mapped, IsLawful, SlotAgrees, Agrees, DomainsStand, CallAgrees, GivenAgrees, MappingsAgree, numbered}
-use Rattle.gt_core.proofs.{Steps.Observers.answered-stays, Steps.Observers.cond-same, Steps.Observers.without-kept, Steps.Observers.IsKeyed, Steps.Observers.mapping-keyed, Steps.Observers.leg-keyed, Keeping.stepped, Keeping.KeepsEntries, Keeping.same-body, Keeping.Becomes, Keeping.becomes-changed, Keeping.slots-stand, Keeping.keeps-stands, Mappings.less, Mappings.less_of, Mappings.mappings-taken, Mappings.mappings-same, Rows.state-changed, Steps.Pin.pins_at, Steps.Pin.pins-fit, Steps.Pin.pins-none, Steps.Observers.all-without}
+use Rattle.gt_core.proofs.Words.{◌≡◌, ◌+◌, ℕ, refl, Bool, false, List, [], ◌∷◌, ◌++◌, length, Option, Some, None, cond, sym, ap, ◌∙◌, arith, subst, ◌==◌, ◌&&◌, All, count_by, none-some, sum_by-cons, DomId, Dir, Read, Write, Half, FirstHalf, SecondHalf, Handle, HandleMap, Held, Holder, ByMapping, ByLeg, Seen, PinCounts, Open, Unpinned, Item, Answer, State, state_of, changed_in, with_slot, without_mapping, slot_after, taken, History, Setting, Pin, live, body_at, mappings_at, maps_answered_at, legs_at, open_call, is_pin_on, without, is_holder, same_handle, same_dir, gather, by_mapping, by_leg, mapping_of, one_if_mapped, IsLawful, SlotAgrees, Agrees, DomainsStand, CallAgrees, GivenAgrees, MappingsAgree, numbered}
+use Rattle.gt_core.proofs.{Steps.Observers.answered-stays, Steps.Observers.cond-same, Steps.Observers.without-kept, Steps.Observers.IsKeyed, Steps.Observers.mapping-keyed, Steps.Observers.leg-keyed, Keeping.KeepsEntries, Keeping.same-body, Keeping.Becomes, Keeping.becomes-changed, Keeping.slots-stand, Keeping.keeps-stands, Mappings.less, Mappings.less_of, Mappings.mappings-taken, Mappings.mappings-same, Rows.state-changed, Steps.Observers.pins_at, Steps.Pin.pins-fit, Steps.Observers.all-without, Steps.Observers.unpinned-live, Steps.Observers.unpins}
 
 -- what an unpin takes from the live pins
 
@@ -48,14 +48,6 @@ leg-tells number = record { keyed = leg-keyed; tells = by } where
   by : (x : Holder) → is_holder x (ByLeg number) ≡ passes (λ (k : ℕ). k == number) (leg-keyed.key x)
   by (ByMapping k) = refl
   by (ByLeg n) = refl
-
--- the item of an unpin
-abbrev pub unpins : DomId → Held → Holder → Seen → Option Answer → Item
-unpins d p holder seen answer = stepped d (Unpin p holder) seen answer
-
-pub unpinned-live : (h : History) (d : DomId) (p : Held) (holder : Holder) (seen : Seen) (answer : Option Answer) → live (unpins d p holder seen answer ∷ h) ≡ without d.0 holder (live h)
-unfolding live
-unpinned-live h d p holder seen answer = append-nil (without d.0 holder (live h))
 
 -- by a mapping's handle
 
@@ -126,7 +118,6 @@ unpin-stands s h xs zs x p holder seen answer kept o st here a becomes loses map
     (λ u r old w. counted-down h (i ∷ h) u r p.dir ((p.dom.0 == u) && (p.gref.0 == r)) old w (λ which. same-body i h u r which keeps) (λ k. shrinks u r k)) maps call given)
     (subst (All (IsLawful s)) (sym now) (all-without (IsLawful s) x.id.0 holder (live h) st.lawful))
     (λ t r k within. let e = shrinks t r k in let was = pins-fit s h t r k (st.words t r within) in omega arith)
-    (λ t r k none. let e = shrinks t r k in let was = pins-none h t r k (st.free t r none) in omega arith)
   where
     i : Item
     i = unpins x.id p holder seen answer

@@ -54,7 +54,7 @@ go_on_or_end-answer-requires-clause-room g c = let s = setting_by g.P.Allows.may
     let here = place-at xs c.args.dom.0 at x p c.index.ensures in
     let begins : Begins s xs c.args.dom at x o c.see-seen.result c.advance-action.result.0 c.advance-action.result.1 =
     record { place = p; here = c.index.ensures; under = sym c.underway.ensures ∙ c.in-Some-underway.is; saw = c.see-seen.ensures ∙ ap (λ (l : List State). sees l c.args.dom o.step) c.deref-2.ensures.value; caller = c.advance-action.ensures.caller; asks = c.advance-action.ensures.request; goes = c.advance-action.ensures.goes x here } in
-    room-asked s c.requires.0 xs c.args.dom at x o c.see-seen.result c.advance-action.result.0 c.advance-action.result.1 c.requires.1.domains begins
+    room-asked s c.requires.0 xs c.args.dom at x o c.see-seen.result c.advance-action.result.0 c.advance-action.result.1 c.requires.1.legal c.requires.1.domains begins
 
 pub returns-clause-stands : goal.returns-clause-stands
 returns-clause-stands g c = let s = setting_by g.P.Allows.may c.args.self.now in let xs = c.args.self.now.domains.items in
