@@ -1,11 +1,7 @@
--- Where a step leads a call: what it ends with, what it has left, and what its answer is.
-use Rattle.gt_core.proofs.Words.{◌≡◌, ◌⊎◌, inl, inr, ℕ, refl, List, [], ◌∷◌, ◌++◌, Option, Some, None, sym, ap, subst, All-push, All, DomId, GrantRef, Denial, Entry, Via, Change, Held, Direct, Through, Pins, Asked, ByMapping, ByLeg, Seen, Nothing, Taken, Verdict, Granted, Refused, Step, Unpin, StoreHeader, Exchange, ReadBytes, WriteBytes, Makes, Done, Aim, Mapping, Source, Dest, Phase, Exchanging, Changing, Walking, Accessing, Last, Ending, Leg, AtHeader, LegNext, LegRefused, Pinned, last_first, pins_so_far, no_pins, CallerKnowledge, via_judged, is_dest_granted, source_pair, dest_pair, second_leg, end_leg, Continuation, phase_after, action_at, after_leg, after_source_pin, after_dest_pin, where_via, next_to_give, HasShown, IsQuiet, History, Setting, known_at, seen_by, StepsSoFar, LeavesAll, refusal_in, PhaseStands, EndsAfter, IsClean, Write, cond_both, CopyArgs, Route, at_dest}
-use Rattle.gt_core.proofs.{Phases.by-leg, Phases.makes-same, Phases.by-giving}
+-- How a call ends, and what its steps have left as it was.
+use Rattle.gt_core.proofs.Words.{◌≡◌, ◌⊎◌, inl, inr, ℕ, refl, List, [], ◌∷◌, ◌++◌, Option, Some, None, sym, ap, subst, All-push, All, DomId, Denial, Entry, Via, Held, Direct, Through, Pins, Asked, ByMapping, ByLeg, Seen, Nothing, Verdict, Refused, Step, Unpin, StoreHeader, ReadBytes, WriteBytes, Makes, Done, Aim, Mapping, Source, Dest, Phase, Walking, Accessing, Last, Ending, Leg, AtHeader, LegNext, LegRefused, Pinned, last_first, pins_so_far, no_pins, CallerKnowledge, via_judged, is_dest_granted, source_pair, dest_pair, second_leg, end_leg, phase_after, action_at, after_leg, after_source_pin, after_dest_pin, where_via, next_to_give, History, Setting, known_at, seen_by, StepsSoFar, LeavesAll, refusal_in, PhaseStands, EndsAfter, IsClean, Write, cond_both, CopyArgs, Route, at_dest}
+use Rattle.gt_core.proofs.{Phases.by-leg, Phases.makes-same, Phases.by-giving, Phases.next_of, Phases.LeavesOrEnds}
 use Rattle.gt_calls.specs.declared.{held.Route.TheVariants.Own, action.Verdict.TheVariants.Mapped}
-
--- the next phase
-abbrev pub next_of : Setting → History → DomId → Phase → Step → Phase
-next_of s h d phase step = phase_after (known_at s h d) d phase (seen_by s h d step)
 
 -- a single step of a call
 
@@ -39,27 +35,11 @@ after-plain r (StoreHeader version frames) verdict (inl a) = ap (λ (v : Verdict
 after-plain r (StoreHeader version frames) verdict (inr a) = ap (λ (v : Verdict). refusal_in (Some v)) a.1
 after-plain r step verdict a = ap (λ (v : Verdict). refusal_in (Some v)) a
 
--- an exchange that was taken
-
--- it ends its call
-pub taken-ends : (k : CallerKnowledge) (way : Continuation) (d : DomId) (r : Asked) (shown : List Seen) (phase : Phase) (gref : GrantRef) (looked : ℕ) (change : Change) → HasShown k way d r shown phase → action_at d phase ≡ Makes (Exchange gref looked change)
-    → phase_after k d phase Taken ≡ Ending no_pins Granted
-taken-ends k way d r shown (Exchanging g w c) gref looked change a e = refl
-taken-ends k way d r shown (Changing g c more w) gref looked change a e = refl
-taken-ends k way d r shown (Walking aim l at) gref looked change a e = absurd (by-leg (λ (z : Step). z ≡ Exchange gref looked change → ⊥) (λ dom f. cc) (λ dom x f. cc) (λ dom x half f. cc) (λ p f. cc) l at (makes-same _ _ e))
-taken-ends k way d r shown (Last last verdict) gref looked change a e = absurd (subst IsQuiet (makes-same _ _ e) a.0)
-taken-ends k way d r shown (Ending pins verdict) gref looked change a e = absurd (by-giving (λ (z : Step). z ≡ Exchange gref looked change → ⊥) (λ p n f. cc) (last_first pins) verdict _ e refl)
-taken-ends k way d r shown phase gref looked change a e = cc
-
 -- the steps so far have left all as it was, unless the call ends with Ok
 
 clean-all : (p : Phase) (steps : List (Step × Seen)) → All LeavesAll steps → IsClean p steps
 clean-all (Ending pins verdict) steps a = inr a
 clean-all p steps a = a
-
--- a step of a call that is not at its end leaves all as it was, or ends it with Ok
-abbrev pub LeavesOrEnds : Setting → History → DomId → Phase → Step → Type 0
-LeavesOrEnds s h d phase step = LeavesAll (step, seen_by s h d step) ⊎ ((steps : List (Step × Seen)) → IsClean (next_of s h d phase step) steps)
 
 -- so the steps so far do with this one, where the step leaves all as it was or ends its call
 pub clean-next : (s : Setting) (h : History) (d : DomId) (phase : Phase) (step : Step) (steps : List (Step × Seen)) → action_at d phase ≡ Makes step → LeavesOrEnds s h d phase step → IsClean phase steps

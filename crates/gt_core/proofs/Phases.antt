@@ -1,8 +1,6 @@
--- Each step of an open call is on words that there are. Its refusal is the first rule that stands. And where the call
--- stands after it.
-use Rattle.gt_core.proofs.Words.{◌≡◌, ◌≢◌, ◌<◌, ◌≤◌, ◌+◌, ℕ, refl, Bool, true, false, List, [], ◌∷◌, Option, Some, None, cond, sym, ap, ◌∙◌, subst, reverse, arith, ◌==◌, is_none, eq-eqb, true≢false, false≢true, none-some, domain_of, DomId, GrantRef, DomainConfig, TABLE_ENTRIES, Entry, Invalid, Change, Publish, ToInvalid, ToReadOnly, ToWritable, control_word, Held, Asked, Grant, Revoke, Demote, Promote, QuerySize, GetVersion, Verdict, Step, LookHeader, LookControl, LookBody, PinStep, Unpin, StoreBody, StoreHeader, Exchange, ReadBytes, WriteBytes, Seen, Taken, Missed, Action, Makes, Done, Question, AsksSize, AsksVersion, Phase, Leg, LegPhase, AtHeader, Look, Body, last_first, begun, size_of, opens, Continuation, FitsStep, path, RestsOnWord, action_at, leg_step, next_to_give, IsTurn, IsQuiet, StandsAt, State, state_of, History, Setting, word_at, table_at, entry_at, generation_at, reads_at, writes_at, known_at, seen_by, legs_at, StepsSoFar, DomainsStand, StateAgrees, PhaseStands, LegStands, Asks, numbered, pins_at, Rests, FitsAsked, length, ByLeg, is_invalid, IsExchanged, idle_word, CallerKnowledge, Handle, ByMapping, Half, Call, FirstHalf, SecondHalf, Second, Pinning, Relook, held_of, cond_both, Read, Write, IsLegalHistory}
-use Rattle.gt_core.proofs.{Steps.See.word-shows, Steps.See.table-fits, Steps.See.IsWithin, Legs.Words, Entries.free, Entries.spelled}
-use Rattle.gt_entry.specs.Spelling.{control_with}
+-- An open call by its phase: which steps it may make, and what there is to show of each (EachStep does).
+use Rattle.gt_core.proofs.Words.{◌≡◌, ◌≢◌, ℕ, refl, Bool, false, List, [], ◌∷◌, Option, Some, None, cond, sym, ap, ◌∙◌, subst, reverse, ◌==◌, is_none, eq-eqb, true≢false, none-some, domain_of, DomId, GrantRef, DomainConfig, Publish, Held, Asked, Verdict, Step, LookHeader, LookControl, LookBody, PinStep, Unpin, StoreBody, StoreHeader, Exchange, ReadBytes, WriteBytes, Seen, Taken, Missed, Action, Makes, Done, Phase, Leg, LegPhase, AtHeader, Look, Body, last_first, begun, FitsStep, action_at, leg_step, next_to_give, IsQuiet, StandsAt, State, state_of, History, Setting, word_at, known_at, seen_by, legs_at, StepsSoFar, DomainsStand, StateAgrees, PhaseStands, numbered, pins_at, Rests, FitsAsked, length, ByLeg, IsExchanged, CallerKnowledge, Handle, ByMapping, Half, Call, FirstHalf, SecondHalf, Second, Pinning, Relook, held_of, cond_both, IsLegalHistory, ◌⊎◌, option_or, Denial, phase_after, LeavesAll, first_at, IsClean, phase_refusal}
+use Rattle.gt_core.proofs.{Steps.See.word-shows, Steps.See.table-fits, Legs.Words, Entries.spelled}
 
 pub none-of : (k : CallerKnowledge) (d : DomId) (r q : Asked) → r ≡ q → begun k d r ≡ None → begun k d q ≡ None
 none-of k d r q is none = subst (λ (z : Asked). begun k d z ≡ None) is none
@@ -64,32 +62,6 @@ words-of s h xs l legal st = record {
   header = (table-fits _ (st.tables l.dom)).1;
 }
 
--- an owner's reference is below the end of its words
-
-table-below : (s : Setting) (h : History) (xs : List State) (d : DomId) (gref : GrantRef) → DomainsStand s h xs → gref.0 < size_of (table_at s h d) → gref.0 < TABLE_ENTRIES
-table-below s h xs d gref st lt = let le : size_of (table_at s h d) ≤ TABLE_ENTRIES = (table-fits _ (st.tables d)).0 in omega arith
-
-pub word-below : (s : Setting) (h : History) (xs : List State) (d : DomId) (r : Asked) (way : Continuation) (shown : List Seen) (gref : GrantRef) (word : ℕ) (change : Change) → DomainsStand s h xs → begun (known_at s h d) d r ≡ None
-    → RestsOnWord (known_at s h d) way d r shown gref word change → gref.0 < TABLE_ENTRIES
-word-below s h xs d r way shown gref word (Publish entry) st none rests = table-below s h xs d gref st (opens (known_at s h d) d (Grant gref entry) (none-of (known_at s h d) d r (Grant gref entry) rests.0 none)).in_table
-word-below s h xs d r way shown gref word ToInvalid st none rests = table-below s h xs d gref st (opens (known_at s h d) d (Revoke gref) (subst (λ (z : Asked). begun (known_at s h d) d z ≡ None) rests.0 none)).in_table
-word-below s h xs d r way shown gref word ToReadOnly st none rests = table-below s h xs d gref st (opens (known_at s h d) d (Demote gref) (subst (λ (z : Asked). begun (known_at s h d) d z ≡ None) rests.0 none)).in_table
-word-below s h xs d r way shown gref word ToWritable st none rests = table-below s h xs d gref st (opens (known_at s h d) d (Promote gref) (subst (λ (z : Asked). begun (known_at s h d) d z ≡ None) rests.0 none)).in_table
-
-pub turn-below : (s : Setting) (h : History) (xs : List State) (d : DomId) (r : Asked) (gref : GrantRef) (change : Change) → DomainsStand s h xs → begun (known_at s h d) d r ≡ None
-    → IsTurn r gref change → gref.0 < TABLE_ENTRIES
-turn-below s h xs d r gref ToReadOnly st none is = table-below s h xs d gref st (opens (known_at s h d) d (Demote gref) (subst (λ (z : Asked). begun (known_at s h d) d z ≡ None) is none)).in_table
-turn-below s h xs d r gref ToWritable st none is = table-below s h xs d gref st (opens (known_at s h d) d (Promote gref) (subst (λ (z : Asked). begun (known_at s h d) d z ≡ None) is none)).in_table
-turn-below s h xs d r gref change st none is = absurd is
-
--- each step is on words that there are
-
-pub leg-within : (s : Setting) (h : History) (xs : List State) (d : DomId) (l : Leg) (so_far : StepsSoFar) (p : LegPhase) → state_of xs l.dom.0 ≢ None → LegStands s h l so_far p → IsWithin xs d (leg_step l p)
-leg-within s h xs d l so_far AtHeader some a = some
-leg-within s h xs d l so_far (Look more) some a = (some, a.0)
-leg-within s h xs d l so_far (Body more word) some a = (some, a.within)
-leg-within s h xs d l so_far p some a = (some, a.0.within)
-
 -- what holds of each step that a call makes alone
 pub by-quiet : (P : Step → Type 0) → ((p : Held) (handle : Handle) → P (Unpin p (ByMapping handle))) → ((gref : GrantRef) (half : Half) (word : ℕ) → P (StoreBody gref half word)) → ((version frames : ℕ) → P (StoreHeader version frames))
     → ((dom : DomId) (frame off len : ℕ) → P (ReadBytes dom frame off len) × P (WriteBytes dom frame off len)) → (step : Step) → IsQuiet step → P step
@@ -99,10 +71,6 @@ by-quiet P unpins bodies headers accesses (StoreHeader version frames) q = heade
 by-quiet P unpins bodies headers accesses (ReadBytes dom frame off len) q = (accesses dom frame off len).0
 by-quiet P unpins bodies headers accesses (WriteBytes dom frame off len) q = (accesses dom frame off len).1
 by-quiet P unpins bodies headers accesses step q = absurd q
-
-pub asks-run : (s : Setting) (h : History) (d : DomId) (r : Asked) (dom : DomId) (question : Question) → begun (known_at s h d) d r ≡ None → Asks d r dom question → domain_of s.domains dom ≢ None
-asks-run s h d r dom AsksSize none a = rw a.2 (of-run _ (opens (known_at s h d) d (QuerySize a.0) (none-of (known_at s h d) d r (QuerySize a.0) a.1 none)).of_run)
-asks-run s h d r dom AsksVersion none a = rw a.2 (of-run _ (opens (known_at s h d) d (GetVersion a.0) (none-of (known_at s h d) d r (GetVersion a.0) a.1 none)).of_run)
 
 -- what a step sees fits it
 
@@ -123,31 +91,24 @@ seen-fits s h d (Exchange gref looked (Publish entry)) p = ap (λ (b : Bool). co
 seen-fits s h d (Exchange gref looked change) p = exchanged-fits looked (word_at s h d.0 gref.0)
 seen-fits s h d step p = refl
 
--- the owner's word with no pins
+-- where a step leads
 
--- a word with no pins is the idle word, and no other
-pub idle-pins : (e : Entry) (g r w : ℕ) → control_word (control_with e g r w) ≡ control_word (control_with e g 0 0) → r + w ≡ 0
-idle-pins Invalid g r w e = omega arith
-idle-pins z g r w e = omega arith
+-- the first rule that stands at this step, or before it, is the refusal that the call comes to
+abbrev pub Judged : Setting → History → DomId → Asked → StepsSoFar → Phase → Step → Type 0
+Judged s h d r so_far phase step = option_or (phase_refusal phase) (first_at s h d r so_far step) ≡ phase_refusal (phase_after (known_at s h d) d phase (seen_by s h d step))
 
-pub idle-here : (s : Setting) (h : History) (d : DomId) (gref : GrantRef) → reads_at h d.0 gref.0 + writes_at h d.0 gref.0 ≡ 0 → word_at s h d.0 gref.0 ≡ idle_word (known_at s h d) gref
-idle-here s h d gref none = let r : reads_at h d.0 gref.0 ≡ 0 = omega arith in
-    let w : writes_at h d.0 gref.0 ≡ 0 = omega arith in
-    ap (λ (n : ℕ). control_word (control_with (entry_at h d.0 gref.0) (generation_at s h d.0 gref.0) n (writes_at h d.0 gref.0))) r
-    ∙ ap (λ (n : ℕ). control_word (control_with (entry_at h d.0 gref.0) (generation_at s h d.0 gref.0) 0 n)) w
+-- where a step leads: the first rule that stands is the refusal there, and there the call stands
+abbrev pub Leads : Setting → History → DomId → Asked → StepsSoFar → Option Denial → Phase → Type 0
+Leads s h d r now rule next = (rule ≡ phase_refusal next) × PhaseStands s h d r now next
 
-invalid-is : (e : Entry) → is_invalid e ≡ true → e ≡ Invalid
-invalid-is Invalid e = refl
-invalid-is z e = absurd (false≢true e)
+-- where a call stands after a step
+abbrev pub Placed : Setting → History → DomId → Asked → StepsSoFar → Phase → Step → Type 0
+Placed s h d r so_far phase step = PhaseStands s h d r ((step, seen_by s h d step) ∷ so_far) (phase_after (known_at s h d) d phase (seen_by s h d step))
 
-pub grant-invalid : (s : Setting) (h : History) (d : DomId) (gref : GrantRef) (entry : Entry) → begun (known_at s h d) d (Grant gref entry) ≡ None → entry_at h d.0 gref.0 ≡ Invalid
-grant-invalid s h d gref entry none = invalid-is (entry_at h d.0 gref.0) (opens (known_at s h d) d (Grant gref entry) none).free
+-- the next phase
+abbrev pub next_of : Setting → History → DomId → Phase → Step → Phase
+next_of s h d phase step = phase_after (known_at s h d) d phase (seen_by s h d step)
 
--- a publication is of the word that its entry has
-pub publish-here : (s : Setting) (h : History) (d : DomId) (r : Asked) (shown : List Seen) (gref : GrantRef) (looked : ℕ) (change : Change) → IsLegalHistory s h → begun (known_at s h d) d r ≡ None
-    → RestsOnWord (known_at s h d) (path (known_at s h d) d r) d r shown gref looked change → IsPublished s h d (Exchange gref looked change)
-publish-here s h d r shown gref looked (Publish entry) legal none rests =
-    let is = (grant-invalid s h d gref entry (subst (λ (z : Asked). begun (known_at s h d) d z ≡ None) rests.0 none)) in
-    let a : reads_at h d.0 gref.0 ≡ 0 = free s h d.0 gref.0 Read legal is in let b : writes_at h d.0 gref.0 ≡ 0 = free s h d.0 gref.0 Write legal is in
-    idle-here s h d gref (omega arith) ∙ sym rests.1
-publish-here s h d r shown gref looked change legal none rests = tt
+-- a step of a call that is not at its end leaves all as it was, or ends it with Ok
+abbrev pub LeavesOrEnds : Setting → History → DomId → Phase → Step → Type 0
+LeavesOrEnds s h d phase step = LeavesAll (step, seen_by s h d step) ⊎ ((steps : List (Step × Seen)) → IsClean (next_of s h d phase step) steps)

@@ -1,6 +1,6 @@
 -- What the core does for a step of an open call: it is right, and the core stands for it.
 use Rattle.gt_core.proofs.Words.{◌≡◌, ◌≢◌, inl, inr, ℕ, refl, Bool, List, [], ◌∷◌, ◌++◌, length, Option, Some, None, cond, sym, ap, ◌∙◌, subst, reverse, eqb-true, eq-eqb, length-reverse, reverse_onto, same_Some, ◌==◌, DomId, GrantRef, Entry, Invalid, Handle, Held, Asked, ByMapping, ByLeg, Seen, Nothing, Taken, Missed, Verdict, Granted, Given, KeptPin, Refused, Step, PinStep, Unpin, StoreBody, StoreHeader, Exchange, ReadBytes, Action, Makes, Done, Call, Phase, knowledge_of, path, action_at, after_store, pins_at, held_in, Goes, Open, Item, Answer, Denied, AnswerDone, Mapped, State, state_of, sees, History, Setting, live, word_at, known_at, legs_at, mappings_at, mapping_of, seen_by, Underway, values, open_call, underway_after, holder_after, one_if_mapped, StepsRight, GivesValue, refusal_in, refusal_of, DomainsStand, Agrees, CallAgrees, OpenAgrees, numbered, position, get_or, set, position-Some, domain_of, Value, FramesTold, BytesAnswer, HandleMap, applied, with_underway, with_mapping, Adds, IsReadable, IsAdmitted, AccessedBy, bytes_at, FrameSet, frame_at, contents_at, IsRight, StepsRightIn, CoreStands, FramesStand, core_of, Settled, IsLawful, IsLawfullyHeld, answer_with, Closed, IsRoomFor, IsMapping, ticked_with, ticked_element, Element, Tick, MayDo, Does, Did, grown, without, RestsOnRequest, WantsMemoryNow, IsWritingNext, TickTold, IsWriting, cond_both, CallerKnowledge, GivenAgrees, take, drop, asked, told, taken, IsLegalHistory}
-use Rattle.gt_core.proofs.{Values.call-ends, Steps.Observers.pins, Steps.Pin.map-legs, Steps.Observers.new_pin, Steps.Pin.pin-stands, Steps.Pin.map-agrees, Steps.Pin.leg-agrees as pin-agrees, Steps.Observers.stepped, Keeping.open_call-own, Keeping.quiet-stands, Placing.IsStore, Phases.IsHere, Steps.Store.header-stands, Steps.Store.store-stands, Steps.Write.bytes-held, Steps.Write.open-admitted, Steps.Write.open-readable, Steps.Write.frames-stepped, Outcomes.next_of, Outcomes.ends-so, Ticking.Ticks, Ticking.ticks, Ticking.given-goes-on, Ticking.legs-after, Ticking.open-after, Ticking.goes-right, Ticking.ends-right, Ticking.last-fact, Ticking.LastFact, Ticking.by-storing, Ticking.seen_in, Ticking.phase_then, Ticking.history_then, Steps.Unpin.Loses, Steps.Unpin.unpin-stands, Steps.Unpin.becomes-unpinned, Steps.Unpin.loses-leg, Steps.Unpin.loses-mapping, Steps.Unpin.mapping-agrees, Steps.Unpin.leg-agrees as unpin-agrees, Acting.can-change, Acting.can-pin, Acting.header-fits, Acting.map-lawful, Acting.CanPin, Steps.Exchange.exchange-stands, Beginning.agrees-found, Rows.has_id, Rows.found, Rows.state_of-set}
+use Rattle.gt_core.proofs.{Values.call-ends, Steps.Observers.pins, Steps.Pin.map-legs, Steps.Observers.new_pin, Steps.Pin.pin-stands, Steps.Pin.map-agrees, Steps.Pin.leg-agrees as pin-agrees, Steps.Observers.stepped, Keeping.open_call-own, Keeping.quiet-stands, Steps.Store.IsStore, Phases.IsHere, Steps.Store.header-stands, Steps.Store.store-stands, Steps.Write.bytes-held, Steps.Write.open-admitted, Steps.Write.open-readable, Steps.Write.frames-stepped, Phases.next_of, Outcomes.ends-so, Ticking.Ticks, Ticking.ticks, Ticking.given-goes-on, Ticking.legs-after, Ticking.open-after, Ticking.goes-right, Ticking.ends-right, Ticking.last-fact, Ticking.LastFact, Steps.Store.by-storing, Ticking.seen_in, Ticking.phase_then, Ticking.history_then, Steps.Unpin.Loses, Steps.Unpin.unpin-stands, Steps.Unpin.becomes-unpinned, Steps.Unpin.loses-leg, Steps.Unpin.loses-mapping, Steps.Unpin.mapping-agrees, Steps.Unpin.leg-agrees as unpin-agrees, Steps.Exchange.can-change, Steps.Pin.can-pin, Steps.Store.header-fits, Steps.Pin.map-lawful, Steps.Pin.CanPin, Steps.Exchange.exchange-stands, Beginning.agrees-found, Rows.has_id, Rows.found, Rows.state_of-set}
 use Rattle.gt_core.specs.declared.trace.Bytes.{Bytes}
 
 -- the states where just the actor's call, or its handles or bytes, are others

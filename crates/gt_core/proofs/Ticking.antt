@@ -1,6 +1,6 @@
 -- A step of an open call is right, and the core stands for it.
-use Rattle.gt_core.proofs.Words.{◌≡◌, ◌≢◌, ◌<◌, ◌≤◌, ◌+◌, ◌⊎◌, inl, inr, ℕ, suc, refl, true, List, [], ◌∷◌, ◌++◌, length, Option, Some, None, sym, ap, ◌∙◌, subst, reverse, arith, eqb-true, map-append, length-append, length-reverse, reverse_onto, none-some, same_Some, ◌==◌, All, DomId, GrantRef, Denial, Entry, Invalid, Sub, Change, FirstHalf, SecondHalf, Held, Pins, Asked, Demote, ByMapping, ByLeg, Seen, Nothing, Taken, Missed, Verdict, Granted, KeptPin, Step, PinStep, Unpin, StoreBody, StoreHeader, Exchange, ReadBytes, WriteBytes, CopyBytes, Action, Makes, Done, Call, Phase, Storing, StoringSecond, Walking, Last, Ending, last_first, no_pins, CallerKnowledge, knowledge_of, path, Rests, phase_after, action_at, next_to_give, StandsAt, HasShown, pins_at, held_in, Goes, GoesOn, most_of, steps_left, Open, Answer, State, state_of, sees, History, Setting, Pin, entry_at, word_at, known_at, legs_at, seen_by, Underway, values, open_call, underway_after, holder_after, one_if_mapped, StepsSoFar, StepsRight, Justified, IsSafe, PinIsSound, AnsweredBy, GivesValue, LeavesAll, gives_back, verdict_in, refusal_in, refusal_of, refusal_if, option_or, first_of_item, first_in_call, stood, most_steps, DomainsStand, Agrees, OpenAgrees, GivenAgrees, FitsGiven, PhaseStands, IsClean, phase_refusal, numbered, exchange_sees, gather, by_leg, Continuation, second_body, RestsOnRequest, first_body, reverse-append, FitsNext, HoldsAfter, cond_both, first, IsLegalHistory}
-use Rattle.gt_core.proofs.{Steps.Observers.unstored, Steps.Observers.known-as, Steps.Observers.kept-entry, Steps.Observers.kept-raises, Steps.Observers.kept-known, Steps.Observers.kept-legs, Steps.Observers.kept-table, Steps.Observers.answered-stays, Steps.Store.half-stored, Steps.Store.first-stays, Steps.Observers.stepped, Keeping.known-same, Keeping.open_call-own, Keeping.stood-own, Placing.IsStore, Staying.place-stays, Phases.by-leg, Phases.IsHere, Phases.makes-same, Phases.seen-fits, Phases.by-giving, Phases.call-is, Steps.See.sees-agree, Steps.Observers.unpins, Steps.Unpin.leg-left, Steps.Unpin.leg-mappings, Steps.Unpin.mapping-legs, Steps.Unpin.from-zero, Steps.Observers.pins, Steps.Pin.leg-grows, Steps.Pin.leg-maps, Acting.can-change, Acting.can-pin, Acting.store-invalid, Steps.Observers.exchanged-live, Steps.Access.read-justified, Steps.Access.write-justified, Steps.Access.copy-justified, Outcomes.next_of, Outcomes.IsSingle, Outcomes.single-ends, Outcomes.taken-ends, Outcomes.clean-next, Outcomes.ends-so, Placing.each-step, Placing.OfStep}
+use Rattle.gt_core.proofs.Words.{◌≡◌, ◌≢◌, ◌<◌, ◌≤◌, ◌+◌, ◌⊎◌, inl, inr, ℕ, suc, refl, true, List, [], ◌∷◌, ◌++◌, length, Option, Some, None, sym, ap, ◌∙◌, subst, reverse, arith, eqb-true, map-append, length-append, length-reverse, reverse_onto, none-some, same_Some, ◌==◌, All, DomId, GrantRef, Denial, Change, Held, Pins, Asked, Demote, ByMapping, ByLeg, Seen, Nothing, Taken, Missed, Verdict, Granted, KeptPin, Step, PinStep, Unpin, StoreBody, StoreHeader, Exchange, ReadBytes, WriteBytes, CopyBytes, Action, Makes, Done, Call, Phase, Ending, last_first, no_pins, CallerKnowledge, knowledge_of, path, Rests, phase_after, action_at, next_to_give, StandsAt, pins_at, held_in, Goes, GoesOn, most_of, steps_left, Open, Answer, State, state_of, sees, History, Setting, Pin, entry_at, word_at, known_at, legs_at, seen_by, Underway, values, open_call, underway_after, holder_after, one_if_mapped, StepsSoFar, StepsRight, Justified, IsSafe, PinIsSound, AnsweredBy, GivesValue, LeavesAll, gives_back, verdict_in, refusal_in, refusal_of, refusal_if, option_or, first_of_item, first_in_call, stood, most_steps, DomainsStand, Agrees, OpenAgrees, GivenAgrees, FitsGiven, PhaseStands, IsClean, phase_refusal, numbered, exchange_sees, gather, by_leg, reverse-append, FitsNext, HoldsAfter, cond_both, IsLegalHistory}
+use Rattle.gt_core.proofs.{Steps.Observers.unstored, Steps.Observers.known-as, Steps.Observers.kept-entry, Steps.Observers.kept-raises, Steps.Observers.kept-known, Steps.Observers.kept-legs, Steps.Observers.kept-table, Steps.Observers.answered-stays, Steps.Observers.stepped, Keeping.known-same, Keeping.open_call-own, Keeping.stood-own, Staying.place-stays, Phases.IsHere, Phases.seen-fits, Phases.by-giving, Phases.call-is, Steps.See.sees-agree, Steps.Observers.unpins, Steps.Unpin.leg-left, Steps.Unpin.leg-mappings, Steps.Unpin.mapping-legs, Steps.Unpin.from-zero, Steps.Observers.pins, Steps.Pin.leg-grows, Steps.Pin.leg-maps, Steps.Exchange.can-change, Steps.Pin.can-pin, Steps.Store.store-invalid, Steps.Observers.exchanged-live, Steps.Access.read-justified, Steps.Access.write-justified, Steps.Access.copy-justified, Phases.next_of, Outcomes.IsSingle, Outcomes.single-ends, Steps.Exchange.taken-ends, Outcomes.clean-next, Outcomes.ends-so, EachStep.each-step, EachStep.OfStep, Steps.Store.by-storing, Steps.Store.StoreLeads, Steps.Store.first-leads, Steps.Store.second-leads}
 use Rattle.gt_calls.specs.Following.{Advances}
 
 -- a call in this phase
@@ -105,35 +105,6 @@ known-by s h d z v single exchange = kept-known s (stepped d z v None) h d (reco
 
 goes-not : (d : DomId) (z : Step) (p : Phase) (pins : Pins) (v : Verdict) → last_first pins ≡ [] → Makes z ≡ action_at d p → p ≡ Ending pins v → ⊥
 goes-not d z p pins v none e is = let f : Makes z ≡ Done v = e ∙ ap (action_at d) is ∙ ap (λ (l : List Held). next_to_give l v) none in cc
-
--- where a store leads
-
--- what holds of each call that is about to store a body word
-pub by-storing : (s : Setting) (h : History) (d : DomId) (r : Asked) (way : Continuation) (shown : List Seen) (P : Phase → Step → Type 0) → ((g : GrantRef) (entry : Entry) → P (Storing g entry) (StoreBody g FirstHalf (first_body entry)))
-    → ((g : GrantRef) (entry : Entry) → P (StoringSecond g entry) (StoreBody g SecondHalf (second_body entry))) → (phase : Phase) (step : Step) → HasShown (known_at s h d) way d r shown phase → action_at d phase ≡ Makes step → IsStore step → P phase step
-by-storing s h d r way shown P first second (Storing g entry) step a e n = subst (P (Storing g entry)) (makes-same _ _ e) (first g entry)
-by-storing s h d r way shown P first second (StoringSecond g entry) step a e n = subst (P (StoringSecond g entry)) (makes-same _ _ e) (second g entry)
-by-storing s h d r way shown P first second (Walking aim l at) step a e n = absurd (by-leg (λ (z : Step). IsStore z → ⊥) (λ dom n. n) (λ dom gref n. n) (λ dom gref half n. n) (λ p n. n) l at (subst IsStore (sym (makes-same _ _ e)) n))
-by-storing s h d r way shown P first second (Last last verdict) step a e n =
-    absurd (subst (λ (z : Step). IsStore z → RestsOnRequest (known_at s h d) d r z → ⊥) (sym (makes-same _ _ e)) (by step n) (subst IsStore (sym (makes-same _ _ e)) n) a.1)
-  where
-    by : (z : Step) → IsStore z → IsStore z → RestsOnRequest (known_at s h d) d r z → ⊥
-    by (StoreBody gref half word) m k rests = rests
-    by z m k rests = m
-by-storing s h d r way shown P first second (Ending held verdict) step a e n = absurd (by-giving (λ (z : Step). IsStore z → ⊥) (λ p m f. f) (last_first held) verdict step e n)
-by-storing s h d r way shown P first second phase step a e n = absurd (subst IsStore (sym (makes-same _ _ e)) n)
-
-abbrev StoreLeads : Setting → History → DomId → Asked → List Seen → StepsSoFar → StepsSoFar → Phase → Step → Type 0
-StoreLeads s h d r shown so_far now phase step = HasShown (known_at s h d) (path (known_at s h d) d r) d r shown phase → PhaseStands s h d r so_far phase → PhaseStands s (stepped d step Nothing None ∷ h) d r now (phase_after (known_at s h d) d phase Nothing)
-
-first-leads : (s : Setting) (h : History) (d : DomId) (r : Asked) (shown : List Seen) (so_far now : StepsSoFar) (g : GrantRef) (entry : Entry) → StoreLeads s h d r shown so_far now (Storing g entry) (StoreBody g FirstHalf (first_body entry))
-first-leads s h d r shown so_far now g (Sub dom ro frame off len) a b = half-stored d g FirstHalf (first_body (Sub dom ro frame off len)) h
-first-leads s h d r shown so_far now g Invalid a b = tt
-first-leads s h d r shown so_far now g y a b = half-stored d g FirstHalf (first_body y) h
-
-second-leads : (s : Setting) (h : History) (d : DomId) (r : Asked) (shown : List Seen) (so_far now : StepsSoFar) (g : GrantRef) (entry : Entry) → StoreLeads s h d r shown so_far now (StoringSecond g entry) (StoreBody g SecondHalf (second_body entry))
-second-leads s h d r shown so_far now g (Sub dom ro frame off len) a b = let w = second_body (Sub dom ro frame off len) in (first-stays d g w g.0 h ∙ b, half-stored d g SecondHalf w h)
-second-leads s h d r shown so_far now g y a b = absurd a.3
 
 -- a step of a call, which saw what the history left
 module _ {s : Setting} {h : History} {xs : List State} {x : State} {o : Open} {c : Underway} {new : Call} {action : Action} (t : Ticks s h xs x o c new action) where

@@ -1,7 +1,8 @@
 -- What an access to bytes rests on: it is inside a frame, and justified.
 use Rattle.gt_core.proofs.Words.{◌≡◌, ◌≢◌, ◌≤◌, ◌<◌, ◌+◌, ◌⊎◌, inl, inr, ℕ, suc, refl, Bool, true, List, [], ◌∷◌, Some, None, sym, ap, ◌∙◌, arith, subst, reverse, eqb-true, none-some, same_Some, Any, resolved, DomId, TypeId, Dir, Read, Write, ForMap, ForCopy, Perms, Triple, FRAME_SIZE, Entry, frame_of, permits, forwards, Handle, Held, Route, Direct, Through, Pins, End, Asked, Load, Store, Peek, Poke, Copy, Holder, ByMapping, Place, ReadBytes, WriteBytes, last_first, CallerKnowledge, begun, frames_of, via_judged, denied, rights_to_copy, is_source_granted, is_dest_granted, source_pair, dest_pair, opens, RestsOnRequest, RestsOnWays, IsReached, LeadsTo, State, History, Setting, Pin, live, known_at, legs_at, mappings_at, mapping_of, gather, by_mapping, by_leg, same_handle, IsInFrame, CopyIsJustified, Justified, IsLawful, IsLawfullyHeld, DomainsStand, numbered, owner_by, IsAllowed, IsMapped, IsPermitted, Reaches, Forwards, MayCopy, MayUseMapping, MayAsk, EndIsJustified, cond_both}
+use Rattle.gt_core.proofs.{Phases.none-of, Steps.Observers.IsKeyed, Steps.Observers.mapping-keyed, Steps.Observers.leg-keyed}
 use Rattle.gt_calls.specs.{declared.held.Route.TheVariants.Own, Path.place_of}
-use Rattle.gt_core.{specs.Legal.AccessIsJustified, specs.Standing.LetsUse, proofs.Phases.none-of, proofs.Steps.Observers.IsKeyed, proofs.Steps.Observers.mapping-keyed, proofs.Steps.Observers.leg-keyed}
+use Rattle.gt_core.{specs.Legal.AccessIsJustified, specs.Standing.LetsUse}
 
 -- pins among those that a domain's give
 

@@ -1,6 +1,7 @@
--- An exchange that was taken keeps what a core stands for.
-use Rattle.gt_core.proofs.Words.{◌≡◌, ◌≢◌, ◌<◌, ◌≤◌, ◌+◌, ℕ, refl, Bool, true, List, ◌∷◌, length, Option, Some, None, cond, sym, ap, ◌∙◌, arith, subst, get_or, eqb-true, none-some, slice_get-get_or, option_map, ◌==◌, All, slice_get, fun_ext, DomId, GrantRef, TABLE_ENTRIES, LAST_GENERATION, Entry, Invalid, Change, Publish, IsEntry, Own, Open, Item, Answer, entry_in, generation_in, row_entry, row_generation, changed_at, State, state_of, changed_in, with_own, own_after, History, Setting, Pin, live, entry_at, raises_at, raise_of, generation_at, open_call, change_of, entry_after, raise_after, one_if_mapped, IsSafeChange, IsLawful, FitsTable, Agrees, DomainsStand, CallAgrees, GivenAgrees, gather, by_mapping, first}
-use Rattle.gt_core.proofs.{Steps.Observers.unstored, Steps.Observers.answered-stays, Steps.Observers.kept-table, Keeping.SlotsAgree, Keeping.same-number, Keeping.counts-fit, Rows.get-changed, Rows.length-changed, Mappings.mappings-same, Keeping.slots-kept, Keeping.Facts, Keeping.facts_at, Keeping.Fits, Keeping.facts-fit, Keeping.each-stays, Keeping.all-stand, Keeping.own-changed, Steps.Observers.exchanged, Steps.Observers.exchanged-entry, Steps.Observers.exchanged-raises, Steps.Observers.exchanged-live}
+-- An owner's exchange: it keeps what a core stands for. What it rests on, which rule it meets, and where it leads its
+-- call.
+use Rattle.gt_core.proofs.Words.{◌≡◌, ◌≢◌, ◌<◌, ◌≤◌, ◌+◌, ℕ, refl, Bool, true, List, ◌∷◌, length, Option, Some, None, cond, sym, ap, ◌∙◌, arith, subst, get_or, eqb-true, none-some, slice_get-get_or, option_map, ◌==◌, All, slice_get, fun_ext, DomId, GrantRef, TABLE_ENTRIES, LAST_GENERATION, Entry, Invalid, Change, Publish, IsEntry, Own, Open, Item, Answer, entry_in, generation_in, row_entry, row_generation, changed_at, State, state_of, changed_in, with_own, own_after, History, Setting, Pin, live, entry_at, raises_at, raise_of, generation_at, open_call, change_of, entry_after, raise_after, one_if_mapped, IsSafeChange, IsLawful, FitsTable, Agrees, DomainsStand, CallAgrees, GivenAgrees, gather, by_mapping, first, false, inl, suc, zero, ◌-◌, cond_both, eq-eqb, false≢true, lt-leb, lt-ltb, ltb-false, ltb-true, nat_le, nat_lt, Read, Write, N18, N19, MAX_TRIES, is_invalid, control_of, control_word, ToReadOnly, ToWritable, ToInvalid, FirstHalf, SecondHalf, last_first, no_pins, action_at, phase_after, refused_as, opens, Continuation, idle_word, path, RestsOnWord, CallerKnowledge, begun, control_with, size_of, stands, HasShown, IsQuiet, IsTurn, Makes, Seen, Missed, Taken, Step, Exchange, Granted, Phase, Changing, Ending, Exchanging, Last, Looking, Walking, MORE_TRIES, Asked, Demote, Grant, Promote, Revoke, known_at, reads_at, seen_by, word_at, writes_at, IsSpelled, StepsSoFar, at_entry, first_at, FitsAsked, PhaseStands, phase_refusal, body_at, table_at, misses, IsLegalHistory}
+use Rattle.gt_core.proofs.{Entries.free, Steps.Observers.unstored, Steps.Observers.answered-stays, Steps.Observers.kept-table, Keeping.SlotsAgree, Keeping.same-number, Keeping.counts-fit, Rows.get-changed, Rows.length-changed, Mappings.mappings-same, Keeping.slots-kept, Keeping.Facts, Keeping.facts_at, Keeping.Fits, Keeping.facts-fit, Keeping.each-stays, Keeping.all-stand, Keeping.own-changed, Steps.Observers.exchanged, Steps.Observers.exchanged-entry, Steps.Observers.exchanged-raises, Steps.Observers.exchanged-live, Phases.none-of, Phases.IsHere, Phases.makes-same, Phases.by-leg, Phases.by-giving, Phases.IsPublished, Phases.Judged, Phases.Leads, Legs.late-last, Legs.late-more, Legs.control-parts, Steps.See.word-shows, Steps.See.table-fits, Steps.Look.writes-shown}
 
 -- each number of the entry that is published fits its type
 abbrev pub FitsChange : Change → Type 0
@@ -74,3 +75,156 @@ exchange-stands s h xs ys x gref looked change answer o st here a becomes within
       call = call;
       given = given;
     }
+
+-- the owner's word with no pins
+
+-- a word with no pins is the idle word, and no other
+pub idle-pins : (e : Entry) (g r w : ℕ) → control_word (control_with e g r w) ≡ control_word (control_with e g 0 0) → r + w ≡ 0
+idle-pins Invalid g r w e = omega arith
+idle-pins z g r w e = omega arith
+
+pub idle-here : (s : Setting) (h : History) (d : DomId) (gref : GrantRef) → reads_at h d.0 gref.0 + writes_at h d.0 gref.0 ≡ 0 → word_at s h d.0 gref.0 ≡ idle_word (known_at s h d) gref
+idle-here s h d gref none = let r : reads_at h d.0 gref.0 ≡ 0 = omega arith in
+    let w : writes_at h d.0 gref.0 ≡ 0 = omega arith in
+    ap (λ (n : ℕ). control_word (control_with (entry_at h d.0 gref.0) (generation_at s h d.0 gref.0) n (writes_at h d.0 gref.0))) r
+    ∙ ap (λ (n : ℕ). control_word (control_with (entry_at h d.0 gref.0) (generation_at s h d.0 gref.0) 0 n)) w
+
+invalid-is : (e : Entry) → is_invalid e ≡ true → e ≡ Invalid
+invalid-is Invalid e = refl
+invalid-is z e = absurd (false≢true e)
+
+pub grant-invalid : (s : Setting) (h : History) (d : DomId) (gref : GrantRef) (entry : Entry) → begun (known_at s h d) d (Grant gref entry) ≡ None → entry_at h d.0 gref.0 ≡ Invalid
+grant-invalid s h d gref entry none = invalid-is (entry_at h d.0 gref.0) (opens (known_at s h d) d (Grant gref entry) none).free
+
+-- an exchange is on an entry that there is
+
+table-below : (s : Setting) (h : History) (xs : List State) (d : DomId) (gref : GrantRef) → DomainsStand s h xs → gref.0 < size_of (table_at s h d) → gref.0 < TABLE_ENTRIES
+table-below s h xs d gref st lt = let le : size_of (table_at s h d) ≤ TABLE_ENTRIES = (table-fits _ (st.tables d)).0 in omega arith
+
+pub word-below : (s : Setting) (h : History) (xs : List State) (d : DomId) (r : Asked) (way : Continuation) (shown : List Seen) (gref : GrantRef) (word : ℕ) (change : Change) → DomainsStand s h xs → begun (known_at s h d) d r ≡ None
+    → RestsOnWord (known_at s h d) way d r shown gref word change → gref.0 < TABLE_ENTRIES
+word-below s h xs d r way shown gref word (Publish entry) st none rests = table-below s h xs d gref st (opens (known_at s h d) d (Grant gref entry) (none-of (known_at s h d) d r (Grant gref entry) rests.0 none)).in_table
+word-below s h xs d r way shown gref word ToInvalid st none rests = table-below s h xs d gref st (opens (known_at s h d) d (Revoke gref) (subst (λ (z : Asked). begun (known_at s h d) d z ≡ None) rests.0 none)).in_table
+word-below s h xs d r way shown gref word ToReadOnly st none rests = table-below s h xs d gref st (opens (known_at s h d) d (Demote gref) (subst (λ (z : Asked). begun (known_at s h d) d z ≡ None) rests.0 none)).in_table
+word-below s h xs d r way shown gref word ToWritable st none rests = table-below s h xs d gref st (opens (known_at s h d) d (Promote gref) (subst (λ (z : Asked). begun (known_at s h d) d z ≡ None) rests.0 none)).in_table
+
+pub turn-below : (s : Setting) (h : History) (xs : List State) (d : DomId) (r : Asked) (gref : GrantRef) (change : Change) → DomainsStand s h xs → begun (known_at s h d) d r ≡ None
+    → IsTurn r gref change → gref.0 < TABLE_ENTRIES
+turn-below s h xs d r gref ToReadOnly st none is = table-below s h xs d gref st (opens (known_at s h d) d (Demote gref) (subst (λ (z : Asked). begun (known_at s h d) d z ≡ None) is none)).in_table
+turn-below s h xs d r gref ToWritable st none is = table-below s h xs d gref st (opens (known_at s h d) d (Promote gref) (subst (λ (z : Asked). begun (known_at s h d) d z ≡ None) is none)).in_table
+turn-below s h xs d r gref change st none is = absurd is
+
+-- a publication is never missed
+
+-- a publication is of the word that its entry has
+pub publish-here : (s : Setting) (h : History) (d : DomId) (r : Asked) (shown : List Seen) (gref : GrantRef) (looked : ℕ) (change : Change) → IsLegalHistory s h → begun (known_at s h d) d r ≡ None
+    → RestsOnWord (known_at s h d) (path (known_at s h d) d r) d r shown gref looked change → IsPublished s h d (Exchange gref looked change)
+publish-here s h d r shown gref looked (Publish entry) legal none rests =
+    let is = (grant-invalid s h d gref entry (subst (λ (z : Asked). begun (known_at s h d) d z ≡ None) rests.0 none)) in
+    let a : reads_at h d.0 gref.0 ≡ 0 = free s h d.0 gref.0 Read legal is in let b : writes_at h d.0 gref.0 ≡ 0 = free s h d.0 gref.0 Write legal is in
+    idle-here s h d gref (omega arith) ∙ sym rests.1
+publish-here s h d r shown gref looked change legal none rests = tt
+
+-- what an exchange that is taken rests on
+
+-- the change is one that the entry allows and has room for
+pub record CanChange (s : Setting) (h : History) (d : DomId) (gref : GrantRef) (change : Change) : Type 0 where
+  pub within : gref.0 < TABLE_ENTRIES
+  pub safe : IsSafeChange h d.0 gref.0 change
+  pub fits : FitsChange change
+  pub room : generation_at s h d.0 gref.0 + raise_of change ≤ LAST_GENERATION
+
+-- a publication follows the stores that spell its entry
+publish-spelled : (s : Setting) (h : History) (d : DomId) (r : Asked) (way : Continuation) (shown : List Seen) (so_far : StepsSoFar) (p : Phase) (gref : GrantRef) (looked : ℕ) (entry : Entry) → HasShown (known_at s h d) way d r shown p → PhaseStands s h d r so_far p
+    → action_at d p ≡ Makes (Exchange gref looked (Publish entry)) → IsSpelled entry (body_at h d.0 gref.0 FirstHalf) (body_at h d.0 gref.0 SecondHalf)
+publish-spelled s h d r way shown so_far (Exchanging g w (Publish e)) gref looked entry a b acts = let same : e ≡ entry = cc in let at : g ≡ gref = cc in rw (← same, ← at) b
+publish-spelled s h d r way shown so_far (Changing g (Publish e) more w) gref looked entry a b acts = absurd a.1
+publish-spelled s h d r way shown so_far (Walking aim l at) gref looked entry a b acts =
+    absurd (by-leg (λ (z : Step). z ≡ Exchange gref looked (Publish entry) → ⊥) (λ dom f. cc) (λ dom x f. cc) (λ dom x half f. cc) (λ p f. cc) l at (makes-same _ _ acts))
+publish-spelled s h d r way shown so_far (Last last verdict) gref looked entry a b acts = absurd (subst IsQuiet (makes-same _ _ acts) a.0)
+publish-spelled s h d r way shown so_far (Ending pins verdict) gref looked entry a b acts = absurd (by-giving (λ (z : Step). z ≡ Exchange gref looked (Publish entry) → ⊥) (λ p n f. cc) (last_first pins) verdict _ acts refl)
+publish-spelled s h d r way shown so_far p gref looked entry a b acts = cc
+
+-- a generation has room in its word
+generation-fits : (s : Setting) (h : History) (xs : List State) (t r : ℕ) → DomainsStand s h xs → r < TABLE_ENTRIES → generation_at s h t r ≤ LAST_GENERATION
+generation-fits s h xs t r st within = let f = (st.words t r within).in_range.generation in
+    let e = (control-parts (entry_at h t r) (generation_at s h t r) (reads_at h t r) (writes_at h t r)).0 in
+    (omega arith)
+
+not-last : (g : ℕ) → g ≤ LAST_GENERATION → g ≢ LAST_GENERATION → g + 1 ≤ LAST_GENERATION
+not-last g le apart = omega arith
+
+pub can-change : (s : Setting) (h : History) (xs : List State) (d : DomId) (r : Asked) (shown : List Seen) (so_far : StepsSoFar) (phase : Phase) (gref : GrantRef) (looked : ℕ) (change : Change) → IsHere s h xs d r shown so_far phase (Exchange gref looked change)
+    → word_at s h d.0 gref.0 ≡ looked → CanChange s h d gref change
+can-change s h xs d r shown so_far phase gref looked change i same = by change i.rests.1 i.acts where
+  k : CallerKnowledge
+  k = known_at s h d
+
+  below : gref.0 < TABLE_ENTRIES
+  below = word-below s h xs d r (path k d r) shown gref looked change i.st i.rests.0 i.rests.1
+
+  fits-now : generation_at s h d.0 gref.0 ≤ LAST_GENERATION
+  fits-now = generation-fits s h xs d.0 gref.0 i.st below
+
+  by : (z : Change) → RestsOnWord k (path k d r) d r shown gref looked z → action_at d phase ≡ Makes (Exchange gref looked z) → CanChange s h d gref z
+  by (Publish entry) rests acts = let none = none-of k d r (Grant gref entry) rests.0 i.rests.0 in record {
+    within = below;
+    safe = (grant-invalid s h d gref entry none, publish-spelled s h d r (path k d r) shown so_far phase gref looked entry i.at.has_shown i.place acts);
+    fits = subst FitsAsked rests.0 i.fits;
+    room = not-last (generation_at s h d.0 gref.0) fits-now (opens k d (Grant gref entry) none).not_worn;
+  }
+  by ToInvalid rests acts = let free : reads_at h d.0 gref.0 + writes_at h d.0 gref.0 ≡ 0 = idle-pins (entry_at h d.0 gref.0) (generation_at s h d.0 gref.0) (reads_at h d.0 gref.0) (writes_at h d.0 gref.0) (same ∙ rests.1) in let room = fits-now in
+      record { within = below; safe = (omega arith, omega arith); fits = tt; room = (omega arith) }
+  by ToReadOnly rests acts = record {
+    within = below;
+    safe = sym (writes-shown s h d.0 gref.0 (word-shows s h xs d.0 gref.0 i.st below)) ∙ ap (λ (n : ℕ). (control_of n).writes) same ∙ (let le = ltb-false 0 (control_of looked).writes rests.2 in omega arith);
+    fits = tt;
+    room = not-last (generation_at s h d.0 gref.0) fits-now (opens k d (Demote gref) (none-of k d r (Demote gref) rests.0 i.rests.0)).not_worn;
+  }
+  by ToWritable rests acts =
+      record { within = below; safe = tt; fits = tt; room = not-last (generation_at s h d.0 gref.0) fits-now (opens k d (Promote gref) (none-of k d r (Promote gref) rests.0 i.rests.0)).not_worn }
+
+-- the rule at an exchange, and where it leads
+
+revoke-refusal : (k : CallerKnowledge) (d : DomId) (gref : GrantRef) (looked w pins : ℕ) (b : Bool) → (b ≡ true → pins ≡ 0) → (b ≡ false → pins ≡ 0 → ⊥)
+    → at_entry d gref w (stands (nat_lt 0 pins) N19) ≡ phase_refusal (phase_after k d (Exchanging gref looked ToInvalid) (cond b Taken (Missed w)))
+revoke-refusal k d gref looked w pins true free held = ap (λ (n : ℕ). at_entry d gref w (stands (nat_lt 0 n) N19)) (free refl)
+revoke-refusal k d gref looked w zero false free held = absurd (held refl refl)
+revoke-refusal k d gref looked w (suc pins) false free held = ap (λ (b : Bool). at_entry d gref w (stands b N19)) (lt-ltb 0 (suc pins) (omega arith))
+
+pub once-judged : (s : Setting) (h : History) (d : DomId) (r : Asked) (way : Continuation) (shown : List Seen) (so_far : StepsSoFar) (gref : GrantRef) (looked : ℕ) (change : Change) → IsPublished s h d (Exchange gref looked change)
+    → RestsOnWord (known_at s h d) way d r shown gref looked change → PhaseStands s h d r so_far (Exchanging gref looked change) → Judged s h d r so_far (Exchanging gref looked change) (Exchange gref looked change)
+once-judged s h d r way shown so_far gref looked (Publish entry) published rests place = let w = word_at s h d.0 gref.0 in
+    ap (λ (b : Bool). phase_refusal (phase_after (known_at s h d) d (Exchanging gref looked (Publish entry)) (cond b Taken (Missed w)))) (sym (eq-eqb w looked published))
+once-judged s h d r way shown so_far gref looked ToInvalid published rests place = let w = word_at s h d.0 gref.0 in
+    revoke-refusal (known_at s h d) d gref looked w (reads_at h d.0 gref.0 + writes_at h d.0 gref.0) (w == looked)
+    (λ b. idle-pins (entry_at h d.0 gref.0) (generation_at s h d.0 gref.0) (reads_at h d.0 gref.0) (writes_at h d.0 gref.0) (eqb-true w looked b ∙ rests.1))
+    (λ b none. false≢true (sym b ∙ eq-eqb w looked (idle-here s h d gref none ∙ sym rests.1)))
+once-judged s h d r way shown so_far gref looked change published rests place = absurd place
+
+change-leads : (s : Setting) (h : History) (d : DomId) (r : Asked) (gref : GrantRef) (change : Change) (more looked w : ℕ) (so_far : StepsSoFar) (b : Bool) → misses so_far + more ≡ MORE_TRIES
+    → Leads s h d r ((Exchange gref looked change, cond b Taken (Missed w)) ∷ so_far) (at_entry d gref w (stands (nat_le MAX_TRIES (misses ((Exchange gref looked change, cond b Taken (Missed w)) ∷ so_far))) N18))
+    (phase_after (known_at s h d) d (Changing gref change more looked) (cond b Taken (Missed w)))
+unfolding misses
+change-leads s h d r gref change more looked w so_far true turn = (ap (λ (x : Bool). at_entry d gref w (stands x N18)) (lt-leb MAX_TRIES (0 + misses so_far) (omega arith)), inl refl)
+change-leads s h d r gref change more looked w so_far false turn = let now : StepsSoFar = (Exchange gref looked change, Missed w) ∷ so_far in let m : misses now ≡ 1 + misses so_far = refl in
+    cond_both (nat_lt 0 more) (Looking gref change (more - 1)) (refused_as d gref N18 w) (Leads s h d r now (at_entry d gref w (stands (nat_le MAX_TRIES (1 + misses so_far)) N18)))
+    (λ t. let some : 0 < more = ltb-true 0 more t in (ap (λ (x : Bool). at_entry d gref w (stands x N18)) (late-more (misses so_far) more turn some), (omega arith, refl)))
+    (λ f. (ap (λ (x : Bool). at_entry d gref w (stands x N18)) (late-last (misses so_far) more turn (ltb-false 0 more f)), inl refl))
+
+-- an exchange that ends a turn is no publication
+pub turn-leads : (s : Setting) (h : History) (d : DomId) (r : Asked) (so_far : StepsSoFar) (gref : GrantRef) (change : Change) (more looked : ℕ) → IsTurn r gref change → misses so_far + more ≡ MORE_TRIES → let v = seen_by s h d (Exchange gref looked change) in
+    IsPublished s h d (Exchange gref looked change) × Leads s h d r ((Exchange gref looked change, v) ∷ so_far) (first_at s h d r so_far (Exchange gref looked change)) (phase_after (known_at s h d) d (Changing gref change more looked) v)
+turn-leads s h d r so_far gref (Publish entry) more looked is turn = absurd is
+turn-leads s h d r so_far gref ToInvalid more looked is turn = absurd is
+turn-leads s h d r so_far gref change more looked is turn = (tt, change-leads s h d r gref change more looked (word_at s h d.0 gref.0) so_far (word_at s h d.0 gref.0 == looked) turn)
+
+-- it ends its call
+pub taken-ends : (k : CallerKnowledge) (way : Continuation) (d : DomId) (r : Asked) (shown : List Seen) (phase : Phase) (gref : GrantRef) (looked : ℕ) (change : Change) → HasShown k way d r shown phase → action_at d phase ≡ Makes (Exchange gref looked change)
+    → phase_after k d phase Taken ≡ Ending no_pins Granted
+taken-ends k way d r shown (Exchanging g w c) gref looked change a e = refl
+taken-ends k way d r shown (Changing g c more w) gref looked change a e = refl
+taken-ends k way d r shown (Walking aim l at) gref looked change a e = absurd (by-leg (λ (z : Step). z ≡ Exchange gref looked change → ⊥) (λ dom f. cc) (λ dom x f. cc) (λ dom x half f. cc) (λ p f. cc) l at (makes-same _ _ e))
+taken-ends k way d r shown (Last last verdict) gref looked change a e = absurd (subst IsQuiet (makes-same _ _ e) a.0)
+taken-ends k way d r shown (Ending pins verdict) gref looked change a e = absurd (by-giving (λ (z : Step). z ≡ Exchange gref looked change → ⊥) (λ p n f. cc) (last_first pins) verdict _ e refl)
+taken-ends k way d r shown phase gref looked change a e = cc

@@ -1,6 +1,7 @@
--- A header, or a body word of an invalid entry, that its owner stores keeps what a core stands for.
-use Rattle.gt_core.proofs.Words.{◌≡◌, ◌%◌, ℕ, refl, Bool, true, List, ◌∷◌, Option, Some, None, cond, sym, ap, ◌∙◌, arith, subst, ◌==◌, DomId, Header, StoreHeader, Nothing, Open, Item, Answer, State, state_of, changed_in, with_header, History, Setting, header_or, table_at, one_if_mapped, open_call, FitsTable, Agrees, DomainsStand, CallAgrees, GivenAgrees, GrantRef, Half, FirstHalf, SecondHalf, StoreBody, Stored, with_slot, body_at}
-use Rattle.gt_core.proofs.{Steps.Observers.unstored, Steps.Observers.KeepsKnown, Steps.Observers.kept-live, Steps.Observers.other-table, Steps.Observers.kept-table, Steps.Observers.stepped, Keeping.SlotsAgree, Keeping.actor-agrees, Keeping.kept-stands, Keeping.mappings-stay, Keeping.same-number, Keeping.Moves, Keeping.slots-kept, Keeping.each-stays, Keeping.becomes-changed, Keeping.own-changed, Keeping.slots-stand}
+-- A header, or a body word of an invalid entry, that its owner stores: it keeps what a core stands for. What it rests
+-- on, and where it leads its call.
+use Rattle.gt_core.proofs.Words.{◌≡◌, ◌%◌, ℕ, refl, Bool, true, List, ◌∷◌, Option, Some, None, cond, sym, ap, ◌∙◌, arith, subst, ◌==◌, DomId, Header, StoreHeader, Nothing, Open, Item, Answer, State, state_of, changed_in, with_header, History, Setting, header_or, table_at, one_if_mapped, open_call, FitsTable, Agrees, DomainsStand, CallAgrees, GivenAgrees, GrantRef, Half, FirstHalf, SecondHalf, StoreBody, Stored, with_slot, body_at, inl, inr, ◌≤◌, ◌⊎◌, LAST_VERSION, MAX_TABLE_FRAMES, first_body, Entry, Invalid, Sub, last_first, action_at, after_store, phase_after, opens, Continuation, path, RestsOnGrant, RestsOnRequest, CallerKnowledge, begun, first, second_body, HasShown, Makes, Seen, Step, Phase, Ending, Last, Storing, StoringSecond, Walking, Asked, Grant, SetVersion, SetupTable, known_at, StepsSoFar, PhaseStands, phase_refusal, entry_at}
+use Rattle.gt_core.proofs.{Steps.Observers.unstored, Steps.Observers.KeepsKnown, Steps.Observers.kept-live, Steps.Observers.other-table, Steps.Observers.kept-table, Steps.Observers.stepped, Keeping.SlotsAgree, Keeping.actor-agrees, Keeping.kept-stands, Keeping.mappings-stay, Keeping.same-number, Keeping.Moves, Keeping.slots-kept, Keeping.each-stays, Keeping.becomes-changed, Keeping.own-changed, Keeping.slots-stand, Phases.none-of, Phases.makes-same, Phases.by-leg, Phases.by-giving, Steps.Exchange.grant-invalid}
 
 -- the item of a header that is stored
 abbrev pub headed : DomId → ℕ → ℕ → Option Answer → Item
@@ -68,3 +69,60 @@ store-stands s h xs ys x gref half word o st here a becomes call given = let i =
     (slots-stand s i h xs _ x x.mappings o x.id.0 gref.0 (Stored half word) k.changes refl refl st here a (becomes-changed xs ys x (record x { underway = o }) x.id.0 (with_slot gref.0 (Stored half word)) (λ y. refl) becomes)
     (moves-stored x.id gref half word h) (mappings-stay i h x.id.0 x.mappings k a.mappings) call given)
     (λ dom. subst FitsTable (sym (kept-table s i h dom refl)) (st.tables dom))
+
+-- what a store rests on
+
+-- a body word is stored on an invalid entry
+pub store-invalid : (s : Setting) (h : History) (d : DomId) (r : Asked) (gref : GrantRef) (half : Half) (word : ℕ) → begun (known_at s h d) d r ≡ None → RestsOnGrant r gref half word → entry_at h d.0 gref.0 ≡ Invalid
+store-invalid s h d r gref FirstHalf word none a = grant-invalid s h d gref a.0 (none-of (known_at s h d) d r (Grant gref a.0) a.1 none)
+store-invalid s h d r gref SecondHalf word none a = grant-invalid s h d gref a.0 (none-of (known_at s h d) d r (Grant gref a.0) a.1 none)
+
+-- a header that is stored is within the limits
+pub header-fits : (s : Setting) (h : History) (xs : List State) (d : DomId) (r : Asked) (version frames : ℕ) → DomainsStand s h xs → begun (known_at s h d) d r ≡ None → RestsOnRequest (known_at s h d) d r (StoreHeader version frames)
+    → FitsTable (record { version = version; frames = frames })
+header-fits s h xs d r version frames st none (inl a) =
+    record { version = by (opens (known_at s h d) d (SetVersion version) (none-of (known_at s h d) d r (SetVersion version) a.0 none)).version_known; frames = subst (λ (n : ℕ). n ≤ MAX_TABLE_FRAMES) (sym a.1) (st.tables d).frames }
+  where
+    by : (version ≡ 1) ⊎ (version ≡ 2) → version ≤ LAST_VERSION
+    by (inl e) = omega arith
+    by (inr e) = omega arith
+header-fits s h xs d r version frames st none (inr a) =
+    record { version = rw a.1 (st.tables d).version; frames = (opens (known_at s h d) d (SetupTable frames) (none-of (known_at s h d) d r (SetupTable frames) a.0 none)).within }
+
+-- where a store leads
+
+-- a step that stores a body word
+abbrev pub IsStore : Step → Type 0
+IsStore (StoreBody gref half word) = Unit {0}
+IsStore step = ⊥
+
+pub stored-refusal : (k : CallerKnowledge) (gref : GrantRef) (entry : Entry) → None ≡ phase_refusal (after_store k gref entry)
+stored-refusal k gref Invalid = refl
+stored-refusal k gref entry = refl
+
+-- what holds of each call that is about to store a body word
+pub by-storing : (s : Setting) (h : History) (d : DomId) (r : Asked) (way : Continuation) (shown : List Seen) (P : Phase → Step → Type 0) → ((g : GrantRef) (entry : Entry) → P (Storing g entry) (StoreBody g FirstHalf (first_body entry)))
+    → ((g : GrantRef) (entry : Entry) → P (StoringSecond g entry) (StoreBody g SecondHalf (second_body entry))) → (phase : Phase) (step : Step) → HasShown (known_at s h d) way d r shown phase → action_at d phase ≡ Makes step → IsStore step → P phase step
+by-storing s h d r way shown P first second (Storing g entry) step a e n = subst (P (Storing g entry)) (makes-same _ _ e) (first g entry)
+by-storing s h d r way shown P first second (StoringSecond g entry) step a e n = subst (P (StoringSecond g entry)) (makes-same _ _ e) (second g entry)
+by-storing s h d r way shown P first second (Walking aim l at) step a e n = absurd (by-leg (λ (z : Step). IsStore z → ⊥) (λ dom n. n) (λ dom gref n. n) (λ dom gref half n. n) (λ p n. n) l at (subst IsStore (sym (makes-same _ _ e)) n))
+by-storing s h d r way shown P first second (Last last verdict) step a e n =
+    absurd (subst (λ (z : Step). IsStore z → RestsOnRequest (known_at s h d) d r z → ⊥) (sym (makes-same _ _ e)) (by step n) (subst IsStore (sym (makes-same _ _ e)) n) a.1)
+  where
+    by : (z : Step) → IsStore z → IsStore z → RestsOnRequest (known_at s h d) d r z → ⊥
+    by (StoreBody gref half word) m k rests = rests
+    by z m k rests = m
+by-storing s h d r way shown P first second (Ending held verdict) step a e n = absurd (by-giving (λ (z : Step). IsStore z → ⊥) (λ p m f. f) (last_first held) verdict step e n)
+by-storing s h d r way shown P first second phase step a e n = absurd (subst IsStore (sym (makes-same _ _ e)) n)
+
+abbrev pub StoreLeads : Setting → History → DomId → Asked → List Seen → StepsSoFar → StepsSoFar → Phase → Step → Type 0
+StoreLeads s h d r shown so_far now phase step = HasShown (known_at s h d) (path (known_at s h d) d r) d r shown phase → PhaseStands s h d r so_far phase → PhaseStands s (stepped d step Nothing None ∷ h) d r now (phase_after (known_at s h d) d phase Nothing)
+
+pub first-leads : (s : Setting) (h : History) (d : DomId) (r : Asked) (shown : List Seen) (so_far now : StepsSoFar) (g : GrantRef) (entry : Entry) → StoreLeads s h d r shown so_far now (Storing g entry) (StoreBody g FirstHalf (first_body entry))
+first-leads s h d r shown so_far now g (Sub dom ro frame off len) a b = half-stored d g FirstHalf (first_body (Sub dom ro frame off len)) h
+first-leads s h d r shown so_far now g Invalid a b = tt
+first-leads s h d r shown so_far now g y a b = half-stored d g FirstHalf (first_body y) h
+
+pub second-leads : (s : Setting) (h : History) (d : DomId) (r : Asked) (shown : List Seen) (so_far now : StepsSoFar) (g : GrantRef) (entry : Entry) → StoreLeads s h d r shown so_far now (StoringSecond g entry) (StoreBody g SecondHalf (second_body entry))
+second-leads s h d r shown so_far now g (Sub dom ro frame off len) a b = let w = second_body (Sub dom ro frame off len) in (first-stays d g w g.0 h ∙ b, half-stored d g SecondHalf w h)
+second-leads s h d r shown so_far now g y a b = absurd a.3

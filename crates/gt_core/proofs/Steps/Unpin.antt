@@ -1,6 +1,6 @@
--- An unpin keeps what a core stands for.
-use Rattle.gt_core.proofs.Words.{◌≡◌, ◌+◌, ℕ, refl, Bool, false, List, [], ◌∷◌, ◌++◌, length, Option, Some, None, cond, sym, ap, ◌∙◌, arith, subst, ◌==◌, ◌&&◌, All, count_by, none-some, sum_by-cons, DomId, Dir, Read, Write, Half, FirstHalf, SecondHalf, Handle, HandleMap, Held, Holder, ByMapping, ByLeg, Seen, PinCounts, Open, Unpinned, Item, Answer, State, state_of, changed_in, with_slot, without_mapping, slot_after, taken, History, Setting, Pin, live, body_at, mappings_at, maps_answered_at, legs_at, open_call, is_pin_on, without, is_holder, same_handle, same_dir, gather, by_mapping, by_leg, mapping_of, one_if_mapped, IsLawful, SlotAgrees, Agrees, DomainsStand, CallAgrees, GivenAgrees, MappingsAgree, numbered}
-use Rattle.gt_core.proofs.{Steps.Observers.answered-stays, Steps.Observers.cond-same, Steps.Observers.without-kept, Steps.Observers.IsKeyed, Steps.Observers.mapping-keyed, Steps.Observers.leg-keyed, Keeping.KeepsEntries, Keeping.same-body, Keeping.Becomes, Keeping.becomes-changed, Keeping.slots-stand, Keeping.keeps-stands, Mappings.less, Mappings.less_of, Mappings.mappings-taken, Mappings.mappings-same, Rows.state-changed, Steps.Observers.pins_at, Steps.Pin.pins-fit, Steps.Observers.all-without, Steps.Observers.unpinned-live, Steps.Observers.unpins}
+-- An unpin: it keeps what a core stands for, and where it leads its call.
+use Rattle.gt_core.proofs.Words.{◌≡◌, ◌+◌, ℕ, refl, Bool, false, List, [], ◌∷◌, ◌++◌, length, Option, Some, None, cond, sym, ap, ◌∙◌, arith, subst, ◌==◌, ◌&&◌, All, count_by, none-some, sum_by-cons, DomId, Dir, Read, Write, Half, FirstHalf, SecondHalf, Handle, HandleMap, Held, Holder, ByMapping, ByLeg, Seen, PinCounts, Open, Unpinned, Item, Answer, State, state_of, changed_in, with_slot, without_mapping, slot_after, taken, History, Setting, Pin, live, body_at, mappings_at, maps_answered_at, legs_at, open_call, is_pin_on, without, is_holder, same_handle, same_dir, gather, by_mapping, by_leg, mapping_of, one_if_mapped, IsLawful, SlotAgrees, Agrees, DomainsStand, CallAgrees, GivenAgrees, MappingsAgree, numbered, inl, inr, ◌⊎◌, option_or, Denial, last_first, next_to_give, Done, Makes, Step, Verdict, Ending, Pins, Asked, Copy, CopyArgs, StepsSoFar, EndsCopy}
+use Rattle.gt_core.proofs.{Steps.Observers.answered-stays, Steps.Observers.cond-same, Steps.Observers.without-kept, Steps.Observers.IsKeyed, Steps.Observers.mapping-keyed, Steps.Observers.leg-keyed, Keeping.KeepsEntries, Keeping.same-body, Keeping.Becomes, Keeping.becomes-changed, Keeping.slots-stand, Keeping.keeps-stands, Mappings.less, Mappings.less_of, Mappings.mappings-taken, Mappings.mappings-same, Rows.state-changed, Steps.Observers.pins_at, Steps.Pin.pins-fit, Steps.Observers.all-without, Steps.Observers.unpinned-live, Steps.Observers.unpins, Phases.by-giving, Phases.Placed}
 
 -- what an unpin takes from the live pins
 
@@ -135,3 +135,14 @@ unpin-stands s h xs zs x p holder seen answer kept o st here a becomes loses map
 pub becomes-unpinned : (xs ys : List State) (x : State) (p : Held) (holder : Holder) (o : Option Open) → ((q : ℕ) → state_of ys q ≡ cond (x.id.0 == q) (Some (record x { underway = o })) (state_of xs q))
     → Becomes xs (changed_in x.id.0 (without_mapping holder) (changed_in p.dom.0 (with_slot p.gref.0 (Unpinned p.dir)) ys)) x (without_mapping holder (record x { underway = o })) p.dom.0 (with_slot p.gref.0 (Unpinned p.dir))
 becomes-unpinned xs ys x p holder o was = grind (arith, state-changed, becomes-changed)
+
+-- where giving a pin back leads
+
+pub then-none : (o : Option Denial) → option_or o None ≡ o
+then-none None = refl
+then-none (Some d) = refl
+
+pub give-placed : (s : Setting) (h : History) (d : DomId) (r : Asked) (so_far : StepsSoFar) (pins : Pins) (verdict : Verdict) (step : Step) → next_to_give (last_first pins) verdict ≡ Makes step
+    → (last_first pins ≡ []) ⊎ ((copy : CopyArgs) × (r ≡ Copy copy) × EndsCopy verdict) → Placed s h d r so_far (Ending pins verdict) step
+give-placed s h d r so_far pins verdict step e (inl none) = let f : Done verdict ≡ Makes step = sym (ap (λ (l : List Held). next_to_give l verdict) none) ∙ e in cc
+give-placed s h d r so_far pins verdict step e (inr copy) = by-giving (Placed s h d r so_far (Ending pins verdict)) (λ p n. inr copy) (last_first pins) verdict step e

@@ -1,8 +1,8 @@
 -- The frames of a core: what a step of a call writes to them is by right, and leaves them as the history tells.
 use Rattle.gt_core.proofs.Words.{◌≡◌, ◌≤◌, ◌<◌, ◌+◌, ◌-◌, inl, inr, ℕ, refl, Bool, true, false, List, [], ◌∷◌, ◌++◌, replicate, length, take, drop, Option, Some, None, cond, sym, ap, ◌∙◌, arith, subst, eqb-true, eq-eqb, and_parts, and_from, append-nil, map-append, length-append, length-drop, length-take-le, length-replicate, ◌==◌, ◌&&◌, nat_lt, is_some, IsTrue, DomId, Write, ForMap, DomainConfig, FRAME_SIZE, Entry, frame_of, permits, Handle, value_of, Held, Route, Direct, End, Request, Asked, Store, Poke, Place, Seen, Step, ReadBytes, WriteBytes, CopyBytes, Makes, Call, CallerKnowledge, begun, frames_of, is_dest_granted, dest_pair, opens, Rests, RestsOnRequest, RestsOnWays, IsReached, pins_at, Patch, written, bytes_at, frame_counts, FrameSet, frame_at, has_range, all_zeros, AreKept, Open, Item, Answer, Begun, State, IsLoadOf, IsReadable, IsAdmitted, AccessedBy, History, Setting, patches_at, patches_by, contents_at, written_by, Writing, given_in, open_call, Underway, values, known_at, IsInFrame, CopyIsJustified, grown, DomainsStand, FramesStand, Agrees, OpenAgrees, FitsGiven, begun_element, le-leb, unwrap_or, overlay, replay, zeros, FrameState, patch_of, patches, permits_writing, suffices, all_rightful, pool_number, frames_of_all, is_name, has_frame, admits, WritesTo, journal_in, name_of, ground_of, begun_route, route_of, IsWritOf, FrameName, Writ, WriteRecord, BegunBusy, BegunNoDomain, cond_both}
+use Rattle.gt_core.proofs.{Starting.get-replicate, Steps.Observers.stepped, Phases.call-is, Phases.none-of, Steps.Access.permits-as, Steps.Access.mapping-pin, Steps.Access.same-held, Steps.Access.read-justified, Steps.Access.copy-justified}
 use Rattle.gt_calls.specs.{declared.held.Route.TheVariants.Own, Path.place_of}
 use Rattle.std.specs.Cmp.{both_ways}
-use Rattle.gt_core.proofs.{Starting.get-replicate, Steps.Observers.stepped, Phases.call-is, Phases.none-of, Steps.Access.permits-as, Steps.Access.mapping-pin, Steps.Access.same-held, Steps.Access.read-justified, Steps.Access.copy-justified}
 
 -- what a frame holds, and which frames there are
 
