@@ -1,5 +1,5 @@
 -- A beginning keeps what a core stands for.
-use Rattle.gt_core.proofs.Words.{arith, ◌≤◌, ◌≡◌, ◌≢◌, ◌<◌, ◌+◌, inl, ℕ, refl, true, false, List, [], ◌∷◌, length, Option, Some, None, sym, ap, ◌∙◌, subst, get_or, set, reverse, eqb-true, slice_get_read, position-Some, ◌==◌, is_some, position, slice_get, domain_of, DomId, Header, Held, Request, Asked, Seen, Verdict, Makes, Done, Call, Phase, asked, begun_of, given_by, CallerKnowledge, first, begun, knowledge_of, action_at, StandsAt, held_in, pins_at, GoesOn, Goes, Starts, Nothing, Step, Action, Rests, Pins, most_of, steps_left, Item, Began, Answer, Open, State, state_of, kept_by, with_call, History, Setting, table_at, known_at, Underway, open_call, legs_at, one_if_mapped, stood, AnsweredBy, GivesValue, refusal_in, refusal_of, IsRight, IsClean, phase_refusal, FitsAsked, PhaseStands, OpenAgrees, CallAgrees, FitsGiven, GivenAgrees, Agrees, StateAgrees, DomainsStand, Opens, numbered, misses, ◌^◌, IsSaid, first_phase, IsAt, pins_by_call, steps_to_come, asks_memory, WantsMemory, IsOpened, answer_of, cond_both, StartOpen, OpeningOpen}
+use Rattle.gt_core.proofs.Words.{arith, ◌≤◌, ◌≡◌, ◌≢◌, ◌<◌, ◌+◌, inl, ℕ, refl, true, false, List, [], ◌∷◌, length, Option, Some, None, sym, ap, ◌∙◌, subst, get_or, set, reverse, eqb-true, slice_get_read, position-Some, ◌==◌, is_some, position, slice_get, domain_of, DomId, Header, Held, Request, Asked, Seen, Verdict, Makes, Done, Call, Phase, asked, begun_of, given_by, CallerKnowledge, first, begun, knowledge_of, action_at, StandsAt, held_in, pins_at, GoesOn, Goes, Starts, Nothing, Step, Action, Rests, Pins, most_steps, steps_left, Item, Began, Answer, Open, State, state_of, kept_by, with_call, History, Setting, table_at, known_at, Underway, open_call, legs_at, one_if_mapped, stood, AnsweredBy, GivesValue, refusal_in, refusal_of, IsRight, IsClean, phase_refusal, FitsAsked, PhaseStands, OpenAgrees, CallAgrees, FitsGiven, GivenAgrees, Agrees, StateAgrees, DomainsStand, Opens, numbered, misses, ◌^◌, IsSaid, first_phase, IsAt, pins_by_call, steps_to_come, asks_memory, WantsMemory, IsOpened, answer_of, cond_both, StartOpen, OpeningOpen}
 use Rattle.gt_core.{specs.Standing.IsMapping, proofs.Keeping.KeepsEntries, proofs.Keeping.known-same, proofs.Keeping.open_call-own, proofs.Keeping.stood-own, proofs.Keeping.given-none, proofs.Keeping.quiet-stands, proofs.Steps.Observers.KeepsKnown, proofs.Steps.Observers.kept-known, proofs.Steps.Observers.kept-legs, proofs.Rows.has_id, proofs.Rows.found, proofs.Rows.not-found, proofs.Rows.state_of-set}
 use Rattle.gt_calls.specs.declared.request.Request.TheVariants as requests
 
@@ -72,7 +72,7 @@ begin-opens s h d request o fits a closed op = let i = began d.id request None i
     let empty = call-none s h d.id d.underway (open_call h d.id.0) closed a.call in
     let here : o.call.phase ≡ Some (first_phase k d.id r) = op.phase ∙ ap (λ (k : CallerKnowledge). Some (first_phase k d.id r)) still in
     let stands : StandsAt k o.call.caller o.call.request [] (first_phase k d.id r) = is-at k o.call [] (first_phase k d.id r) here (subst (λ (k : CallerKnowledge). IsAt k o.call []) still op.at) in
-    let few : steps_left (first_phase k d.id r) ≤ most_of r = subst (λ (n : ℕ). n ≤ most_of r) (to-come o.call (first_phase k d.id r) here) op.few in
+    let few : steps_left (first_phase k d.id r) ≤ most_steps r = subst (λ (n : ℕ). n ≤ most_steps r) (to-come o.call (first_phase k d.id r) here) op.few in
     let agrees : OpenAgrees s (i ∷ h) d.id o (record { request = r; given = given_by request; steps = [] }) = record {
       caller = op.caller;
       asks = op.asks;

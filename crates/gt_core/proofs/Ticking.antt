@@ -1,5 +1,5 @@
 -- A step of an open call is right, and the core stands for it.
-use Rattle.gt_core.proofs.Words.{◌≡◌, ◌≢◌, ◌<◌, ◌≤◌, ◌+◌, ◌⊎◌, inl, inr, ℕ, suc, refl, true, List, [], ◌∷◌, ◌++◌, length, Option, Some, None, sym, ap, ◌∙◌, subst, reverse, arith, eqb-true, map-append, length-append, length-reverse, reverse_onto, none-some, same_Some, ◌==◌, All, DomId, GrantRef, Denial, Change, Held, Pins, Asked, Demote, ByMapping, ByLeg, Seen, Nothing, Taken, Missed, Verdict, Granted, KeptPin, Step, PinStep, Unpin, StoreBody, StoreHeader, Exchange, ReadBytes, WriteBytes, CopyBytes, Action, Makes, Done, Call, Phase, Ending, last_first, no_pins, CallerKnowledge, knowledge_of, path, Rests, phase_after, action_at, next_to_give, StandsAt, pins_at, held_in, Goes, GoesOn, most_of, steps_left, Open, Answer, State, state_of, sees, History, Setting, Pin, entry_at, word_at, known_at, legs_at, seen_by, Underway, values, open_call, underway_after, holder_after, one_if_mapped, StepsSoFar, StepsRight, Justified, IsSafe, PinIsSound, AnsweredBy, GivesValue, LeavesAll, gives_back, verdict_in, refusal_in, refusal_of, refusal_if, option_or, first_of_item, first_in_call, stood, most_steps, DomainsStand, Agrees, OpenAgrees, GivenAgrees, FitsGiven, PhaseStands, IsClean, phase_refusal, numbered, exchange_sees, gather, by_leg, reverse-append, FitsNext, HoldsAfter, cond_both, IsLegalHistory}
+use Rattle.gt_core.proofs.Words.{◌≡◌, ◌≢◌, ◌<◌, ◌+◌, ◌⊎◌, inl, inr, ℕ, suc, refl, true, List, [], ◌∷◌, ◌++◌, length, Option, Some, None, sym, ap, ◌∙◌, subst, reverse, arith, eqb-true, map-append, length-append, length-reverse, reverse_onto, none-some, same_Some, ◌==◌, All, DomId, GrantRef, Denial, Change, Held, Pins, Asked, ByMapping, ByLeg, Seen, Nothing, Taken, Missed, Verdict, Granted, KeptPin, Step, PinStep, Unpin, StoreBody, StoreHeader, Exchange, ReadBytes, WriteBytes, CopyBytes, Action, Makes, Done, Call, Phase, Ending, last_first, no_pins, CallerKnowledge, knowledge_of, path, Rests, phase_after, action_at, next_to_give, StandsAt, pins_at, held_in, Goes, GoesOn, steps_left, Open, Answer, State, state_of, sees, History, Setting, Pin, entry_at, word_at, known_at, legs_at, seen_by, Underway, values, open_call, underway_after, holder_after, one_if_mapped, StepsSoFar, StepsRight, Justified, IsSafe, PinIsSound, AnsweredBy, GivesValue, LeavesAll, gives_back, verdict_in, refusal_in, refusal_of, refusal_if, option_or, first_of_item, first_in_call, stood, most_steps, DomainsStand, Agrees, OpenAgrees, GivenAgrees, FitsGiven, PhaseStands, IsClean, phase_refusal, numbered, exchange_sees, gather, by_leg, reverse-append, FitsNext, HoldsAfter, cond_both, IsLegalHistory}
 use Rattle.gt_core.proofs.{Steps.Observers.unstored, Steps.Observers.known-as, Steps.Observers.kept-entry, Steps.Observers.kept-raises, Steps.Observers.kept-known, Steps.Observers.kept-legs, Steps.Observers.kept-table, Steps.Observers.answered-stays, Steps.Observers.stepped, Keeping.known-same, Keeping.open_call-own, Keeping.stood-own, Staying.place-stays, Phases.IsHere, Phases.seen-fits, Phases.by-giving, Phases.call-is, Steps.See.sees-agree, Steps.Observers.unpins, Steps.Unpin.leg-left, Steps.Unpin.leg-mappings, Steps.Unpin.mapping-legs, Steps.Unpin.from-zero, Steps.Observers.pins, Steps.Pin.leg-grows, Steps.Pin.leg-maps, Steps.Exchange.can-change, Steps.Pin.can-pin, Steps.Store.store-invalid, Steps.Observers.exchanged-live, Steps.Access.read-justified, Steps.Access.write-justified, Steps.Access.copy-justified, Phases.next_of, Outcomes.IsSingle, Outcomes.single-ends, Steps.Exchange.taken-ends, Outcomes.clean-next, Outcomes.ends-so, EachStep.each-step, EachStep.OfStep, Steps.Store.by-storing, Steps.Store.StoreLeads, Steps.Store.first-leads, Steps.Store.second-leads}
 use Rattle.gt_calls.specs.Following.{Advances}
 
@@ -213,10 +213,6 @@ goes-fair : (d : DomId) (p : Phase) (z : Step) → action_at d p ≡ Makes z →
 goes-fair d (Ending pins verdict) z e = inr (by-giving (λ (y : Step). gives_back (Some (Makes y)) ≡ true) (λ p n. refl) (last_first pins) verdict z e)
 goes-fair d p z e = inl refl
 
-most-fits : (r : Asked) → most_of r ≤ most_steps r
-most-fits (Demote gref) = omega arith
-most-fits r = omega arith
-
 module _ {s : Setting} {h : History} {xs : List State} {x : State} {o : Open} {c : Underway} {new : Call} {action : Action} (t : Ticks s h xs x o c new action) where
   right : (answer : Option Answer) → (answer ≡ None → length c.steps + 1 < most_steps c.request) → (refusal_if answer ≢ None → All LeavesAll (c.steps ++ (o.step, seen_in t) ∷ []) × (legs_at (history_then t answer) x.id.0 ≡ []))
       → AnsweredBy s h x.id c.request (Some o.step) (gives_back (Some action)) (verdict_in (Some action)) answer (stood s (history_then t answer) x.id.0) → StepsRight s h (stepped x.id o.step (seen_in t) answer) o.step (seen_in t) c
@@ -232,7 +228,7 @@ module _ {s : Setting} {h : History} {xs : List State} {x : State} {o : Open} {c
   }
 
 pub goes-right : {s : Setting} {h : History} {xs : List State} {x : State} {o : Open} {c : Underway} {new : Call} {z : Step} (t : Ticks s h xs x o c new (Makes z)) → StepsRight s h (stepped x.id o.step (seen_in t) None) o.step (seen_in t) c
-goes-right {s} {h} {xs} {x} {o} {c} {new} {z} t = let few = t.stands.few in let fewer = t.fewer in let counted = t.on.counted in let most = most-fits c.request in
+goes-right {s} {h} {xs} {x} {o} {c} {new} {z} t = let few = t.stands.few in let fewer = t.fewer in let counted = t.on.counted in
     right t None (λ none. (omega arith)) (λ some. absurd (some refl)) (fair (goes-fair x.id (phase_then t) z (sym t.acts))) where
       fair : (phase_refusal (phase_then t) ≡ None) ⊎ (gives_back (Some (Makes z)) ≡ true) → (stood s (history_then t None) x.id.0 ≡ None) ⊎ (gives_back (Some (Makes z)) ≡ true)
       fair (inl e) = inl (stood-after t None ∙ e)

@@ -75,7 +75,7 @@ use Rattle.gt_calls.specs.Following.{GoesOn}
 use Rattle.gt_calls.specs.Machine.{first_phase, action_at}
 use Rattle.gt_calls.specs.Resting.{Rests}
 use Rattle.gt_calls.specs.Standing.{IsAt, StandsAt, pins_by_call, pins_at, held_in}
-use Rattle.gt_calls.specs.Counting.{most_steps as most_of, steps_left, steps_to_come}
+use Rattle.gt_calls.specs.Counting.{most_steps, steps_left, steps_to_come}
 use Rattle.gt_types.specs.declared.denial.Rule.{Rule}
 use Rattle.gt_entry.specs.declared.entry.Entry.{Entry}
 use Rattle.gt_entry.specs.declared.entry.Entry.TheVariants.{Invalid}
@@ -114,7 +114,7 @@ pub record IsOpened (k : CallerKnowledge) (dom : DomId) (request : Request) (o :
   pub acts : action_at dom (first_phase k dom (asked request)) ≡ Makes o.step
   pub follows : GoesOn k dom (asked request) [] (Makes o.step)
   pub rests : Rests k dom (asked request) (pins_by_call o.call) [] (Makes o.step)
-  pub few : steps_to_come o.call ≤ most_of (asked request)
+  pub few : steps_to_come o.call ≤ most_steps (asked request)
 
 -- a call begins so: with an answer, or with a first step (own)
 abbrev pub Opens : CallerKnowledge → DomId → Request → Opening → Type 0
@@ -339,7 +339,7 @@ pub record OpenAgrees (s : Setting) (h : History) (id : DomId) (o : Open) (c : U
   pub fits : FitsAsked c.request
   pub clean : IsClean phase c.steps
   pub held : legs_at h id.0 ≡ numbered 0 (reverse (held_in phase))
-  pub few : length c.steps + steps_left phase ≤ most_of c.request
+  pub few : length c.steps + steps_left phase ≤ most_steps c.request
 
 -- the open call is that of the history, and there is one in both or in neither; with none open no pin is held by
 -- one (own)

@@ -5,6 +5,7 @@ use Rattle.gt_types.specs.Names.{domain_of}
 use Rattle.gt_types.specs.declared.DomId.{DomId}
 use Rattle.gt_core.specs.History.{History, Setting, Underway, open_call, underway_after}
 use Rattle.gt_core.specs.Legal.{MayDo, StepsRight, StepsRightIn, grown, LegalAfter, history_after, most_steps}
+use Rattle.gt_calls.specs.declared.call.TheConstants.{MAX_STEPS}
 use Rattle.gt_core.specs.Standing.{CoreStands, begun_element}
 use Rattle.gt_core.specs.States.{CoreState}
 use Rattle.gt_calls.specs.declared.request.Request.{Request}
@@ -112,7 +113,7 @@ begins_open s h d request (begun.Done answer) known is may = elim is [ inl e ↦
 begins_open s h d request begun.Busy known is may = elim is [ inl e ↦ cc | inr e ↦ cc ]
 begins_open s h d request begun.NoDomain known is may = absurd (known may)
 
-few_steps : (request : Asked) → most_steps request ≤ 71
+few_steps : (request : Asked) → most_steps request ≤ MAX_STEPS
 few_steps (asks.Grant gref entry) = omega arith
 few_steps (asks.Revoke gref) = omega arith
 few_steps (asks.Demote gref) = omega arith
@@ -130,17 +131,17 @@ few_steps (asks.QuerySize dom) = omega arith
 few_steps (asks.GetVersion dom) = omega arith
 
 -- no call is without an answer after as many ticks
-pub always_answered : (s : Setting) (h : History) (d : DomId) (most : ℕ) (xs : List Element) (request : Asked) → most ≡ 71 → domain_of s.domains d ≢ None → HasOpen h d.0 request 0 → AnswerNothing xs
+pub always_answered : (s : Setting) (h : History) (d : DomId) (most : ℕ) (xs : List Element) (request : Asked) → most ≡ MAX_STEPS → domain_of s.domains d ≢ None → HasOpen h d.0 request 0 → AnswerNothing xs
     → LegalAfter s h (replicate most (Tick d)) xs → ⊥
 always_answered s h d most xs request all known open_now quiet legal =
-    let most_of : most_steps request ≤ 71 = few_steps request in
+    let most_of : most_steps request ≤ MAX_STEPS = few_steps request in
     elim (ticks_stay s h d most xs request 0 known open_now quiet legal).1 [
       | inl none ↦ omega arith
       | inr few ↦ omega arith
     ]
 
 -- ticks of a call that has just begun come to its answer
-pub unanswered : (s t : Setting) (h : History) (d : DomId) (most : ℕ) (request : Asked) (mid new : CoreState) (said : Option Answer) → most ≡ 71 → t ≡ s → domain_of s.domains d ≢ None → HasOpen h d.0 request 0
+pub unanswered : (s t : Setting) (h : History) (d : DomId) (most : ℕ) (request : Asked) (mid new : CoreState) (said : Option Answer) → most ≡ MAX_STEPS → t ≡ s → domain_of s.domains d ≢ None → HasOpen h d.0 request 0
     → CoreStands s h mid → ((g : History) → CoreStands t g mid → TicksTo t g d most new said) → said ≡ None → ⊥
 unanswered s t h d most request mid new said all same known open_now stands ticks none =
     let here = subst (λ (q : Setting). (g : History) → CoreStands q g mid → TicksTo q g d most new said) same ticks in

@@ -18,8 +18,9 @@ use crate::copying::copy_asked;
 use crate::fault::Fault;
 use crate::kept::Kept;
 use crate::labels::Labels;
-use crate::outcome::{Outcome, TICKS_OF_A_CALL};
+use crate::outcome::Outcome;
 use crate::showing::push_show_line;
+use gt_calls::MAX_STEPS;
 use gt_core::{Answer, Begun, Core, Request, Ticked};
 use gt_entry::Entry;
 use gt_lines::{AccessCall, Grant, ScriptAction, ScriptCall, TableCall, Text, hex_bytes};
@@ -291,7 +292,7 @@ fn run_call<P: Allows>(
     match core.begin(dom, request)? {
         Begun::Done(answer) => Ok(Outcome::Answered(answer)),
         Begun::Busy => Ok(Outcome::Busy),
-        Begun::Open | Begun::NoDomain => match tick_up_to(core, dom, TICKS_OF_A_CALL)? {
+        Begun::Open | Begun::NoDomain => match tick_up_to(core, dom, MAX_STEPS)? {
             Some(answer) => Ok(Outcome::Answered(answer)),
             None => unreachable!(),
         },

@@ -1,5 +1,6 @@
 use Rattle.std.proofs.Common.{refl}
 use Rattle.gt_calls.specs.Asking.{asked}
+use Rattle.gt_calls.specs.declared.call.TheConstants.{MAX_STEPS}
 use Rattle.gt_core.specs.History.{Setting}
 use Rattle.gt_core.specs.Standing.{setting_of}
 use Rattle.gt_host.proofs.OpenLemmas.{begins_open, unanswered}
@@ -16,10 +17,10 @@ pub unreachable-requires : goal.unreachable-requires
 unreachable-requires g c =
     let s : Setting = setting_of c.args.core.now.config (g.P.Allows.may c.args.core.now.rights) in
     let told = c.in_ok-answer.ensures.stands c.requires.history c.requires.stands in
-    unanswered s _ _ c.args.dom 71 (asked c.args.request) _ _ _ refl (same_setting g.P.Allows.may _ _ _ _ c.begin.ensures.config c.begin.ensures.rights) c.requires.known
+    unanswered s _ _ c.args.dom MAX_STEPS (asked c.args.request) _ _ _ refl (same_setting g.P.Allows.may _ _ _ _ c.begin.ensures.config c.begin.ensures.rights) c.requires.known
     (begins_open s c.requires.history c.args.dom c.args.request c.in_ok-answer.field-0 c.requires.known c.in-Open.is told.0) told.1 c.in_ok-answer-in-Open.ensures.ticks c.in-None.is
 
 pub returns-in-Some-clause-calls : goal.returns-in-Some-clause-calls
 returns-in-Some-clause-calls g c = λ h stands.
-    call_ticked _ _ h c.args.dom 71 c.args.request c.in_ok-answer.field-0 _ _ c.in-Some.answer _ (same_setting g.P.Allows.may _ _ _ _ c.begin.ensures.config c.begin.ensures.rights) c.requires.known
+    call_ticked _ _ h c.args.dom MAX_STEPS c.args.request c.in_ok-answer.field-0 _ _ c.in-Some.answer _ (same_setting g.P.Allows.may _ _ _ _ c.begin.ensures.config c.begin.ensures.rights) c.requires.known
     c.in-Open.is (c.in_ok-answer.ensures.stands h stands) c.in_ok-answer-in-Open.ensures.ticks c.in-Some.is
