@@ -134,7 +134,7 @@ few_steps (asks.GetVersion dom) = omega arith
 pub always_answered : (s : Setting) (h : History) (d : DomId) (most : ℕ) (xs : List Element) (request : Asked) → most ≡ MAX_STEPS → domain_of s.domains d ≢ None → HasOpen h d.0 request 0 → AnswerNothing xs
     → LegalAfter s h (replicate most (Tick d)) xs → ⊥
 always_answered s h d most xs request all known open_now quiet legal =
-    let most_of : most_steps request ≤ MAX_STEPS = few_steps request in
+    let bound : most_steps request ≤ MAX_STEPS = few_steps request in
     elim (ticks_stay s h d most xs request 0 known open_now quiet legal).1 [
       | inl none ↦ omega arith
       | inr few ↦ omega arith
