@@ -119,7 +119,8 @@ verdict_of_frames (Ok frames) = Given (Frames frames)
 verdict_of_frames (Err denial) = Refused denial
 
 -- A map is answered so: by its path, which ends with the mapping that is kept under the handle answered; or,
--- where no rule stood at its beginning and no memory was there, by N26 after no step (own)
+-- where no rule stood at its beginning, no room for a mapping was left and no memory was there, by N26 after
+-- no step (own)
 abbrev pub MapAnswered : {P : Type 0} → (P → AllowRelation) → Monitor P → Domain → Request → Result Handle Denial
     → Domain → Type 0
 MapAnswered may m d request (Ok handle) e =
@@ -127,7 +128,7 @@ MapAnswered may m d request (Ok handle) e =
 MapAnswered may m d request (Err denial) e =
     (Answered may m d request (Refused denial) e
     ⊎ ((denial ≡ denial_of N26 NoFacts) × (begun_of (known may m d) d.seat.dom request ≡ None)
-    × (e.seat.view ≡ d.seat.view)))
+    × (d.mappings.room ≡ 0) × (e.seat.view ≡ d.seat.view)))
     × KeepsPinned d e
 
 -- a call is open, has made no step, and begins with one (own)

@@ -1,5 +1,5 @@
-use Rattle.std.proofs.Common.{◌≡◌, ◌∙◌, ◌≤◌, ◌+◌, ◌<◌, sym, ap, subst, refl, Some, None, inl, inr}
-use Rattle.std.specs.Prelude.{Result, Ok, Err, OnOk, false, ◌^◌}
+use Rattle.std.proofs.Common.{arith, ◌≡◌, ◌∙◌, ◌≤◌, ◌+◌, ◌<◌, sym, ap, subst, refl, Some, None, inl, inr}
+use Rattle.std.specs.Prelude.{Result, Ok, Err, OnOk, IsOk, ℕ, true, false, ◌^◌}
 use Rattle.std.specs.Result.{is_err}
 use Rattle.gt_handles.specs.Handles.{HandleMap, KeepsSpent}
 use Rattle.gt_handles.specs.Listing.{IsInserted}
@@ -24,6 +24,9 @@ use Rattle.gt_live.proofs.domain.Domain.make_mapping.Goals as goal
 on-ok : {A E : Type 0} (r : Result A E) (B : Type 0) → is_err r ≡ false → OnOk r B → B
 on-ok (Ok a) B e b = b
 on-ok (Err x) B e b = cc
+
+no-room : {A E : Type 0} (r : Result A E) (n : ℕ) → is_err r ≡ true → (1 ≤ n → IsOk r) → n ≡ 0
+no-room r n e some = grind arith
 
 pub returns-in-Some : goal.returns-in-Some
 returns-in-Some g c =
@@ -54,7 +57,7 @@ returns-then-is_err-clause-answered g c =
     let begun : begun_of k d.seat.dom (requests.Map c.args.dom c.args.gref c.args.flags) ≡ None =
     sym c.judge_map.ensures ∙ none-left c.judge_map.result c.in_default.not-Some in
     let kept = c.reserve.ensures.kept in
-    (inr (c.new.ensures, begun, refl), (record { slots = ap (λ (z : HandleMap Held). z.slots) kept; given = ap (λ (z : HandleMap Held). z.given) kept }, λ t q. refl))
+    (inr (c.new.ensures, begun, no-room c.reserve.result d.mappings.room (sym c.is_err.ensures.value ∙ c.if-is_err.true) c.reserve.ensures.succeeds, refl), (record { slots = ap (λ (z : HandleMap Held). z.slots) kept; given = ap (λ (z : HandleMap Held). z.given) kept }, λ t q. refl))
 
 pub drive_map-requires-clause-mine : goal.drive_map-requires-clause-mine
 drive_map-requires-clause-mine g c =
