@@ -9,6 +9,7 @@ pub mod Legs
 pub mod Mappings
 pub mod Outcomes
 pub mod Phases
+pub mod Performing
 pub mod Pins
 pub mod Playing
 pub mod Rows

@@ -1,6 +1,7 @@
 -- What the core does for a step of an open call: it is right, and the core stands for it.
-use Rattle.gt_core.proofs.Words.{◌≡◌, ◌≢◌, inl, inr, ℕ, refl, Bool, List, [], ◌∷◌, ◌++◌, length, Option, Some, None, cond, sym, ap, ◌∙◌, subst, reverse, eqb-true, eq-eqb, length-reverse, reverse_onto, same_Some, ◌==◌, DomId, GrantRef, Entry, Invalid, Handle, Held, Asked, ByMapping, ByLeg, Seen, Nothing, Taken, Missed, Verdict, Granted, Given, KeptPin, Refused, Step, PinStep, Unpin, StoreBody, StoreHeader, Exchange, ReadBytes, Action, Makes, Done, Call, Phase, knowledge_of, path, action_at, after_store, pins_at, held_in, Goes, Open, Item, Answer, Denied, AnswerDone, Mapped, State, state_of, sees, History, Setting, live, word_at, known_at, legs_at, mappings_at, mapping_of, seen_by, Underway, values, open_call, underway_after, holder_after, one_if_mapped, StepsRight, GivesValue, refusal_in, refusal_of, DomainsStand, Agrees, CallAgrees, OpenAgrees, numbered, position, get_or, set, position-Some, domain_of, Value, FramesTold, BytesAnswer, HandleMap, applied, with_underway, with_mapping, Adds, IsReadable, IsAdmitted, AccessedBy, bytes_at, FrameSet, frame_at, contents_at, IsRight, StepsRightIn, CoreStands, FramesStand, core_of, Settled, IsLawful, IsLawfullyHeld, answer_with, Closed, IsRoomFor, IsMapping, ticked_with, ticked_element, Element, Tick, MayDo, Does, Did, grown, without, RestsOnRequest, WantsMemoryNow, IsWritingNext, TickTold, IsWriting, cond_both, CallerKnowledge, GivenAgrees, take, drop, asked, told, taken, IsLegalHistory}
-use Rattle.gt_core.proofs.{Values.call-ends, Steps.Observers.pins, Steps.Pin.map-legs, Steps.Observers.new_pin, Steps.Pin.pin-stands, Steps.Pin.map-agrees, Steps.Pin.leg-agrees as pin-agrees, Steps.Observers.stepped, Keeping.open_call-own, Keeping.quiet-stands, Steps.Store.IsStore, Phases.IsHere, Steps.Store.header-stands, Steps.Store.store-stands, Steps.Write.bytes-held, Steps.Write.open-admitted, Steps.Write.open-readable, Steps.Write.frames-stepped, Phases.next_of, Outcomes.ends-so, Ticking.Ticks, Ticking.ticks, Ticking.given-goes-on, Ticking.legs-after, Ticking.open-after, Ticking.goes-right, Ticking.ends-right, Ticking.last-fact, Ticking.LastFact, Steps.Store.by-storing, Ticking.seen_in, Ticking.phase_then, Ticking.history_then, Steps.Unpin.Loses, Steps.Unpin.unpin-stands, Steps.Unpin.becomes-unpinned, Steps.Unpin.loses-leg, Steps.Unpin.loses-mapping, Steps.Unpin.mapping-agrees, Steps.Unpin.leg-agrees as unpin-agrees, Steps.Exchange.can-change, Steps.Pin.can-pin, Steps.Store.header-fits, Steps.Pin.map-lawful, Steps.Pin.CanPin, Steps.Exchange.exchange-stands, Beginning.agrees-found, Rows.has_id, Rows.found, Rows.state_of-set}
+use Rattle.gt_core.proofs.Words.{slice_get, ◌≡◌, ◌≢◌, inl, inr, ℕ, refl, Bool, List, [], ◌∷◌, ◌++◌, length, Option, Some, None, cond, sym, ap, ◌∙◌, subst, reverse, eqb-true, eq-eqb, length-reverse, reverse_onto, same_Some, ◌==◌, DomId, GrantRef, Entry, Invalid, Handle, Held, Asked, ByMapping, ByLeg, Seen, Nothing, Taken, Missed, Verdict, Granted, Given, KeptPin, Refused, Step, PinStep, Unpin, StoreBody, StoreHeader, Exchange, ReadBytes, Action, Makes, Done, Call, Phase, knowledge_of, path, action_at, after_store, pins_at, held_in, Goes, Open, Item, Answer, Denied, AnswerDone, Mapped, State, state_of, sees, History, Setting, live, word_at, known_at, legs_at, mappings_at, mapping_of, seen_by, Underway, values, open_call, underway_after, holder_after, one_if_mapped, StepsRight, GivesValue, refusal_in, refusal_of, DomainsStand, Agrees, CallAgrees, OpenAgrees, numbered, position, get_or, set, position-Some, domain_of, Value, FramesTold, BytesAnswer, HandleMap, applied, with_underway, with_mapping, Adds, IsReadable, IsAdmitted, AccessedBy, bytes_at, FrameSet, frame_at, contents_at, IsRight, StepsRightIn, CoreStands, FramesStand, core_of, Settled, IsLawful, IsLawfullyHeld, answer_with, Closed, IsRoomFor, IsMapping, ticked_with, ticked_element, Element, Tick, MayDo, Does, Did, grown, without, RestsOnRequest, WantsMemoryNow, IsWritingNext, TickTold, IsWriting, cond_both, CallerKnowledge, GivenAgrees, take, drop, asked, told, taken, IsLegalHistory}
+use Rattle.gt_calls.specs.Following.{IsLeftAlike}
+use Rattle.gt_core.proofs.{Performing.left-alike, Performing.settled-after, Performing.stepped-state, Performing.EndsByPin, Beginning.place-at, Values.call-ends, Steps.Observers.pins, Steps.Pin.map-legs, Steps.Observers.new_pin, Steps.Pin.pin-stands, Steps.Pin.map-agrees, Steps.Pin.leg-agrees as pin-agrees, Steps.Observers.stepped, Keeping.open_call-own, Keeping.quiet-stands, Steps.Store.IsStore, Phases.IsHere, Steps.Store.header-stands, Steps.Store.store-stands, Steps.Write.bytes-held, Steps.Write.open-admitted, Steps.Write.open-readable, Steps.Write.frames-stepped, Phases.next_of, Outcomes.ends-so, Ticking.Ticks, Ticking.ticks, Ticking.given-goes-on, Ticking.legs-after, Ticking.open-after, Ticking.goes-right, Ticking.ends-right, Ticking.last-fact, Ticking.LastFact, Steps.Store.by-storing, Ticking.seen_in, Ticking.phase_then, Ticking.history_then, Steps.Unpin.Loses, Steps.Unpin.unpin-stands, Steps.Unpin.becomes-unpinned, Steps.Unpin.loses-leg, Steps.Unpin.loses-mapping, Steps.Unpin.mapping-agrees, Steps.Unpin.leg-agrees as unpin-agrees, Steps.Exchange.can-change, Steps.Pin.can-pin, Steps.Store.header-fits, Steps.Pin.map-lawful, Steps.Pin.CanPin, Steps.Exchange.exchange-stands, Beginning.agrees-found, Rows.has_id, Rows.found, Rows.state_of-set}
 use Rattle.gt_core.specs.declared.trace.Bytes.{Bytes}
 
 -- the states where just the actor's call, or its handles or bytes, are others
@@ -198,6 +199,22 @@ pub record Begins (s : Setting) (xs : List State) (dom : DomId) (at : ℕ) (x : 
   pub asks : new.request ≡ o.call.request
   pub goes : Goes (knowledge_of s.domains s.first_generation s.may x.own x.header x.mappings) o.call seen new action
 
+-- the call went on from the states that its step left
+pub begins-after : (s : Setting) (h : History) (xs ws : List State) (fs : FrameSet) (dom : DomId) (at : ℕ) (x : State) (o : Open) (seen : Seen) (new : Call) (action : Action) → CoreStands s h (core_of xs fs) → position (has_id dom.0) xs ≡ Some at → x ≡ get_or xs at x → x.underway ≡ Some o
+    → seen ≡ sees xs dom o.step → ws ≡ applied dom o.step seen xs → new.caller ≡ o.call.caller → new.request ≡ o.call.request
+    → ((d : State) → slice_get ws at ≡ Some d → (k : CallerKnowledge) → IsLeftAlike k (knowledge_of s.domains s.first_generation s.may d.own d.header d.mappings) o.call seen → Goes k o.call seen new action)
+    → Begins s xs dom at x o seen new action
+begins-after s h xs ws fs dom at x o seen new action st place here under saw left caller asks goes = let a = open-here s h xs dom at x o place here under st.domains in
+    let found = place-at xs dom.0 at x place here in let y = stepped-state dom o.step seen xs at x place in record {
+      place = place;
+      here = here;
+      under = under;
+      saw = saw;
+      caller = caller;
+      asks = asks;
+      goes = goes y.0 (ap (λ (l : List State). slice_get l at) left ∙ y.1) _ (left-alike s h xs at dom x y.0 o a.3.0 seen a.3.2 found y.1);
+    }
+
 -- what there is of it
 pub record Begun (s : Setting) (h : History) (xs : List State) (dom : DomId) (at : ℕ) (x : State) (o : Open) (seen : Seen) (new : Call) (action : Action) : Type 0 where
   pub named : domain_of s.domains dom ≢ None
@@ -257,20 +274,27 @@ settled-before : (fs gs : FrameSet) (xs new : List State) (at : ℕ) (x d : Stat
 settled-before fs gs xs new at x d old call (ReadBytes dom frame off len) (Done Granted) answer wrote (a, is, closed) = (a, is, subst (λ (z : FrameSet). Closed z xs at d (ReadBytes dom frame off len) a new) wrote closed)
 settled-before fs gs xs new at x d old call step action answer wrote a = a
 
--- what a tick does whose step is told so; the frames and the states then are those that its step and its call's
--- settling left
-pub tick-does : (s : Setting) (fs gs ks : FrameSet) (xs ys zs : List State) (dom : DomId) (at : ℕ) (x : State) (o : Open) (seen : Seen) (new : Call) (action : Action) (answer : Option Answer) (told : TickTold) → told ≡ ticked_with o.step seen answer
-    → Begins s xs dom at x o seen new action → AccessedBy x o.call o.step fs gs → Settled gs xs at x o.step new action answer zs → ys ≡ applied dom o.step seen zs → ks ≡ gs → Does s (core_of xs fs) (Tick dom) (ticked_element dom told) (core_of ys ks)
+-- only a pin ends a call with a mapping
+ends-by-pin : (s : Setting) (h : History) (xs : List State) (x : State) (o : Open) (c : Underway) (new : Call) (action : Action) → Ticks s h xs x o c new action → EndsByPin o.step action
+ends-by-pin s h xs x o c new (Done (KeptPin held)) t = (held, (call-ends s h xs x.id c.request (values c) (reverse c.steps) t.stands.phase o.step t.i (KeptPin held) (sym t.acts)).is)
+ends-by-pin s h xs x o c new action t = tt
+
+-- what a tick does whose step is told so; the frames and the states then are those that its call's settling left, which
+-- began with those that its step left
+pub tick-does : (s : Setting) (fs gs ks : FrameSet) (xs ys : List State) (dom : DomId) (at : ℕ) (x : State) (o : Open) (seen : Seen) (new : Call) (action : Action) (answer : Option Answer) (told : TickTold) → told ≡ ticked_with o.step seen answer
+    → Begins s xs dom at x o seen new action → AccessedBy x o.call o.step fs gs → ((d : State) → slice_get (applied dom o.step seen xs) at ≡ Some d → Settled gs (applied dom o.step seen xs) at d o.step new action answer ys) → ks ≡ gs
+    → Does s (core_of xs fs) (Tick dom) (ticked_element dom told) (core_of ys ks)
 unfolding IsLegalHistory
-tick-does s fs gs ks xs ys zs dom at x o seen new action answer told is b wrote settled left same = λ h st.
-    let n = begun s h xs dom at x o seen new action st.legal st.domains b in
-    let t = action-core s h fs xs zs at x o n.c new action answer n.ticks st.frames n.replaced (settled-before fs gs xs zs at x x o.call new o.step action answer wrote settled) in
-    let r = subst (λ (d : DomId). Ticked s h d o.step seen answer (applied d o.step seen zs)) n.is (subst (λ (v : Seen). Ticked s h x.id o.step v answer (applied x.id o.step v zs)) (sym n.same) t) in
+tick-does s fs gs ks xs ys dom at x o seen new action answer told is b wrote settles same = λ h st.
+    let n = begun s h xs dom at x o seen new action st.legal st.domains b in let y = stepped-state dom o.step seen xs at x b.place in
+    let z = settled-after gs xs ys at dom x y.0 o.step seen new action answer b.place b.here y.2 (place-at xs dom.0 at x b.place b.here) y.1 (ends-by-pin s h xs x o n.c new action n.ticks) (settles y.0 y.1) in
+    let t = action-core s h fs xs z.0 at x o n.c new action answer n.ticks st.frames n.replaced (settled-before fs gs xs z.0 at x x o.call new o.step action answer wrote z.1) in
+    let r = subst (λ (d : DomId). Ticked s h d o.step seen answer (applied d o.step seen z.0)) n.is (subst (λ (v : Seen). Ticked s h x.id o.step v answer (applied x.id o.step v z.0)) (sym n.same) t) in
     subst (λ (z : Element). MayDo s h (Tick dom) z × CoreStands s (grown h z) (core_of ys ks)) (sym (ap (ticked_element dom) is ∙ element answer)) (
       (n.named, (refl, tt), r.0),
       record {
         legal = (r.0, st.legal);
-        domains = subst (DomainsStand s (stepped dom o.step seen answer ∷ h)) (sym left) r.1;
+        domains = subst (DomainsStand s (stepped dom o.step seen answer ∷ h)) (sym z.2) r.1;
         frames = subst (FramesStand s (stepped dom o.step seen answer ∷ h)) (sym same) (tick-frames s h xs dom at x o b.place b.here b.under fs gs seen answer st wrote);
       },
     )

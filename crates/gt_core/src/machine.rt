@@ -1,15 +1,17 @@
 //! The words and frames of a core, and what its calls do to them.
-ghost use Rattle.std.specs.Prelude.{◌≡◌, ◌<◌, [], length, slice_get, map, IfOk, IfErr, OnErr, IsOk};
+ghost use Rattle.std.specs.Prelude.{◌≡◌, ◌<◌, [], length, slice_get, map, IfOk, IfErr, OnOk, OnErr, IsOk};
 ghost use Rattle.std.specs.Prelude.{Option, Some, None};
 ghost use Rattle.gt_types.specs.Config.{IsWithinLimits};
-ghost use Rattle.gt_calls.specs.Rules.{knows};
-ghost use Rattle.gt_calls.specs.Following.{Goes};
+ghost use Rattle.gt_calls.specs.Rules.{CallerKnowledge, knows};
+ghost use Rattle.gt_calls.specs.Following.{Goes, IsLeftAlike};
 ghost use Rattle.gt_calls.specs.Asking.{given_by};
 ghost use Rattle.gt_frames.specs.Sets.{all_zeros, AreKept};
 ghost use Rattle.gt_frames.specs.Places.{frame_counts};
 ghost use Rattle.gt_core.specs.History.{History};
 ghost use Rattle.gt_core.specs.States.{State};
-ghost use Rattle.gt_core.specs.Accesses.{IsReadable};
+ghost use Rattle.gt_core.specs.Accesses.{IsReadable, IsAdmitted, AccessedBy, IsWriting};
+ghost use Rattle.gt_core.specs.Effects.{applied};
+ghost use Rattle.gt_core.specs.Sight.{sees};
 ghost use Rattle.gt_core.specs.Shown.{shown_at};
 ghost use Rattle.gt_core.specs.Standing.{Opens, DomainsStand, StandsForSome, Does, DoesAlone, IsStartFaultOf, Closed};
 ghost use Rattle.gt_core.specs.Standing.{Settled};
@@ -154,12 +156,36 @@ impl<P: Allows> Machine<P> {
         }
     }
 
+    // Makes the step of the domain's open call: writes the bytes that it writes, and changes words and mappings. It
+    // gives what the step saw.
+    fn perform(&mut self, at: usize, dom: DomId, open: Open) -> Result<Seen, Memory>
+        requires there { at < length self.old.domains.items }
+        requires admitted { (d : State) → slice_get self.old.domains.items at ≡ Some d →
+            IsAdmitted self.old.frames d open.call open.step }
+        ensures sees { IfOk result (λ seen. seen ≡ sees self.old.domains.items dom open.step) }
+        ensures applied { IfOk result (λ seen.
+            self.new.domains.items ≡ applied dom open.step seen self.old.domains.items) }
+        ensures accessed { OnOk result ((d : State) → slice_get self.old.domains.items at ≡ Some d →
+            AccessedBy d open.call open.step self.old.frames self.new.frames) }
+        ensures config { self.new.config ≡ self.old.config }
+        ensures rights { self.new.rights ≡ self.old.rights }
+        ensures memory { OnErr result (IsWriting open.step) }
+        ensures domains { OnErr result (self.new.domains.items ≡ self.old.domains.items) }
+        ensures frames { OnErr result (self.new.frames ≡ self.old.frames) }
+    {
+        write_bytes(&mut self.frames, &self.domains[at], open)?;
+        let seen = see(&self.domains, dom, open.step);
+        apply(&mut self.domains, dom, open.step, seen);
+        Ok(seen)
+    }
+
+    // The call after what its last step saw, and what it does next: by what its domain knew before that step too.
     fn advance(&self, at: usize, last: Open, seen: Seen) -> (Call, Action)
         requires { at < length self.now.domains.items }
         ensures caller { result.0.caller ≡ last.call.caller }
         ensures request { result.0.request ≡ last.call.request }
-        ensures goes { (d : State) → slice_get self.now.domains.items at ≡ Some d →
-            Goes (known_by P.may self.now d) last.call seen result.0 result.1 }
+        ensures goes { (d : State) → slice_get self.now.domains.items at ≡ Some d → (k : CallerKnowledge) →
+            IsLeftAlike k (known_by P.may self.now d) last.call seen → Goes k last.call seen result.0 result.1 }
     {
         let mut call = last.call;
         let domain = &self.domains[at];
@@ -208,7 +234,7 @@ impl<P: Allows> Machine<P> {
     }
 
     // What the domain's call does by this action: its next step, or its answer, which ends it.
-    fn go_on_or_end(&mut self, at: usize, last: Open, call: Call, action: Action) -> Option<Answer>
+    fn settle(&mut self, at: usize, last: Open, call: Call, action: Action) -> Option<Answer>
         requires there { at < length self.old.domains.items }
         requires under { (d : State) → slice_get self.old.domains.items at ≡ Some d → d.underway ≡ Some last }
         requires readable { IsReadable self.old.frames last.call last.step }
@@ -262,11 +288,9 @@ impl<P: Allows> Machine<P> {
         let Some(open) = self.domains[at].underway() else {
             return Ok(Ticked::Idle);
         };
-        write_bytes(&mut self.frames, &self.domains[at], open)?;
-        let seen = see(&self.domains, dom, open.step);
+        let seen = self.perform(at, dom, open)?;
         let (call, action) = self.advance(at, open, seen);
-        let answer = self.go_on_or_end(at, open, call, action);
-        apply(&mut self.domains, dom, open.step, seen);
+        let answer = self.settle(at, open, call, action);
         Ok(told(open.step, seen, answer))
     }
 

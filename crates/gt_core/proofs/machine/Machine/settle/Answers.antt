@@ -1,5 +1,5 @@
 use Rattle.gt_core.proofs.Words.{◌≡◌, length, Some, None, refl, sym, ap, ◌∙◌, subst, set, same_Some, slice_get_read, HandleMap, Held, Action, Done, Verdict, Denied, Mapped, State, Adds, with_underway, with_mapping, Settled}
-use Rattle.gt_core.proofs.machine.Machine.go_on_or_end.Goals as goal
+use Rattle.gt_core.proofs.machine.Machine.settle.Goals as goal
 
 pub returns-in-Mapped-clause-settles : goal.returns-in-Mapped-clause-settles
 returns-in-Mapped-clause-settles g c = λ d here. let xs = c.args.self.now.domains.items in let at = c.args.at in
