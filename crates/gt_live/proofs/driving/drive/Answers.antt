@@ -1,4 +1,4 @@
-use Rattle.std.proofs.Common.{sym, ◌∙◌, subst}
+use Rattle.std.proofs.Common.{refl, sym, ◌∙◌, subst}
 use Rattle.gt_types.specs.declared.DomId.{DomId}
 use Rattle.gt_calls.specs.Rules.{knows}
 use Rattle.gt_calls.specs.declared.action.Action.{Action}
@@ -26,7 +26,7 @@ steps-init g c =
       same = same_seat-self c.args.seat.now;
       caller = e.caller;
       request = e.request;
-      going = begins known k c.args.seat.now.view c.args.call.now c.next-action.new.self c.next-action.result c.requires.fresh c.requires.steps e.caller e.request e.goes;
+      going = begins known k c.args.seat.now.view c.args.call.now c.next-action.new.self c.next-action.result c.requires.fresh c.requires.steps e.caller e.request (e.goes _ refl);
     }
 
 pub perform-seen-requires-clause-can : goal.perform-seen-requires-clause-can
@@ -42,7 +42,7 @@ steps-smaller g c =
     (advance known k c.steps.effect c.args.seat.now.view c.steps.seat.view c.perform-seen.new.seat.view c.steps.call c.next-action-in-Step.new.self c.next-action-in-Step.result c.in-Step.step c.perform-seen.result
     (subst (λ (d : DomId). Knows known k d c.args.seat.now.view) (sym inv.caller) c.requires.knows) (subst (λ (a : Asked). WaitsForNobody a) (sym inv.request) c.requires.waits)
     (subst (λ (a : Action). Going known k c.steps.effect c.args.seat.now.view c.steps.seat.view c.steps.call a) c.in-Step.is inv.going)
-    c.perform-seen.ensures.made e.caller e.request e.goes).1
+    c.perform-seen.ensures.made e.caller e.request (e.goes _ refl)).1
 
 pub steps-preserved : goal.steps-preserved
 steps-preserved g c =
@@ -50,7 +50,7 @@ steps-preserved g c =
     let on = advance known k c.steps.effect c.args.seat.now.view c.steps.seat.view c.perform-seen.new.seat.view c.steps.call c.next-action-in-Step.new.self c.next-action-in-Step.result c.in-Step.step c.perform-seen.result
     (subst (λ (d : DomId). Knows known k d c.args.seat.now.view) (sym inv.caller) c.requires.knows) (subst (λ (a : Asked). WaitsForNobody a) (sym inv.request) c.requires.waits)
     (subst (λ (a : Action). Going known k c.steps.effect c.args.seat.now.view c.steps.seat.view c.steps.call a) c.in-Step.is inv.going)
-    c.perform-seen.ensures.made e.caller e.request e.goes in
+    c.perform-seen.ensures.made e.caller e.request (e.goes _ refl) in
     record {
       seat = still_seat c.args.words.now _ _ inv.seat c.perform-seen.ensures.seat;
       same = same_seat-then c.args.seat.now c.steps.seat c.perform-seen.new.seat inv.same c.perform-seen.ensures.seat;

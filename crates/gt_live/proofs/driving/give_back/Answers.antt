@@ -1,4 +1,4 @@
-use Rattle.std.proofs.Common.{subst}
+use Rattle.std.proofs.Common.{refl, subst}
 use Rattle.gt_calls.specs.declared.action.Action.{Action}
 use Rattle.gt_calls.specs.Rules.{knows}
 use Rattle.gt_calls.specs.Standing.{pins_by_call}
@@ -13,7 +13,7 @@ pins-init g c =
     record {
       seat = c.requires.seat;
       same = same_seat-self c.args.seat.now;
-      returning = returns-first known k c.args.seat.now.view c.args.call.now c.next-action.new.self c.next-action.result c.requires.accessing.0 c.requires.accessing.1 c.requires.of_run c.next-action.ensures.goes;
+      returning = returns-first known k c.args.seat.now.view c.args.call.now c.next-action.new.self c.next-action.result c.requires.accessing.0 c.requires.accessing.1 c.requires.of_run (c.next-action.ensures.goes _ refl);
     }
 
 pub perform-seen-requires-clause-can : goal.perform-seen-requires-clause-can
@@ -26,7 +26,7 @@ pub pins-smaller : goal.pins-smaller
 pins-smaller g c =
     let known = knows g.P.Allows.may c.args.known.now in let k = c.args.words.now.layout in let inv = c.pins.invariant in let v = c.args.seat.now.view in let routes = pins_by_call c.args.call.now in
     (returns-on known k routes v c.pins.seat.view c.perform-seen.new.seat.view c.pins.call c.next-action-in-Step.new.self c.next-action-in-Step.result c.in-Step.step c.perform-seen.result
-    (subst (λ (a : Action). Returning k routes v c.pins.seat.view c.pins.call a) c.in-Step.is inv.returning) c.perform-seen.ensures.made c.next-action-in-Step.ensures.goes).1
+    (subst (λ (a : Action). Returning k routes v c.pins.seat.view c.pins.call a) c.in-Step.is inv.returning) c.perform-seen.ensures.made (c.next-action-in-Step.ensures.goes _ refl)).1
 
 pub pins-preserved : goal.pins-preserved
 pins-preserved g c =
@@ -35,7 +35,7 @@ pins-preserved g c =
       seat = still_seat c.args.words.now _ _ inv.seat c.perform-seen.ensures.seat;
       same = same_seat-then c.args.seat.now c.pins.seat c.perform-seen.new.seat inv.same c.perform-seen.ensures.seat;
       returning = (returns-on known k routes v c.pins.seat.view c.perform-seen.new.seat.view c.pins.call c.next-action-in-Step.new.self c.next-action-in-Step.result c.in-Step.step c.perform-seen.result
-          (subst (λ (a : Action). Returning k routes v c.pins.seat.view c.pins.call a) c.in-Step.is inv.returning) c.perform-seen.ensures.made c.next-action-in-Step.ensures.goes).0;
+          (subst (λ (a : Action). Returning k routes v c.pins.seat.view c.pins.call a) c.in-Step.is inv.returning) c.perform-seen.ensures.made (c.next-action-in-Step.ensures.goes _ refl)).0;
     }
 
 pub returns-clause-gives : goal.returns-clause-gives

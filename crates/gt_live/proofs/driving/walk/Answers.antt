@@ -1,4 +1,4 @@
-use Rattle.std.proofs.Common.{◌∙◌, ap, sym, subst}
+use Rattle.std.proofs.Common.{refl, ◌∙◌, ap, sym, subst}
 use Rattle.gt_types.specs.declared.DomId.{DomId}
 use Rattle.gt_calls.specs.declared.action.Action.{Action}
 use Rattle.gt_calls.specs.declared.action.Action.TheVariants.{Step as Makes}
@@ -18,7 +18,7 @@ steps-init g c =
       same = same_seat-self c.args.seat.now;
       caller = e.caller;
       request = e.request;
-      going = starts known k c.args.seat.now.view c.args.call.now c.next-action.new.self c.next-action.result c.requires.copies.0 c.requires.knows c.requires.fresh c.requires.copies.1 e.caller e.request e.goes;
+      going = starts known k c.args.seat.now.view c.args.call.now c.next-action.new.self c.next-action.result c.requires.copies.0 c.requires.knows c.requires.fresh c.requires.copies.1 e.caller e.request (e.goes _ refl);
     }
 
 pub returns-in-Done-clause-stops : goal.returns-in-Done-clause-stops
@@ -46,7 +46,7 @@ steps-smaller g c =
     let known = knows g.P.Allows.may c.args.known.now in let k = c.args.words.now.layout in let inv = c.steps.invariant in let e = c.next-action-in-Step.ensures in let v = c.args.seat.now.view in
     (goes-on known k v c.steps.seat.view c.perform-seen.new.seat.view c.steps.call c.next-action-in-Step.new.self c.next-action-in-Step.result c.in-Step.step c.perform-seen.result
     (subst (λ (d : DomId). Knows known k d v) (sym inv.caller) c.requires.knows) (subst (λ (a : Action). Underway known k v c.steps.seat.view c.steps.call a) c.in-Step.is inv.going)
-    c.perform-seen.ensures.made e.caller e.request e.goes).1
+    c.perform-seen.ensures.made e.caller e.request (e.goes _ refl)).1
 
 pub steps-preserved : goal.steps-preserved
 steps-preserved g c =
@@ -58,5 +58,5 @@ steps-preserved g c =
       request = e.request ∙ inv.request;
       going = (goes-on known k v c.steps.seat.view c.perform-seen.new.seat.view c.steps.call c.next-action-in-Step.new.self c.next-action-in-Step.result c.in-Step.step c.perform-seen.result
           (subst (λ (d : DomId). Knows known k d v) (sym inv.caller) c.requires.knows) (subst (λ (a : Action). Underway known k v c.steps.seat.view c.steps.call a) c.in-Step.is inv.going)
-          c.perform-seen.ensures.made e.caller e.request e.goes).0;
+          c.perform-seen.ensures.made e.caller e.request (e.goes _ refl)).0;
     }
