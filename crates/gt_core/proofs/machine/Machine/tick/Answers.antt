@@ -71,7 +71,7 @@ settle-answer-requires-clause-room g c = let s = setting_by g.P.Allows.may c.arg
     let seen = c.in_ok-seen.seen in let new = c.advance-action.result.0 in let action = c.advance-action.result.1 in
     room-asked s c.requires.0 xs c.args.dom at x o seen new action c.requires.1.legal c.requires.1.domains
     (begins-after s c.requires.0 xs c.perform.new.self.domains.items c.args.self.now.frames c.args.dom at x o seen new action c.requires.1 p c.index.ensures (sym c.underway.ensures ∙ c.in-Some-underway.is)
-    c.in_ok-seen.ensures.sees c.in_ok-seen.ensures.applied c.advance-action.ensures.caller c.advance-action.ensures.request 
+    c.in_ok-seen.ensures.sees c.in_ok-seen.ensures.applied c.advance-action.ensures.caller c.advance-action.ensures.request
     (λ d there k alike. c.advance-action.ensures.goes d there k
     (subst (λ (z : CallerKnowledge). IsLeftAlike k z o.call seen) (sym (known-still g.P.Allows.may c.args.self.now c.perform.new.self c.in_ok-seen.ensures.config c.in_ok-seen.ensures.rights d)) alike)))
 
@@ -83,9 +83,9 @@ returns-clause-stands g c = let s = setting_by g.P.Allows.may c.args.self.now in
     let ws = c.perform.new.self.domains.items in let applied = c.in_ok-seen.ensures.applied in
     tick-does s c.args.self.now.frames c.perform.new.self.frames c.settle-answer.new.self.frames xs c.settle-answer.new.self.domains.items c.args.dom at x o seen new action c.settle-answer.result c.told.result c.told.ensures
     (begins-after s c.requires.0 xs ws c.args.self.now.frames c.args.dom at x o seen new action c.requires.1 p c.index.ensures (sym c.underway.ensures ∙ c.in-Some-underway.is)
-    c.in_ok-seen.ensures.sees applied c.advance-action.ensures.caller c.advance-action.ensures.request 
+    c.in_ok-seen.ensures.sees applied c.advance-action.ensures.caller c.advance-action.ensures.request
     (λ d there k alike. c.advance-action.ensures.goes d there k
     (subst (λ (z : CallerKnowledge). IsLeftAlike k z o.call seen) (sym (known-still g.P.Allows.may c.args.self.now c.perform.new.self c.in_ok-seen.ensures.config c.in_ok-seen.ensures.rights d)) alike)))
-    (c.in_ok-seen.ensures.accessed x (place-at xs c.args.dom.0 at x p c.index.ensures)) 
+    (c.in_ok-seen.ensures.accessed x (place-at xs c.args.dom.0 at x p c.index.ensures))
     (λ d there. subst (λ (l : List State). Settled c.perform.new.self.frames l at d o.step new action c.settle-answer.result c.settle-answer.new.self.domains.items) applied
     (c.settle-answer.ensures.settles d (ap (λ (l : List State). slice_get l at) applied ∙ there))) c.settle-answer.ensures.frames
