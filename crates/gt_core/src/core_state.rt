@@ -34,7 +34,7 @@ impl<P: Allows> Model for Core<P> {
 }
 
 /// What `begin` did.
-#[derive(Debug, Drop)]
+#[derive(Drop)]
 pub enum Begun {
     Open,
     Done(Answer),
@@ -43,7 +43,7 @@ pub enum Begun {
 }
 
 /// What `tick` did.
-#[derive(Debug, Drop)]
+#[derive(Drop)]
 pub enum Ticked {
     Step(Step, Seen),
     Done(Step, Seen, Answer),
@@ -52,7 +52,7 @@ pub enum Ticked {
 }
 
 /// What an entry shows.
-#[derive(Clone, Copy, Debug, PartialEq, Eq)]
+#[derive(Clone, Copy, PartialEq, Eq)]
 pub struct Shown {
     pub entry: Entry,
     pub generation: u32,
