@@ -181,16 +181,12 @@ fn one_event<'a, P: Allows>(
     ensures config { core.new.config ≡ core.old.config }
     ensures rights { core.new.rights ≡ core.old.rights }
 {
-    match event {
-        Event::Begin(actor, request) => {
-            let begun = core.begin(actor, request)?;
-            Ok(trace.push(begun_element(actor, request, begun))?)
-        }
-        Event::Tick(actor) => {
-            let ticked = core.tick(actor)?;
-            Ok(trace.push(ticked_element(actor, ticked))?)
-        }
-    }
+    let element = match event {
+        Event::Begin(actor, request) => begun_element(actor, request, core.begin(actor, request)?),
+        Event::Tick(actor) => ticked_element(actor, core.tick(actor)?),
+    };
+    trace.push(element)?;
+    Ok(())
 }
 
 /// Plays the events on a new core: one element for each, in order.
