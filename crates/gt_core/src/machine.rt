@@ -271,7 +271,9 @@ impl<P: Allows> Machine<P> {
         ensures { (h : History) → DomainsStand (setting_by P.may self.now) h self.now.domains.items →
             result ≡ shown_at (setting_by P.may self.now) h dom gref.0 }
     {
-        let at = find(&self.domains, dom)?;
+        let Some(at) = find(&self.domains, dom) else {
+            return None;
+        };
         let domain = &self.domains[at];
         if gref.0 >= domain.header.entries() {
             return None;

@@ -25,7 +25,9 @@ impl<P: Allows> Machine<P> {
         ensures { (h : History) → DomainsStand (setting_by P.may self.now) h self.now.domains.items →
             result ≡ subject_at (setting_by P.may self.now) h dom handle }
     {
-        let at = find(&self.domains, dom)?;
+        let Some(at) = find(&self.domains, dom) else {
+            return None;
+        };
         let held = self.domains[at].mapping(handle)?;
         Some((held.dom, held.gref))
     }
