@@ -1,10 +1,8 @@
 //! The core: a machine over events.
-ghost use Rattle.std.specs.Prelude.{◌≡◌, [], ◌∷◌, ◌++◌, IfOk, IfErr, OnErr, OnOk, IsOk};
+ghost use Rattle.std.specs.Prelude.{◌≡◌, [], IfOk, IfErr, OnErr, IsOk};
 ghost use Rattle.gt_types.specs.Config.{IsWithinLimits};
 ghost use Rattle.gt_core.specs.Legal.{Legal};
 ghost use Rattle.gt_core.specs.Standing.{Does, IsStartFaultOf, setting_in, setting_of};
-ghost use Rattle.gt_core.specs.Standing.{begun_element, ticked_element};
-ghost use Rattle.gt_core.specs.declared.trace.Element.{Element};
 
 use crate::machine::Machine;
 use crate::trace::{Answer, Element, Event, Happened, Item, Trace};
@@ -129,64 +127,42 @@ impl<P: Allows> Core<P> {
     }
 }
 
-// What the trace has for what `begin` did.
-fn begun_element<'a>(actor: DomId, request: Request<'a>, begun: Begun) -> Element<'a>
-    ensures { result ≡ begun_element actor request.entry begun }
-{
-    match begun {
-        Begun::Open => Element::Item(Item {
-            actor,
-            happened: Happened::Began(request),
-            answer: None,
-        }),
-        Begun::Done(answer) => Element::Item(Item {
-            actor,
-            happened: Happened::Began(request),
-            answer: Some(answer),
-        }),
-        Begun::Busy => Element::Busy,
-        Begun::NoDomain => Element::NoDomain,
-    }
-}
-
-// What the trace has for what `tick` did.
-fn ticked_element<'a>(actor: DomId, ticked: Ticked) -> Element<'a>
-    ensures { result ≡ ticked_element actor ticked }
-{
-    match ticked {
-        Ticked::Step(step, seen) => Element::Item(Item {
-            actor,
-            happened: Happened::Stepped(step, seen),
-            answer: None,
-        }),
-        Ticked::Done(step, seen, answer) => Element::Item(Item {
-            actor,
-            happened: Happened::Stepped(step, seen),
-            answer: Some(answer),
-        }),
-        Ticked::Idle => Element::Idle,
-        Ticked::NoDomain => Element::NoDomain,
-    }
-}
-
-// What the event did comes to the trace.
-fn one_event<'a, P: Allows>(
-    core: &mut Core<P>,
-    trace: &mut Trace<'a>,
-    event: Event<'a>,
-) -> Result<(), Memory>
-    ensures stands { OnOk result ((x : Element) ×
-        Does (setting_in P.may core.old) core.old.state event.entry x core.new.state ×
-        (trace.new.items ≡ trace.old.items ++ x ∷ [])) }
+fn one_event<'a, P: Allows>(core: &mut Core<P>, event: Event<'a>) -> Result<Element<'a>, Memory>
+    ensures stands { IfOk result (λ x. Does (setting_in P.may core.old) core.old.state
+        event.entry x core.new.state) }
     ensures config { core.new.config ≡ core.old.config }
     ensures rights { core.new.rights ≡ core.old.rights }
 {
-    let element = match event {
-        Event::Begin(actor, request) => begun_element(actor, request, core.begin(actor, request)?),
-        Event::Tick(actor) => ticked_element(actor, core.tick(actor)?),
-    };
-    trace.push(element)?;
-    Ok(())
+    match event {
+        Event::Begin(actor, request) => Ok(match core.begin(actor, request)? {
+            Begun::Open => Element::Item(Item {
+                actor,
+                happened: Happened::Began(request),
+                answer: None,
+            }),
+            Begun::Done(answer) => Element::Item(Item {
+                actor,
+                happened: Happened::Began(request),
+                answer: Some(answer),
+            }),
+            Begun::Busy => Element::Busy,
+            Begun::NoDomain => Element::NoDomain,
+        }),
+        Event::Tick(actor) => Ok(match core.tick(actor)? {
+            Ticked::Step(step, seen) => Element::Item(Item {
+                actor,
+                happened: Happened::Stepped(step, seen),
+                answer: None,
+            }),
+            Ticked::Done(step, seen, answer) => Element::Item(Item {
+                actor,
+                happened: Happened::Stepped(step, seen),
+                answer: Some(answer),
+            }),
+            Ticked::Idle => Element::Idle,
+            Ticked::NoDomain => Element::NoDomain,
+        }),
+    }
 }
 
 /// Plays the events on a new core: one element for each, in order.
@@ -207,7 +183,7 @@ pub fn play<'a, P: Allows + Drop>(
     let mut core = Core::new(alloc, config, rights)?;
     let mut trace = Vec::new(alloc);
     for next in events {
-        one_event(&mut core, &mut trace, *next)?;
+        trace.push(one_event(&mut core, *next)?)?;
     }
     Ok(trace)
 }
