@@ -1,5 +1,5 @@
 -- How a call that nothing stood against is over, and what a step leaves of the states.
-use Rattle.gt_core.proofs.Words.{◌≡◌, ◌++◌, ℕ, refl, List, length, take, drop, ap, ◌∙◌, arith, append-nil, take_all, drop_all, DomId, Step, PinStep, Unpin, StoreBody, StoreHeader, Exchange, Seen, Taken, Unpinned, Stored, State, changed_in, applied, with_slot, with_own, with_header, without_mapping, take_more, map-append, ◌<◌, ◌+◌, ◌%◌, map, get_or, [], ◌∷◌, Some, None, sym, set, replicate, min, HandleMap, DomainConfig, Invalid, ENTRIES, LAST_GENERATION, Own, Held, PinCounts, Asked, Load, Peek, ReadBytes, first_state, IsLoading, with_underway, AnswerDone, Closed, IsLoadOf, FrameSet}
+use Rattle.gt_core.proofs.Words.{◌≡◌, ◌++◌, ℕ, refl, List, length, take, drop, ap, ◌∙◌, arith, append-nil, take_all, drop_all, DomId, Step, PinStep, Unpin, StoreBody, StoreHeader, Exchange, Seen, Taken, Unpinned, Stored, State, changed_in, applied, with_slot, with_own, with_header, without_mapping, take_more, map-append, ◌<◌, ◌+◌, ◌%◌, map, get_or, [], ◌∷◌, Some, None, sym, set, replicate, min, HandleMap, DomainConfig, Invalid, ENTRIES, LAST_GENERATION, Own, Held, PinCounts, Asked, Load, Peek, ReadBytes, first_state, IsLoading, with_underway, AnswerDone, Closed, IsLoadOf, FrameSet, Answer, Call, Ends, Verdict, Granted, KeptPin, Given, Refused, answer_of, Settled}
 use Rattle.gt_core.{specs.declared.pin_counts.CountsChange.TheVariants.Pinned, proofs.Rows.length-changed_in}
 
 pub length-applied : (d : DomId) (step : Step) (seen : Seen) (xs : List State) → length (applied d step seen xs) ≡ length xs
@@ -44,3 +44,12 @@ pub closed-plain : (fs : FrameSet) (xs new : List State) (at : ℕ) (d : State) 
     → new ≡ set xs at (with_underway None d) → Closed fs xs at d step AnswerDone new
 closed-plain fs xs new at d (ReadBytes dom frame off len) r e = absurd (r dom frame off len refl)
 closed-plain fs xs new at d step r e = (refl, e)
+
+-- a call that gives no bytes and no mapping is over
+pub ended-plain : (fs : FrameSet) (xs new : List State) (at : ℕ) (d : State) (step : Step) (call : Call) (v : Verdict) (a : Answer)
+    → (v ≡ Granted → ⊥) → ((p : Held) → v ≡ KeptPin p → ⊥) → a ≡ answer_of v
+    → new ≡ set xs at (with_underway None d) → Settled fs xs at d step call (Ends v) (Some a) new
+ended-plain fs xs new at d step call Granted a r k e after = absurd (r refl)
+ended-plain fs xs new at d step call (KeptPin p) a r k e after = absurd (k p refl)
+ended-plain fs xs new at d step call (Given value) a r k e after = (a, refl, (e, after))
+ended-plain fs xs new at d step call (Refused denial) a r k e after = (a, refl, (e, after))

@@ -254,13 +254,9 @@ impl<P: Allows> Machine<P> {
             Action::Done(verdict) => match verdict {
                 Verdict::Granted => Some(self.close(at, last)),
                 Verdict::Mapped(held) => Some(Answer::Mapped(self.domains[at].add_mapping(held))),
-                Verdict::Given(value) => {
+                _ => {
                     self.domains[at].close();
-                    Some(answer_with(value))
-                }
-                Verdict::Refused(denial) => {
-                    self.domains[at].close();
-                    Some(Answer::Denied(denial))
+                    Some(answer_of(verdict))
                 }
             },
         }

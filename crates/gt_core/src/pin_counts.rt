@@ -7,7 +7,7 @@ use gt_types::{Dir, MAX_PINS};
 use std::marker::Model;
 
 /// The pins and body words of an entry.
-#[derive(Clone, Copy, Debug, PartialEq, Eq)]
+#[derive(Clone, Copy)]
 pub struct PinCounts {
     reads: u16,
     writes: u16,
@@ -30,7 +30,7 @@ impl Model for PinCounts {
 }
 
 /// What a step does to the pins and body words of an entry.
-#[derive(Clone, Copy, Debug, PartialEq, Eq)]
+#[derive(Clone, Copy)]
 pub enum CountsChange {
     Pinned(Dir),
     Unpinned(Dir),

@@ -94,12 +94,8 @@ impl DomainState {
     pub fn new(alloc: Global, domain: DomainConfig, first_gen: u32) -> Result<DomainState, Memory>
         ensures { IfOk result (λ d. d ≡ first_state first_gen domain) }
     {
-        let mut own = Vec::with_capacity(alloc, ENTRIES)?;
-        let mut slots = Vec::with_capacity(alloc, ENTRIES)?;
-        'entries: for _ in 0..ENTRIES {
-            own.push(Own::new(first_gen.min(LAST_GENERATION)))?;
-            slots.push(PinCounts::new())?;
-        }
+        let own = vec![in alloc; Own::new(first_gen.min(LAST_GENERATION)); ENTRIES]?;
+        let slots = vec![in alloc; PinCounts::new(); ENTRIES]?;
         Ok(DomainState {
             id: domain.id,
             header: table_header(domain.version, domain.table_frames),
@@ -210,14 +206,16 @@ impl DomainState {
     pub fn shown(&self, gref: GrantRef) -> Option<Shown>
         ensures { result ≡ shown_in (slice_get self.now.own gref.0) (slice_get self.now.slots gref.0) }
     {
-        let own = *self.own.get(gref.0 as usize)?;
-        let slot = *self.slots.get(gref.0 as usize)?;
-        Some(Shown {
-            entry: own.entry(),
-            generation: own.generation(),
-            reads: slot.reads(),
-            writes: slot.writes(),
-        })
+        let at = gref.0 as usize;
+        match (self.own.get(at), self.slots.get(at)) {
+            (Some(own), Some(slot)) => Some(Shown {
+                entry: own.entry(),
+                generation: own.generation(),
+                reads: slot.reads(),
+                writes: slot.writes(),
+            }),
+            _ => None,
+        }
     }
 
     /// Changes the pins or a body word of an entry.

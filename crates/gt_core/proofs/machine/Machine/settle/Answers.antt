@@ -1,4 +1,4 @@
-use Rattle.gt_core.proofs.Words.{◌≡◌, length, Some, None, refl, sym, ap, ◌∙◌, subst, set, same_Some, slice_get_read, HandleMap, Held, Action, Done, Verdict, Denied, Mapped, State, Adds, with_underway, with_mapping, Settled}
+use Rattle.gt_core.proofs.{Words.◌≡◌, Words.length, Words.Some, Words.None, Words.refl, Words.sym, Words.ap, Words.◌∙◌, Words.subst, Words.set, Words.same_Some, Words.slice_get_read, Words.HandleMap, Words.Held, Words.Action, Words.Done, Words.Verdict, Words.Mapped, Words.Option, Words.Open, Words.State, Words.Adds, Words.with_underway, Words.with_mapping, Words.Settled, Settling.ended-plain}
 use Rattle.gt_core.proofs.machine.Machine.settle.Goals as goal
 
 pub returns-in-Mapped-clause-settles : goal.returns-in-Mapped-clause-settles
@@ -11,16 +11,22 @@ returns-in-Mapped-clause-settles g c = λ d here. let xs = c.args.self.now.domai
     subst (λ (z : Action). Settled c.args.self.now.frames xs at d c.args.last.step c.args.call z (Some (Mapped handle)) (set xs at c.add_mapping.new.self)) (sym (c.in-Done.is ∙ ap (λ (v : Verdict). Done v) c.in-Mapped.is))
     (Mapped handle, refl, (handle, kept, refl, adds, after))
 
-pub returns-in-Given-clause-settles : goal.returns-in-Given-clause-settles
-returns-in-Given-clause-settles g c = λ d here. let xs = c.args.self.now.domains.items in let at = c.args.at in
-    let y = c.index_mut-in-Given.result.now in
-    let same : y ≡ d = same_Some _ _ (sym (slice_get_read xs (length xs) at y refl c.requires.there c.index_mut-in-Given.ensures.value) ∙ here) in
-    subst (λ (z : Action). Settled c.args.self.now.frames xs at d c.args.last.step c.args.call z (Some c.answer_with.result) (set xs at c.close-in-Given.new.self)) (sym (c.in-Done.is ∙ ap (λ (v : Verdict). Done v) c.in-Given.is))
-    (c.answer_with.result, refl, (c.answer_with.ensures, ap (λ (z : State). set xs at z) (c.close-in-Given.ensures ∙ ap (with_underway None) same)))
+pub returns-in_default-clause-settles : goal.returns-in_default-clause-settles
+returns-in_default-clause-settles g c = λ d here. let xs = c.args.self.now.domains.items in let at = c.args.at in
+    let y = c.index_mut-in_default.result.now in let new = set xs at c.close-in_default.new.self in
+    let same : y ≡ d = same_Some _ _ (sym (slice_get_read xs (length xs) at y refl c.requires.there c.index_mut-in_default.ensures.value) ∙ here) in
+    subst (λ (z : Action). Settled c.args.self.now.frames xs at d c.args.last.step c.args.call z (Some c.answer_of.result) new) (sym c.in-Done.is)
+    (ended-plain c.args.self.now.frames xs new at d c.args.last.step c.args.call c.in-Done.verdict c.answer_of.result c.in_default.not-Granted c.in_default.not-Mapped c.answer_of.ensures
+    (ap (λ (z : State). set xs at z) (c.close-in_default.ensures ∙ ap (with_underway None) same)))
 
-pub returns-in-Refused-clause-settles : goal.returns-in-Refused-clause-settles
-returns-in-Refused-clause-settles g c = λ d here. let xs = c.args.self.now.domains.items in let at = c.args.at in
-    let y = c.index_mut-in-Refused.result.now in
-    let same : y ≡ d = same_Some _ _ (sym (slice_get_read xs (length xs) at y refl c.requires.there c.index_mut-in-Refused.ensures.value) ∙ here) in
-    subst (λ (z : Action). Settled c.args.self.now.frames xs at d c.args.last.step c.args.call z (Some (Denied c.in-Refused.denial)) (set xs at c.close-in-Refused.new.self)) (sym (c.in-Done.is ∙ ap (λ (v : Verdict). Done v) c.in-Refused.is))
-    (Denied c.in-Refused.denial, refl, (refl, ap (λ (z : State). set xs at z) (c.close-in-Refused.ensures ∙ ap (with_underway None) same)))
+pub returns-in-Step-clause-settles : goal.returns-in-Step-clause-settles
+returns-in-Step-clause-settles g c = λ d here. let xs = c.args.self.now.domains.items in let at = c.args.at in
+    let y = c.index_mut.result.now in let o : Option Open = Some (record { call = c.args.call; step = c.in-Step.step }) in
+    let same : y ≡ d = same_Some _ _ (sym (slice_get_read xs (length xs) at y refl c.requires.there c.index_mut.ensures.value) ∙ here) in
+    subst (λ (z : Action). Settled c.args.self.now.frames xs at d c.args.last.step c.args.call z None (set xs at c.go_on.new.self)) (sym c.in-Step.is)
+    (refl, ap (λ (z : State). set xs at z) (c.go_on.ensures ∙ ap (with_underway o) same))
+
+pub returns-in-Granted-clause-settles : goal.returns-in-Granted-clause-settles
+returns-in-Granted-clause-settles g c = λ d here.
+    subst (λ (z : Action). Settled c.args.self.now.frames c.args.self.now.domains.items c.args.at d c.args.last.step c.args.call z (Some c.close.result) c.close.new.self.domains.items)
+    (sym (c.in-Done.is ∙ ap (λ (v : Verdict). Done v) c.in-Granted.is)) (c.close.result, refl, c.close.ensures.settles d here)

@@ -1,9 +1,11 @@
-use Rattle.gt_core.proofs.{Words.HandleMap, Words.Held, Words.◌≡◌, Words.None, Words.subst, Words.sym, Words.ap, Words.arith, Words.Header, Words.State, Words.first_state, Words.ENTRIES, Settling.at-rest}
+use Rattle.gt_core.proofs.{Words.HandleMap, Words.Held, Words.◌≡◌, Words.◌∙◌, Words.ℕ, Words.None, Words.Invalid, Words.replicate, Words.refl, Words.subst, Words.sym, Words.ap, Words.Header, Words.Own, Words.PinCounts, Words.State, Words.first_state, Words.ENTRIES, Settling.at-rest}
 use Rattle.gt_core.proofs.state.DomainState.new.Goals as goal
 
 pub returns : goal.returns
-returns c = let n : c.entries.counter ≡ ENTRIES = omega arith in
+returns c =
     let first : State = first_state c.args.first_gen c.args.domain in
-    subst (λ (x : Header). ◌≡◌ {A = State} (record { id = c.args.domain.id; header = x; own = c.entries.own.items; slots = c.entries.slots.items; mappings = record c.new-2.result { room = 0 }; underway = None; given = c.new-3.result.items }) first) (sym c.table_header.ensures)
-    (at-rest c.args.domain c.args.first_gen c.entries.counter c.entries.own.items c.entries.slots.items (record c.new-2.result { room = 0 }) c.new-3.result.items
-    n c.entries.invariant.own c.entries.invariant.slots (ap (λ (k : HandleMap Held). record k { room = 0 }) c.new-2.ensures) c.new-3.ensures.items)
+    subst (λ (x : Header). ◌≡◌ {A = State} (record { id = c.args.domain.id; header = x; own = c.in_ok-own.own.items; slots = c.in_ok-slots.slots.items; mappings = record c.new-3.result { room = 0 }; underway = None; given = c.new-4.result.items }) first) (sym c.table_header.ensures)
+    (at-rest c.args.domain c.args.first_gen ENTRIES c.in_ok-own.own.items c.in_ok-slots.slots.items (record c.new-3.result { room = 0 }) c.new-4.result.items refl
+    (c.in_ok-own.ensures.items_if_clones_equal (λ y e. e) ∙ ap (λ (x : Own). replicate ENTRIES x) (c.new.ensures ∙ ap (λ (n : ℕ). record { entry = Invalid; generation = n }) c.min.ensures))
+    (c.in_ok-slots.ensures.items_if_clones_equal (λ y e. e) ∙ ap (λ (x : PinCounts). replicate ENTRIES x) c.new-2.ensures)
+    (ap (λ (k : HandleMap Held). record k { room = 0 }) c.new-3.ensures) c.new-4.ensures.items)
