@@ -1,5 +1,5 @@
--- How a call that nothing stood against is over, and what a step leaves of the states.
-use Rattle.gt_core.proofs.Words.{◌≡◌, ◌++◌, ℕ, refl, List, length, take, drop, ap, ◌∙◌, arith, append-nil, take_all, drop_all, DomId, Step, PinStep, Unpin, StoreBody, StoreHeader, Exchange, Seen, Taken, Unpinned, Stored, State, changed_in, applied, with_slot, with_own, with_header, without_mapping, take_more, map-append, ◌<◌, ◌+◌, ◌%◌, map, get_or, [], ◌∷◌, Some, None, sym, set, replicate, min, HandleMap, DomainConfig, Invalid, ENTRIES, LAST_GENERATION, Own, Held, PinCounts, Asked, Load, Peek, ReadBytes, first_state, IsLoading, with_underway, AnswerDone, Closed, IsLoadOf, FrameSet, Answer, Call, Ends, Verdict, Granted, KeptPin, Given, Refused, answer_of, Settled}
+-- How a call that nothing stood against is over, and how long the states are after a step.
+use Rattle.gt_core.proofs.Words.{◌≡◌, ◌++◌, ℕ, refl, List, length, take, ap, ◌∙◌, DomId, Step, PinStep, Unpin, StoreBody, StoreHeader, Exchange, Seen, Taken, Unpinned, Stored, State, changed_in, applied, with_slot, with_own, with_header, without_mapping, take_more, map-append, ◌<◌, ◌+◌, ◌%◌, map, get_or, [], ◌∷◌, Some, None, sym, set, replicate, min, HandleMap, DomainConfig, Invalid, ENTRIES, LAST_GENERATION, Own, Held, PinCounts, Asked, Load, Peek, ReadBytes, first_state, IsLoading, with_underway, AnswerDone, Closed, IsLoadOf, FrameSet, Answer, Call, Ends, Verdict, Granted, KeptPin, Given, Refused, answer_of, Settled}
 use Rattle.gt_core.{specs.declared.pin_counts.CountsChange.TheVariants.Pinned, proofs.Rows.length-changed_in}
 
 pub length-applied : (d : DomId) (step : Step) (seen : Seen) (xs : List State) → length (applied d step seen xs) ≡ length xs
@@ -10,13 +10,6 @@ length-applied d (Unpin p holder) seen xs =
 length-applied d (StoreBody gref half word) seen xs = length-changed_in xs d.0 (with_slot gref.0 (Stored half word))
 length-applied d (StoreHeader version frames) seen xs = length-changed_in xs d.0 (with_header version frames)
 length-applied d step seen xs = refl
-
--- what a call of a slice leaves of a vector
-pub slice-after : (n : ℕ) (d : DomId) (step : Step) (seen : Seen) (xs ys zs : List State) → length xs ≡ n → ys ≡ xs → zs ≡ applied d step seen ys → take n (zs ++ drop (length zs) xs) ≡ applied d step seen xs
-slice-after n d step seen xs ys zs len same new =
-    let e : zs ≡ applied d step seen xs = new ∙ ap (applied d step seen) same in
-    let l : length zs ≡ n = ap (λ (y : List State). length y) e ∙ length-applied d step seen xs ∙ len in
-    ap (λ (k : List State). take n (zs ++ k)) (drop_all (length zs) xs (omega arith)) ∙ ap (λ (k : List State). take n k) (append-nil zs) ∙ take_all n zs (omega arith) ∙ e
 
 -- the room of a load is as long as what it asks
 pub loaded : (r : Asked) (m n : ℕ) → IsLoading (Some r) m → IsLoadOf r n → m ≡ n

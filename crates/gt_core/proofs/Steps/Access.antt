@@ -1,5 +1,5 @@
 -- What an access to bytes rests on: it is inside a frame, and justified.
-use Rattle.gt_core.proofs.Words.{◌≡◌, ◌≢◌, ◌≤◌, ◌<◌, ◌+◌, ◌⊎◌, inl, inr, ℕ, suc, refl, Bool, true, List, [], ◌∷◌, Some, None, sym, ap, ◌∙◌, arith, subst, reverse, eqb-true, none-some, same_Some, Any, resolved, DomId, TypeId, Dir, Read, Write, ForMap, ForCopy, Perms, Triple, FRAME_SIZE, Entry, frame_of, permits, forwards, Handle, Held, Route, Direct, Through, Pins, End, Asked, Load, Store, Peek, Poke, Copy, Holder, ByMapping, Place, ReadBytes, WriteBytes, last_first, CallerKnowledge, begun, frames_of, via_judged, denied, rights_to_copy, is_source_granted, is_dest_granted, source_pair, dest_pair, opens, RestsOnRequest, RestsOnWays, IsReached, LeadsTo, State, History, Setting, Pin, live, known_at, legs_at, mappings_at, mapping_of, gather, by_mapping, by_leg, same_handle, IsInFrame, CopyIsJustified, Justified, IsLawful, IsLawfullyHeld, DomainsStand, numbered, owner_by, IsAllowed, IsMapped, IsPermitted, Reaches, Forwards, MayCopy, MayUseMapping, MayAsk, EndIsJustified, cond_both}
+use Rattle.gt_core.proofs.Words.{◌≡◌, ◌≢◌, ◌≤◌, ◌<◌, ◌+◌, ◌⊎◌, inl, inr, ℕ, suc, refl, Bool, true, List, [], ◌∷◌, Some, None, sym, ap, ◌∙◌, arith, subst, reverse, eqb-true, none-some, same_Some, Any, resolved, DomId, Dir, Read, Write, ForMap, ForCopy, FRAME_SIZE, Entry, frame_of, permits, forwards, Handle, Held, Route, Direct, Through, Pins, End, Asked, Load, Store, Peek, Poke, Copy, Holder, ByMapping, Place, ReadBytes, WriteBytes, last_first, CallerKnowledge, begun, frames_of, via_judged, rights_to_copy, is_source_granted, is_dest_granted, source_pair, dest_pair, opens, RestsOnRequest, RestsOnWays, IsReached, LeadsTo, State, History, Setting, Pin, live, known_at, legs_at, mappings_at, mapping_of, gather, by_mapping, by_leg, same_handle, IsInFrame, CopyIsJustified, Justified, IsLawful, IsLawfullyHeld, DomainsStand, numbered, owner_by, IsAllowed, IsMapped, IsPermitted, Reaches, Forwards, MayCopy, MayUseMapping, MayAsk, EndIsJustified, cond_both}
 use Rattle.gt_core.proofs.{Phases.none-of, Steps.Observers.IsKeyed, Steps.Observers.mapping-keyed, Steps.Observers.leg-keyed}
 use Rattle.gt_calls.specs.{declared.held.Route.TheVariants.Own, Path.place_of}
 use Rattle.gt_core.{specs.Legal.AccessIsJustified, specs.Standing.LetsUse}
@@ -116,11 +116,6 @@ IsOwnPin d m p = (p.actor ≡ d.0) × (p.held ≡ m)
 
 leg-pin : (h : History) (d : DomId) (m : Held) → IsHeldIn m (legs_at h d.0) → Any (IsOwnPin d m) (live h)
 leg-pin h d m a = any-map (IsBy leg-keyed d.0 m) (IsOwnPin d m) (live h) (λ p b. (b.0, b.1)) (gathered-any by_leg leg-keyed d.0 m (live h) a)
-
--- the policy allows what is not denied
-allowed : (may : TypeId → TypeId → Perms → Bool) (ts : List Triple) → denied may ts ≡ None → IsAllowed may ts
-allowed may [] e = tt
-allowed may (t ∷ ts) e = grind (arith, allowed may ts)
 
 via-may : (k : CallerKnowledge) (pair : DomId × DomId) (dom : DomId) → via_judged k pair dom ≡ None → IsAllowed k.may (rights_to_copy k pair.0 pair.1)
 via-may k pair dom e = grind arith
