@@ -1,6 +1,6 @@
 -- A call goes on from the states as its step left them: it comes to the same as from those before it, and what it leaves
 -- is what the step would leave after it.
-use Rattle.gt_core.proofs.Words.{◌≡◌, ◌==◌, ℕ, zero, suc, refl, Bool, List, [], ◌∷◌, length, Option, Some, None, cond, ltb, sym, ap, ◌∙◌, subst, arith, same_Some, slice_get, get_or, set, position, position_or_len, DomId, DomainConfig, TypeId, Perms, Own, Header, HandleMap, Held, Entry, Via, CopyArgs, Route, Seen, Taken, Granted, Given, KeptPin, Refused, Step, PinStep, Unpin, StoreBody, StoreHeader, Exchange, ReadBytes, Action, Makes, Done, Call, Phase, Storing, StoringSecond, Walking, Aim, Mapping, Source, Dest, Leg, LegNext, Going, LegRefused, Pinned, CallerKnowledge, knowledge_of, phase_after, after_leg, after_source_pin, after_dest_pin, leg_after, action_at, Open, Answer, State, changed_in, applied, with_slot, with_own, with_header, without_mapping, with_underway, with_mapping, Settled, Closed, FrameSet, Adds, History, Setting, Underway, OpenAgrees, Unpinned, Stored, Holder, ByMapping, ByLeg, GrantRef, Half, FirstHalf, SecondHalf, first_body, second_body, AnswerDone, cond_both, position-Some, slice_get-get_or}
+use Rattle.gt_core.proofs.Words.{◌≡◌, ◌<◌, ◌==◌, ℕ, zero, suc, refl, Bool, List, [], ◌∷◌, length, Option, Some, None, cond, ltb, sym, ap, ◌∙◌, subst, arith, same_Some, slice_get, get_or, set, position, position_or_len, DomId, DomainConfig, TypeId, Perms, Own, Header, HandleMap, Held, Entry, Via, CopyArgs, Route, Seen, Taken, Granted, Given, KeptPin, Refused, Step, PinStep, Unpin, StoreBody, StoreHeader, Exchange, ReadBytes, Action, Makes, Done, Call, Phase, Storing, StoringSecond, Walking, Aim, Mapping, Source, Dest, Leg, LegNext, Going, LegRefused, Pinned, CallerKnowledge, knowledge_of, phase_after, after_leg, after_source_pin, after_dest_pin, leg_after, action_at, Open, Answer, State, changed_in, applied, with_slot, with_own, with_header, without_mapping, with_underway, with_mapping, Settled, Closed, FrameSet, Adds, History, Setting, Underway, OpenAgrees, Unpinned, Stored, Holder, ByMapping, ByLeg, GrantRef, Half, FirstHalf, SecondHalf, first_body, second_body, AnswerDone, cond_both, position-Some, slice_get-get_or}
 use Rattle.gt_calls.specs.Following.{IsLeftAlike}
 use Rattle.gt_core.specs.declared.pin_counts.CountsChange.{CountsChange}
 use Rattle.gt_core.specs.declared.pin_counts.CountsChange.TheVariants.{Pinned as PinnedCount}
@@ -56,6 +56,10 @@ place-applied d step seen xs = refl
 pub still-there : (d : DomId) (step : Step) (seen : Seen) (xs : List State) → position (has_id d.0) (applied d step seen xs) ≡ position (has_id d.0) xs
 still-there d step seen xs = ap (λ (n : ℕ). cond (ltb n (length (applied d step seen xs))) (Some n) None) (place-applied d step seen xs)
     ∙ ap (λ (m : ℕ). cond (ltb (position_or_len (has_id d.0) xs) m) (Some (position_or_len (has_id d.0) xs)) None) (length-applied d step seen xs)
+
+pub still-within : (d : DomId) (step : Step) (seen : Seen) (xs ws : List State) (at : ℕ) (x : State) → position (has_id d.0) xs ≡ Some at → ws ≡ applied d step seen xs → at < length ws
+still-within d step seen xs ws at x place left =
+    subst (λ (l : List State). at < length l) (sym left) (position-Some (has_id d.0) (applied d step seen xs) at x (still-there d step seen xs ∙ place)).0
 
 -- its state there
 pub stepped-state : (d : DomId) (step : Step) (seen : Seen) (xs : List State) (at : ℕ) (x : State) → position (has_id d.0) xs ≡ Some at

@@ -1,5 +1,5 @@
-use Rattle.gt_core.proofs.Words.{sym, refl, ℕ, ◌∙◌, ◌<◌, ap, Some, Bool, TypeId, Perms, CallerKnowledge, Settled, ◌≡◌, List, None, subst, length, position, position-Some, slice_get, same_Some, State, IsAdmitted}
-use Rattle.gt_core.proofs.{Beginning.begin-nowhere, Beginning.tick-idle, Beginning.place-at, Performing.still-underway, Rows.has_id, Rows.on-err, Settling.length-applied, Stepping.begins-after, Stepping.tick-does, Stepping.room-asked, Stepping.tick-wants, Stepping.tick-admitted, Stepping.tick-readable, Stepping.readable-after}
+use Rattle.gt_core.proofs.Words.{sym, refl, ◌∙◌, ap, Some, Bool, TypeId, Perms, CallerKnowledge, Settled, ◌≡◌, List, None, subst, position, slice_get, same_Some, State, IsAdmitted}
+use Rattle.gt_core.proofs.{Beginning.begin-nowhere, Beginning.tick-idle, Beginning.place-at, Performing.still-underway, Performing.still-within, Rows.has_id, Rows.on-err, Stepping.begins-after, Stepping.tick-does, Stepping.room-asked, Stepping.tick-wants, Stepping.tick-admitted, Stepping.tick-readable, Stepping.readable-after}
 use Rattle.gt_calls.specs.Following.{IsLeftAlike}
 use Rattle.gt_core.specs.declared.machine.Machine.{Machine}
 use Rattle.gt_core.specs.Standing.{setting_by, known_by}
@@ -40,15 +40,13 @@ pub advance-action-requires : goal.advance-action-requires
 advance-action-requires g c = let s = setting_by g.P.Allows.may c.args.self.now in let xs = c.args.self.now.domains.items in
     let x = c.index.result.now in let at = c.in-Some.at in let o = c.in-Some-underway.open in
     let p : position (has_id c.args.dom.0) xs ≡ Some at = ap (λ (l : List State). position (has_id c.args.dom.0) l) (sym c.deref.ensures.value) ∙ sym c.find.ensures ∙ c.in-Some.is in
-    let within = (position-Some (has_id c.args.dom.0) xs at x p).0 in
-    subst (λ (n : ℕ). at < n) (sym (ap (λ (l : List State). length l) c.in_ok-seen.ensures.applied ∙ length-applied c.args.dom o.step c.in_ok-seen.seen xs)) within
+    still-within c.args.dom o.step c.in_ok-seen.seen xs _ at x p c.in_ok-seen.ensures.applied
 
 pub settle-answer-requires-clause-there : goal.settle-answer-requires-clause-there
 settle-answer-requires-clause-there g c = let s = setting_by g.P.Allows.may c.args.self.now in let xs = c.args.self.now.domains.items in
     let x = c.index.result.now in let at = c.in-Some.at in let o = c.in-Some-underway.open in
     let p : position (has_id c.args.dom.0) xs ≡ Some at = ap (λ (l : List State). position (has_id c.args.dom.0) l) (sym c.deref.ensures.value) ∙ sym c.find.ensures ∙ c.in-Some.is in
-    let within = (position-Some (has_id c.args.dom.0) xs at x p).0 in
-    subst (λ (n : ℕ). at < n) (sym (ap (λ (l : List State). length l) c.in_ok-seen.ensures.applied ∙ length-applied c.args.dom o.step c.in_ok-seen.seen xs)) within
+    still-within c.args.dom o.step c.in_ok-seen.seen xs _ at x p c.in_ok-seen.ensures.applied
 
 pub settle-answer-requires-clause-under : goal.settle-answer-requires-clause-under
 settle-answer-requires-clause-under g c = let s = setting_by g.P.Allows.may c.args.self.now in let xs = c.args.self.now.domains.items in
