@@ -17,7 +17,7 @@ use Rattle.gt_handles.specs.declared.handles.Handle.{Handle}
 use Rattle.gt_calls.specs.declared.request.Asked.{Asked}
 use Rattle.gt_calls.specs.declared.request.Asked.TheVariants.{Grant, Revoke, Demote, Promote, Map, Unmap, Load}
 use Rattle.gt_calls.specs.declared.request.Asked.TheVariants.{SetVersion, SetupTable, QuerySize, GetVersion, Store}
-use Rattle.gt_calls.specs.declared.request.Asked.TheVariants.{Peek, Poke, Copy}
+use Rattle.gt_calls.specs.declared.request.Asked.TheVariants.{Peek, Poke, Copy, Withdraw}
 use Rattle.gt_calls.specs.declared.judging.TheConstants.{END_OF_SERIALS}
 use Rattle.gt_calls.specs.declared.held.Held.{Held}
 use Rattle.gt_calls.specs.declared.request.CopyArgs.{CopyArgs}
@@ -47,7 +47,7 @@ pub record OpensGrant (k : CallerKnowledge) (gref : GrantRef) (entry : Entry) : 
   pub may_stand : cannot_stand entry k.header.version ≡ false
   pub not_worn : k.generation gref.0 ≢ LAST_GENERATION
 
--- a revocation: the reference holds an entry (own)
+-- a revocation or withdrawal: the reference holds an entry (own)
 pub record OpensRevoke (k : CallerKnowledge) (gref : GrantRef) : Type 0 where
   pub in_table : IsInTable k gref
   pub valid : is_invalid (k.entry gref.0) ≡ false
@@ -129,6 +129,7 @@ pub record OpensQuery (k : CallerKnowledge) (caller dom : DomId) : Type 0 where
 abbrev pub Opens : CallerKnowledge → DomId → Asked → Type 0
 Opens k caller (Grant gref entry) = OpensGrant k gref entry
 Opens k caller (Revoke gref) = OpensRevoke k gref
+Opens k caller (Withdraw gref) = OpensRevoke k gref
 Opens k caller (Demote gref) = OpensTurn k ToReadOnly gref
 Opens k caller (Promote gref) = OpensTurn k ToWritable gref
 Opens k caller (Map dom gref flags) = OpensMap k caller dom flags

@@ -1,5 +1,5 @@
 //! Maps, owners' calls and calls by a handle: what is asked, and the parts of each call.
-use crate::script::Part::{Ends, Header, Leg, Refused, RefusedAt, Step, Try};
+use crate::script::Part::{self, Ends, Header, Leg, Refused, RefusedAt, Step, Try};
 use crate::script::{CALLER, OWNER, Row};
 use gt_calls::{Change, Half, Handle, Held, Holder, Request, Seen, Step as CallStep, Verdict};
 use gt_entry::Entry;
@@ -56,8 +56,100 @@ pub const MAPS: [Row; 2] = [
     ),
 ];
 
-/// An owner looks at nothing: its entry 0 was never granted, and its entry 1 is of the page.
-pub const OWNERS: [Row; 2] = [
+// A withdrawal looks at an entry with a read pin, and misses it.
+const WITHDRAWAL_LOOKS: Part = Step(
+    CallStep::LookControl {
+        dom: OWNER,
+        gref: GrantRef(1),
+    },
+    Seen::Word(0x1000_3000_0011),
+);
+
+const WITHDRAWAL_MISSES: Part = Step(
+    CallStep::Exchange {
+        gref: GrantRef(1),
+        looked: 0x1000_3000_0011,
+        change: Change::Withdraw,
+    },
+    Seen::Missed(0x1000_3000_0001),
+);
+
+/// An owner that grants or revokes looks at nothing: its entry 0 was never granted, and its entry 1 is of the page.
+pub const OWNERS: [Row; 5] = [
+    (
+        OWNER,
+        Request::Grant {
+            gref: GrantRef(0),
+            entry: PAGE,
+        },
+        3,
+        &[
+            Step(
+                CallStep::StoreBody {
+                    gref: GrantRef(0),
+                    half: Half::First,
+                    word: 5,
+                },
+                Seen::Nothing,
+            ),
+            Step(
+                CallStep::Exchange {
+                    gref: GrantRef(0),
+                    looked: 0,
+                    change: Change::Publish(PAGE),
+                },
+                Seen::Missed(0x10),
+            ),
+            RefusedAt(
+                Rule::N19,
+                Held {
+                    word: 0x10,
+                    ..MAPPING
+                },
+            ),
+        ],
+    ),
+    (
+        OWNER,
+        Request::Withdraw { gref: GrantRef(1) },
+        5,
+        &[
+            WITHDRAWAL_LOOKS,
+            WITHDRAWAL_MISSES,
+            WITHDRAWAL_LOOKS,
+            Step(
+                CallStep::Exchange {
+                    gref: GrantRef(1),
+                    looked: 0x1000_3000_0011,
+                    change: Change::Withdraw,
+                },
+                Seen::Taken,
+            ),
+            Ends(Verdict::Granted),
+        ],
+    ),
+    (
+        OWNER,
+        Request::Withdraw { gref: GrantRef(1) },
+        9,
+        &[
+            WITHDRAWAL_LOOKS,
+            WITHDRAWAL_MISSES,
+            WITHDRAWAL_LOOKS,
+            WITHDRAWAL_MISSES,
+            WITHDRAWAL_LOOKS,
+            WITHDRAWAL_MISSES,
+            WITHDRAWAL_LOOKS,
+            WITHDRAWAL_MISSES,
+            RefusedAt(
+                Rule::N18,
+                Held {
+                    gref: GrantRef(1),
+                    ..MAPPING
+                },
+            ),
+        ],
+    ),
     (
         OWNER,
         Request::Grant {

@@ -115,6 +115,7 @@ Fits s h d r v = GivesValue s h d r None (answer_of v)
 -- the value of a call that is answered at its beginning
 value-fits : (s : Setting) (h : History) (k : CallerKnowledge) (d : DomId) (request : Request) → k.header ≡ table_at s h d → OnVerdict (Fits s h d (asked request)) (begun_of k d request)
 value-fits s h k d (requests.Revoke gref) same = grind arith
+value-fits s h k d (requests.Withdraw gref) same = grind arith
 value-fits s h k d request same = grind arith
 
 begin-done : (s : Setting) (h : History) (d : State) (request : Request) (v : Verdict) → Agrees s h d → d.underway ≡ None

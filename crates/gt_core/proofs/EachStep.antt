@@ -1,6 +1,6 @@
 -- What holds of each step of an open call: a line for each phase, by the file of the step that it makes.
 use Rattle.gt_core.proofs.Words.{◌≡◌, ◌≢◌, ◌⊎◌, inl, inr, ℕ, refl, false, List, [], ◌∷◌, Option, Some, None, sym, ap, subst, ◌==◌, domain_of, DomId, GrantRef, Change, control_of, Asked, Copy, CopyArgs, Step, Exchange, Seen, Taken, Missed, Makes, Aim, Mapping, Source, Dest, Phase, Storing, StoringSecond, Exchanging, Looking, Changing, Walking, Accessing, Asking, Last, Ending, Leg, LegPhase, Pinning, LegNext, Going, LegRefused, Pinned, last_first, pins_so_far, CallerKnowledge, begun, path, is_stopped, IsFor, phase_after, action_at, after_leg, leg_after, leg_step, HasShown, State, History, Setting, word_at, known_at, seen_by, StepsSoFar, PhaseStands, cond_both, Denial, legs_at, numbered, pins_at, reverse, refusal_in, IsClean, LeavesAll, first_at, is_demote, LegStands, Bool, true, eqb-true}
-use Rattle.gt_core.proofs.{Phases.OfAction, Phases.IsHere, Phases.words-of, Phases.by-quiet, Legs.Words, Legs.ComesTo, Legs.IsLegOf, Aims.pair_of, Aims.leg-here, Legs.as-tried, Phases.Judged, Steps.Look.asked-judged, Steps.Look.look-judged, Steps.Exchange.once-judged, Steps.Store.stored-refusal, Phases.IsPublished, Steps.Exchange.turn-below, Outcomes.after-plain, Steps.See.word-shows, Steps.See.IsWithin, Steps.Look.asks-run, Phases.by-giving, Phases.by-leg, Steps.Look.leg-within, Steps.Exchange.publish-here, Phases.state-some, Steps.Exchange.word-below, Phases.LeavesOrEnds, Phases.Leads, Steps.Exchange.turn-leads, Steps.Unpin.then-none, Phases.Placed, Steps.Unpin.give-placed, Steps.Pin.missed-comes, Steps.Look.looks-come, Steps.Store.IsStore, Steps.Pin.taken-leads, Steps.Look.look-placed}
+use Rattle.gt_core.proofs.{Phases.OfAction, Phases.IsHere, Phases.words-of, Phases.by-quiet, Legs.Words, Legs.ComesTo, Legs.IsLegOf, Aims.pair_of, Aims.leg-here, Legs.as-tried, Phases.Judged, Steps.Look.asked-judged, Steps.Look.look-judged, Steps.Exchange.once-judged, Steps.Store.stored-refusal, Steps.Exchange.turn-below, Outcomes.after-plain, Steps.See.word-shows, Steps.See.IsWithin, Steps.Look.asks-run, Phases.by-giving, Phases.by-leg, Steps.Look.leg-within, Phases.state-some, Steps.Exchange.word-below, Phases.LeavesOrEnds, Phases.Leads, Steps.Exchange.turn-leads, Steps.Unpin.then-none, Phases.Placed, Steps.Unpin.give-placed, Steps.Pin.missed-comes, Steps.Look.looks-come, Steps.Store.IsStore, Steps.Pin.taken-leads, Steps.Look.look-placed}
 
 -- the pins of a walk that ends are a copy's, or none
 walk-over : (k : CallerKnowledge) (d : DomId) (r : Asked) (aim : Aim) (l : Leg) → IsFor k d r aim l → (last_first (pins_so_far aim) ≡ []) ⊎ ((copy : CopyArgs) × (r ≡ Copy copy) × Unit {0})
@@ -46,11 +46,11 @@ module _ (s : Setting) (h : History) (d : DomId) (r : Asked) where
           (as-tried s h l so_far more word body second None a.1.0 a.1.1 ws (eqb-true (word_at s h l.dom.0 l.gref.0) word e))
   walk-leads so_far aim l at ws is leg none a = leg-leads aim l _ _ (leg_after l at (seen_by s h d (leg_step l at))) is a.0 (walk-comes s h d r so_far aim l at ws is leg a.1 tt)
 
--- at each step: it is on words that there are. No publication is missed. It leaves all as it was or ends its call with
+-- at each step: it is on words that there are. It leaves all as it was or ends its call with
 -- Ok. The first rule that stands, here or before, is the refusal that its words lead to. Each step but a store leads
 -- where the next phase says
 abbrev pub OfStep : Setting → History → List State → DomId → Asked → StepsSoFar → Phase → Step → Type 0
-OfStep s h xs d r so_far p z = IsWithin xs d z × IsPublished s h d z × LeavesOrEnds s h d p z × Judged s h d r so_far p z × ((IsStore z → ⊥) → Placed s h d r so_far p z)
+OfStep s h xs d r so_far p z = IsWithin xs d z × LeavesOrEnds s h d p z × Judged s h d r so_far p z × ((IsStore z → ⊥) → Placed s h d r so_far p z)
 
 pub each-step : (s : Setting) (h : History) (xs : List State) (d : DomId) (r : Asked) (shown : List Seen) (so_far : StepsSoFar) (phase : Phase) (step : Step) → IsHere s h xs d r shown so_far phase step → OfStep s h xs d r so_far phase step
 each-step s h xs d r shown so_far phase step i = subst (OfAction (Led phase)) i.acts (by phase i.at.has_shown i.place i.acts i.held)
@@ -66,27 +66,26 @@ each-step s h xs d r shown so_far phase step i = subst (OfAction (Led phase)) i.
         (λ v. LeavesAll (Exchange gref looked change, v) ⊎ ((steps : List (Step × Seen)) → IsClean (phase_after k d p v) steps)) (λ is. inr clean) (λ is. inl tt)
 
     by : (p : Phase) → HasShown k (path k d r) d r shown p → PhaseStands s h d r so_far p → action_at d p ≡ Makes step → legs_at h d.0 ≡ numbered 0 (reverse (last_first (pins_at p))) → OfAction (Led p) (action_at d p)
-    by (Storing gref entry) a b e held = (tt, tt, inl tt, stored-refusal k gref entry, λ quiet. absurd (quiet tt))
-    by (StoringSecond gref entry) a b e held = (tt, tt, inl tt, refl, λ quiet. absurd (quiet tt))
-    by (Exchanging gref looked change) a b e held = let published = publish-here s h d r shown gref looked change i.legal i.at.unanswered a in (
+    by (Storing gref entry) a b e held = (tt, inl tt, stored-refusal k gref entry, λ quiet. absurd (quiet tt))
+    by (StoringSecond gref entry) a b e held = (tt, inl tt, refl, λ quiet. absurd (quiet tt))
+    by (Exchanging gref looked change) a b e held = (
       (i.own, word-below s h xs d r (path k d r) shown gref looked change i.st i.at.unanswered a),
-      published,
       exchanged (Exchanging gref looked change) gref looked change (λ steps. inl refl),
-      once-judged s h d r (path k d r) shown so_far gref looked change published a b,
+      once-judged s h d r (path k d r) shown so_far gref looked change a b,
       λ quiet. cond_both (word_at s h d.0 gref.0 == looked) Taken (Missed (word_at s h d.0 gref.0)) (λ v. PhaseStands s h d r ((Exchange gref looked change, v) ∷ so_far) (phase_after k d (Exchanging gref looked change) v)) (λ is. inl refl) (λ is. inl refl),
     )
     by (Looking gref change more) a b e held = let below = turn-below s h xs d r gref change i.st i.at.unanswered a in let w = word_at s h d.0 gref.0 in
-        ((i.own, below), tt, inl tt, look-judged s h d r so_far gref change more (word-shows s h xs d.0 gref.0 i.st below) a b, λ quiet. look-placed s h d r gref change more w so_far (is_stopped change (control_of w)) b)
+        ((i.own, below), inl tt, look-judged s h d r so_far gref change more (word-shows s h xs d.0 gref.0 i.st below) a b, λ quiet. look-placed s h d r gref change more w so_far (is_stopped change (control_of w)) b)
     by (Changing gref change more looked) a b e held = let w = turn-leads s h d r so_far gref change more looked a.1 b.0 in
-        ((i.own, turn-below s h xs d r gref change i.st i.at.unanswered a.1), w.0, exchanged (Changing gref change more looked) gref looked change (λ steps. inl refl), w.1.0, λ quiet. w.1.1)
+        ((i.own, turn-below s h xs d r gref change i.st i.at.unanswered a.1), exchanged (Changing gref change more looked) gref looked change (λ steps. inl refl), w.0, λ quiet. w.1)
     by (Walking aim l at) a b e held = let w = walk-leads s h d r so_far aim l at (words-of s h xs l i.legal i.st) a.1 (leg-here s h d r aim l a.1 held) i.at.unanswered b in
-        let q = by-leg (λ (z : Step). IsPublished s h d z × LeavesOrEnds s h d (Walking aim l at) z) (λ dom. (tt, inl tt)) (λ dom gref. (tt, inl tt)) (λ dom gref half. (tt, inl tt)) (λ p. (tt, inl tt)) l at in
-        (leg-within s h xs d l so_far at (state-some s h xs l.dom i.st b.0) b.1, q.0, q.1, w.0, λ quiet. w.1)
-    by (Accessing c source dest) a b e held = (tt, tt, inr (λ steps. inl refl), refl, λ quiet. inr (c, a.0, tt))
-    by (Asking dom question) a b e held = (state-some s h xs dom i.st (asks-run s h d r dom question i.at.unanswered b), tt, inl tt, asked-judged s h d r so_far dom question b, λ quiet. inl refl)
-    by (Last last verdict) a b e held = let none = after-plain r last verdict b in by-quiet (λ z. Led (Last z verdict) z) (λ p handle. (tt, tt, inr (λ steps. inl none), sym none, λ quiet. inl refl))
-        (λ gref half word. (tt, tt, inl tt, sym none, λ quiet. inl refl)) (λ version frames. (tt, tt, inr (λ steps. inl none), sym none, λ quiet. inl refl))
-        (λ dom frame off len. ((tt, tt, inl tt, sym none, λ quiet. inl refl), (tt, tt, inr (λ steps. inl none), sym none, λ quiet. inl refl))) last a.0
-    by (Ending pins verdict) a b e held = let q = by-giving (λ (z : Step). IsWithin xs d z × IsPublished s h d z × LeavesOrEnds s h d (Ending pins verdict) z × Judged s h d r so_far (Ending pins verdict) z)
-        (λ p n. (tt, tt, inl tt, then-none (refusal_in (Some verdict)))) (last_first pins) verdict step e in
-        subst (OfAction (Led (Ending pins verdict))) (sym e) (q.0, q.1, q.2, q.3, λ quiet. give-placed s h d r so_far pins verdict step e b)
+        let q = by-leg (λ (z : Step). LeavesOrEnds s h d (Walking aim l at) z) (λ dom. inl tt) (λ dom gref. inl tt) (λ dom gref half. inl tt) (λ p. inl tt) l at in
+        (leg-within s h xs d l so_far at (state-some s h xs l.dom i.st b.0) b.1, q, w.0, λ quiet. w.1)
+    by (Accessing c source dest) a b e held = (tt, inr (λ steps. inl refl), refl, λ quiet. inr (c, a.0, tt))
+    by (Asking dom question) a b e held = (state-some s h xs dom i.st (asks-run s h d r dom question i.at.unanswered b), inl tt, asked-judged s h d r so_far dom question b, λ quiet. inl refl)
+    by (Last last verdict) a b e held = let none = after-plain r last verdict b in by-quiet (λ z. Led (Last z verdict) z) (λ p handle. (tt, inr (λ steps. inl none), sym none, λ quiet. inl refl))
+        (λ gref half word. (tt, inl tt, sym none, λ quiet. inl refl)) (λ version frames. (tt, inr (λ steps. inl none), sym none, λ quiet. inl refl))
+        (λ dom frame off len. ((tt, inl tt, sym none, λ quiet. inl refl), (tt, inr (λ steps. inl none), sym none, λ quiet. inl refl))) last a.0
+    by (Ending pins verdict) a b e held = let q = by-giving (λ (z : Step). IsWithin xs d z × LeavesOrEnds s h d (Ending pins verdict) z × Judged s h d r so_far (Ending pins verdict) z)
+        (λ p n. (tt, inl tt, then-none (refusal_in (Some verdict)))) (last_first pins) verdict step e in
+        subst (OfAction (Led (Ending pins verdict))) (sym e) (q.0, q.1, q.2, λ quiet. give-placed s h d r so_far pins verdict step e b)

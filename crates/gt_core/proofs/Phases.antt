@@ -77,19 +77,13 @@ by-quiet P unpins bodies headers accesses step q = absurd q
 pub exchanged-fits : (word w : ℕ) → IsExchanged word (cond (w == word) Taken (Missed w))
 exchanged-fits word w = cond_both (w == word) Taken (Missed w) (IsExchanged word) (λ e. tt) (λ e same. true≢false (sym (eq-eqb w word same) ∙ e))
 
--- no step but an owner's publication may see what it can't
-abbrev pub IsPublished : Setting → History → DomId → Step → Type 0
-IsPublished s h d (Exchange gref looked (Publish entry)) = word_at s h d.0 gref.0 ≡ looked
-IsPublished s h d step = Unit {0}
-
-pub seen-fits : (s : Setting) (h : History) (d : DomId) (step : Step) → IsPublished s h d step → FitsStep step (seen_by s h d step)
-seen-fits s h d (LookHeader dom) p = tt
-seen-fits s h d (LookControl dom gref) p = tt
-seen-fits s h d (LookBody dom gref half) p = tt
-seen-fits s h d (PinStep q) p = exchanged-fits q.word (word_at s h q.dom.0 q.gref.0)
-seen-fits s h d (Exchange gref looked (Publish entry)) p = ap (λ (b : Bool). cond b Taken (Missed (word_at s h d.0 gref.0))) (eq-eqb (word_at s h d.0 gref.0) looked p)
-seen-fits s h d (Exchange gref looked change) p = exchanged-fits looked (word_at s h d.0 gref.0)
-seen-fits s h d step p = refl
+pub seen-fits : (s : Setting) (h : History) (d : DomId) (step : Step) → FitsStep step (seen_by s h d step)
+seen-fits s h d (LookHeader dom) = tt
+seen-fits s h d (LookControl dom gref) = tt
+seen-fits s h d (LookBody dom gref half) = tt
+seen-fits s h d (PinStep q) = exchanged-fits q.word (word_at s h q.dom.0 q.gref.0)
+seen-fits s h d (Exchange gref looked change) = exchanged-fits looked (word_at s h d.0 gref.0)
+seen-fits s h d step = refl
 
 -- where a step leads
 

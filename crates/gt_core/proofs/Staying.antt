@@ -1,11 +1,12 @@
 -- Where a call stands, it stands after an item of another domain, and after one that leaves its body words.
-use Rattle.gt_core.proofs.Words.{ℕ, None, Option, Some, arith, refl, subst, sym, ◌+◌, ◌∙◌, ◌∷◌, ◌≡◌, ◌≢◌, ◌≤◌, DomId, Rule, entry_of, first_body, control_of, Change, Publish, ToInvalid, Half, FirstHalf, SecondHalf, Entry, Invalid, first, Phase, Accessing, Exchanging, Storing, StoringSecond, Walking, Leg, LegPhase, Body, AtHeader, Look, Pinning, Relook, Second, Asked, History, Setting, change_of, entry_after, generation_at, raise_after, IsSpelled, StepsSoFar, HasLooked, HasRead, IsShown, LegStands, PhaseStands, WhileSame, Item, body_at, entry_at, raises_at}
+use Rattle.gt_core.proofs.Words.{ℕ, None, Option, Some, arith, refl, subst, sym, ◌+◌, ◌∙◌, ◌∷◌, ◌≡◌, ◌≢◌, ◌≤◌, DomId, Rule, entry_of, first_body, control_of, Change, Publish, ToInvalid, ToWithdrawn, Half, FirstHalf, SecondHalf, Entry, Invalid, first, Phase, Accessing, Exchanging, Storing, StoringSecond, Walking, Leg, LegPhase, Body, AtHeader, Look, Pinning, Relook, Second, Asked, History, Setting, change_of, entry_after, generation_at, raise_after, IsSpelled, StepsSoFar, HasLooked, HasRead, IsShown, LegStands, PhaseStands, WhileSame, Item, body_at, entry_at, raises_at}
 
 same-after : (before first generation : ℕ) (Holds : Entry → Type 0) (entry : Entry) (c : Option Change) → generation ≤ first + before
     → (first + before ≡ generation → entry ≢ Invalid → Holds entry)
     → first + (before + raise_after c) ≡ generation → entry_after c entry ≢ Invalid → Holds (entry_after c entry)
 same-after before first generation Holds entry None le was e valid = was (omega arith) valid
 same-after before first generation Holds entry (Some ToInvalid) le was e valid = absurd (valid refl)
+same-after before first generation Holds entry (Some ToWithdrawn) le was e valid = absurd (valid refl)
 same-after before first generation Holds entry c le was e valid = absurd (omega arith)
 
 -- each item keeps what a call saw

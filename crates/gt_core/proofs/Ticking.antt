@@ -34,7 +34,7 @@ ticks s h xs x o c seen new action legal st here agrees call a saw caller asks g
     (subst (λ (z : CallerKnowledge). Goes z o.call (seen_by s h x.id step) new action) (known-same s h x agrees)
     (subst (λ (v : Seen). Goes (knowledge_of s.domains s.first_generation s.may x.own x.header x.mappings) o.call v new action) same goes)) in
     let moved : new ≡ call_at x.id c.request next = call-is new x.id c.request next (caller ∙ a.caller) (asks ∙ a.asks) g.moves in
-    let fits : FitsNext (path k x.id c.request (values c)) (seen_by s h x.id step) = subst (λ (z : Option Action). FitsNext z (seen_by s h x.id step)) (sym a.follows) (seen-fits s h x.id step each.1) in
+    let fits : FitsNext (path k x.id c.request (values c)) (seen_by s h x.id step) = subst (λ (z : Option Action). FitsNext z (seen_by s h x.id step)) (sym a.follows) (seen-fits s h x.id step) in
     let g2 : Goes k old (seen_by s h x.id step) (call_at x.id c.request next) action = subst (λ (z : Call). Goes k old (seen_by s h x.id step) z action) moved g in
     let l = g2.later (values c) a.at fits in
     (same, record { here = here; agrees = agrees; call = call; stands = a; i = i; new_is = moved; on = l.0; fewer = l.2; acts = g.acts; holds = l.1 (Makes step) a.follows })
@@ -125,7 +125,7 @@ module _ {s : Setting} {h : History} {xs : List State} {x : State} {o : Open} {c
   pub stood-after : (answer : Option Answer) → stood s (history_then answer) x.id.0 ≡ phase_refusal phase_then
   stood-after answer = let i = stepped x.id o.step seen_in answer in
       stood-own s i h ∙ ap (λ (z : Option Denial). option_or z (first_of_item s h i)) t.stands.fair
-      ∙ ap (λ (u : Option Underway). option_or (phase_refusal t.stands.phase) (first_in_call s h x.id i.happened u)) t.call ∙ each.3
+      ∙ ap (λ (u : Option Underway). option_or (phase_refusal t.stands.phase) (first_in_call s h x.id i.happened u)) t.call ∙ each.2
 
   pin-fact : PinFact h o.step seen_in
   pin-fact p is saw = let i = subst (IsHere s h xs x.id c.request (values c) (reverse c.steps) t.stands.phase) is t.i in
@@ -150,7 +150,7 @@ module _ {s : Setting} {h : History} {xs : List State} {x : State} {o : Open} {c
         (first-leads s h x.id c.request (values c) (reverse c.steps) now) (second-leads s h x.id c.request (values c) (reverse c.steps) now) t.stands.phase
         (StoreBody gref half word) t.stands.at.has_shown (t.stands.acts ∙ ap Makes is) tt t.stands.at.has_shown t.stands.place
     by step is = place-stays s (stepped x.id step (seen_by s h x.id step) None) h x.id c.request ((step, seen_by s h x.id step) ∷ reverse c.steps) (next_of s h x.id t.stands.phase step)
-        (λ r which. unstored (stepped x.id step (seen_by s h x.id step) None) h x.id.0 r which refl) ((subst (OfStep s h xs x.id c.request (reverse c.steps) t.stands.phase) is each).4 (λ n. n))
+        (λ r which. unstored (stepped x.id step (seen_by s h x.id step) None) h x.id.0 r which refl) ((subst (OfStep s h xs x.id c.request (reverse c.steps) t.stands.phase) is each).3 (λ n. n))
 
 -- a call that goes on
 module _ {s : Setting} {h : History} {xs : List State} {x : State} {o : Open} {c : Underway} {new : Call} {z : Step} (t : Ticks s h xs x o c new (Makes z)) where
@@ -179,7 +179,7 @@ module _ {s : Setting} {h : History} {xs : List State} {x : State} {o : Open} {c
         place = subst (λ (so_far : StepsSoFar). PhaseStands s (history_then t None) x.id c.request so_far (phase_then t)) (sym (reverse-append c.steps ((o.step, seen_in t) ∷ []))) (place-after t);
         fair = stood-after t None;
         fits = t.stands.fits;
-        clean = clean-next s h x.id t.stands.phase o.step c.steps t.stands.acts (each t).2 t.stands.clean;
+        clean = clean-next s h x.id t.stands.phase o.step c.steps t.stands.acts (each t).1 t.stands.clean;
         held = legs-after t None refl (λ n. refl) (λ m e. cc);
         few = (omega arith);
       }
@@ -239,7 +239,7 @@ pub ends-right : {s : Setting} {h : History} {xs : List State} {x : State} {o : 
     → legs_at (history_then t (Some answer)) x.id.0 ≡ [] → GivesValue s h x.id c.request (Some o.step) answer → StepsRight s h (stepped x.id o.step (seen_in t) (Some answer)) o.step (seen_in t) c
 ends-right {s} {h} {xs} {x} {o} {c} {new} {v} t answer same legs value = let e = ends-so x.id (phase_then t) v (sym t.acts) in
     let clean : IsClean (Ending e.0 v) (c.steps ++ (o.step, seen_in t) ∷ []) =
-    subst (λ (p : Phase). IsClean p (c.steps ++ (o.step, seen_in t) ∷ [])) e.1 (clean-next s h x.id t.stands.phase o.step c.steps t.stands.acts (each t).2 t.stands.clean) in
+    subst (λ (p : Phase). IsClean p (c.steps ++ (o.step, seen_in t) ∷ [])) e.1 (clean-next s h x.id t.stands.phase o.step c.steps t.stands.acts (each t).1 t.stands.clean) in
     right t (Some answer) (λ none. cc) (λ some. (by some clean, legs)) (same, same ∙ sym (stood-after t (Some answer) ∙ ap phase_refusal e.1), value) where
       by : refusal_if (Some answer) ≢ None → (refusal_in (Some v) ≡ None) ⊎ All LeavesAll (c.steps ++ (o.step, seen_in t) ∷ []) → All LeavesAll (c.steps ++ (o.step, seen_in t) ∷ [])
       by some (inl none) = absurd (some (same ∙ none))

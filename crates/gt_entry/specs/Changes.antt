@@ -1,7 +1,7 @@
 -- What an owner's change makes of its entry.
 use Rattle.std.specs.Prelude.{ℕ, true, false}
 use Rattle.gt_entry.specs.declared.change.Change.{Change}
-use Rattle.gt_entry.specs.declared.change.Change.TheVariants.{Publish, Revoke, Demote, Promote}
+use Rattle.gt_entry.specs.declared.change.Change.TheVariants.{Publish, Revoke, Withdraw, Demote, Promote}
 use Rattle.gt_entry.specs.declared.entry.Entry.{Entry}
 use Rattle.gt_entry.specs.declared.entry.Entry.TheVariants.{Invalid}
 use Rattle.gt_entry.specs.Entries.{with_ro}
@@ -10,6 +10,7 @@ use Rattle.gt_entry.specs.Entries.{with_ro}
 abbrev pub changed_entry : Change → Entry → Entry
 changed_entry (Publish entry) old = entry
 changed_entry Revoke old = Invalid
+changed_entry Withdraw old = Invalid
 changed_entry Demote old = with_ro true old
 changed_entry Promote old = with_ro false old
 
@@ -17,5 +18,6 @@ changed_entry Promote old = with_ro false old
 abbrev pub raise_of : Change → ℕ
 raise_of (Publish entry) = 1
 raise_of Revoke = 0
+raise_of Withdraw = 0
 raise_of Demote = 1
 raise_of Promote = 1

@@ -15,8 +15,10 @@ pub enum Half {
 pub enum Change {
     /// It becomes this entry, at the next generation.
     Publish(Entry),
-    /// It becomes invalid, and the generation stays.
+    /// It becomes invalid, from its word without pins, and the generation stays.
     Revoke,
+    /// It becomes invalid, and its pins and the generation stay.
+    Withdraw,
     /// It becomes read-only, at the next generation.
     Demote,
     /// It becomes writable, at the next generation.
@@ -33,7 +35,7 @@ impl Change {
     {
         match self {
             Change::Publish(new) => new,
-            Change::Revoke => Entry::Invalid,
+            Change::Revoke | Change::Withdraw => Entry::Invalid,
             Change::Demote => entry.with_ro(true),
             Change::Promote => entry.with_ro(false),
         }

@@ -116,6 +116,7 @@ begins_open s h d request begun.NoDomain known is may = absurd (known may)
 few_steps : (request : Asked) → most_steps request ≤ MAX_STEPS
 few_steps (asks.Grant gref entry) = omega arith
 few_steps (asks.Revoke gref) = omega arith
+few_steps (asks.Withdraw gref) = omega arith
 few_steps (asks.Demote gref) = omega arith
 few_steps (asks.Promote gref) = omega arith
 few_steps (asks.Map dom gref flags) = omega arith

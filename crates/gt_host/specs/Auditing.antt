@@ -45,6 +45,7 @@ call_told subject (asks.SetVersion version) = Some (calls.SetVersion version)
 call_told subject (asks.SetupTable frames) = Some (calls.SetupTable frames)
 call_told subject (asks.Grant gref entry) = None
 call_told subject (asks.Revoke gref) = None
+call_told subject (asks.Withdraw gref) = None
 call_told subject (asks.Demote gref) = None
 call_told subject (asks.Promote gref) = None
 call_told subject (asks.Load handle off len) = None

@@ -74,6 +74,7 @@ abbrev pub table_text : TableCall → Option (List ℕ)
 table_text (tables.Grant gref grant) = None
 table_text (tables.GrantBytes gref hex) = Some hex
 table_text (tables.Revoke gref) = None
+table_text (tables.Withdraw gref) = None
 table_text (tables.Demote gref) = None
 table_text (tables.Promote gref) = None
 table_text (tables.SetVersion version) = None
@@ -110,6 +111,7 @@ unfoldable pub table_request : Bor (List ℕ) → TableCall → Request
 table_request bytes (tables.Grant gref grant) = requests.Grant gref (entry_of grant)
 table_request bytes (tables.GrantBytes gref hex) = requests.GrantBytes gref bytes
 table_request bytes (tables.Revoke gref) = requests.Revoke gref
+table_request bytes (tables.Withdraw gref) = requests.Withdraw gref
 table_request bytes (tables.Demote gref) = requests.Demote gref
 table_request bytes (tables.Promote gref) = requests.Promote gref
 table_request bytes (tables.SetVersion version) = requests.SetVersion version

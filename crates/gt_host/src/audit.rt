@@ -52,6 +52,7 @@ fn call_told<P: Allows>(core: &Core<P>, dom: DomId, request: Request<'_>) -> Opt
         Request::Grant { .. }
         | Request::GrantBytes { .. }
         | Request::Revoke { .. }
+        | Request::Withdraw { .. }
         | Request::Demote { .. }
         | Request::Promote { .. }
         | Request::Load { .. }

@@ -77,6 +77,7 @@ fn table_text<'b, 'a>(call: &'b TableCall<'a>) -> Option<&'b Text<'a>>
         TableCall::GrantBytes { hex, .. } => Some(hex),
         TableCall::Grant { .. }
         | TableCall::Revoke { .. }
+        | TableCall::Withdraw { .. }
         | TableCall::Demote { .. }
         | TableCall::Promote { .. }
         | TableCall::SetVersion { .. }
@@ -132,6 +133,7 @@ fn table_request<'a, 'c>(bytes: &'c [u8], call: &TableCall<'a>) -> Request<'c>
         },
         TableCall::GrantBytes { gref, .. } => Request::GrantBytes { gref: *gref, bytes },
         TableCall::Revoke { gref } => Request::Revoke { gref: *gref },
+        TableCall::Withdraw { gref } => Request::Withdraw { gref: *gref },
         TableCall::Demote { gref } => Request::Demote { gref: *gref },
         TableCall::Promote { gref } => Request::Promote { gref: *gref },
         TableCall::SetVersion { version } => Request::SetVersion { version: *version },

@@ -146,7 +146,7 @@ copy_of (from_kind ∷ from_dom ∷ from ∷ from_off ∷ to_kind ∷ to_dom ∷
   Some (accesses.Copy s d n)
 copy_of _ = None
 
--- what follows `revoke`, `demote`, `promote`, and `show` and its domain: REF (own)
+-- what follows `revoke`, `withdraw`, `demote`, `promote`, and `show` and its domain: REF (own)
 unfoldable pub only_reference : List (List ℕ) → Option GrantRef
 only_reference (gref ∷ []) = reference_word gref
 only_reference _ = None
@@ -166,12 +166,13 @@ unfoldable pub table_of : List ℕ → List (List ℕ) → Option TableCall
 table_of word args = if bytes_eq word (codes "grant") then grant_of args
     else (if bytes_eq word (codes "bytes") then bytes_of args
     else (if bytes_eq word (codes "revoke") then option_map tables.Revoke (only_reference args)
+    else (if bytes_eq word (codes "withdraw") then option_map tables.Withdraw (only_reference args)
     else (if bytes_eq word (codes "demote") then option_map tables.Demote (only_reference args)
     else (if bytes_eq word (codes "promote") then option_map tables.Promote (only_reference args)
     else (if bytes_eq word (codes "version") then option_map tables.SetVersion (only_number args)
     else (if bytes_eq word (codes "setup") then option_map tables.SetupTable (only_number args)
     else (if bytes_eq word (codes "size") then option_map tables.QuerySize (only_domain args)
-    else (if bytes_eq word (codes "getversion") then option_map tables.GetVersion (only_domain args) else None))))))))
+    else (if bytes_eq word (codes "getversion") then option_map tables.GetVersion (only_domain args) else None)))))))))
 
 -- a call that ends a mapping or reaches bytes, by its word (own)
 unfoldable pub access_of : List ℕ → List (List ℕ) → Option AccessCall

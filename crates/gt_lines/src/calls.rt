@@ -47,6 +47,8 @@ pub enum TableCall<'a> {
     GrantBytes { gref: GrantRef, hex: Text<'a> },
     /// `revoke REF`
     Revoke { gref: GrantRef },
+    /// `withdraw REF`
+    Withdraw { gref: GrantRef },
     /// `demote REF`
     Demote { gref: GrantRef },
     /// `promote REF`
@@ -403,6 +405,10 @@ fn read_table_call<'a>(word: &[u8], args: &[&'a [u8]]) -> Option<TableCall<'a>>
         read_bytes(args)
     } else if is(word, "revoke") {
         Some(TableCall::Revoke {
+            gref: only_reference(args)?,
+        })
+    } else if is(word, "withdraw") {
+        Some(TableCall::Withdraw {
             gref: only_reference(args)?,
         })
     } else if is(word, "demote") {

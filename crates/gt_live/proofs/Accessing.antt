@@ -18,7 +18,7 @@ use Rattle.gt_entry.specs.Entries.{frame_of}
 use Rattle.gt_entry.specs.Permits.{is_of_frame, permits}
 use Rattle.gt_words.specs.Conditions.{SeatOf}
 use Rattle.gt_words.specs.Rule.{Layout}
-use Rattle.gt_words.specs.declared.view.SeatStep.{SeatStep}
+use Rattle.gt_words.specs.History.{Moment}
 use Rattle.gt_words.specs.declared.view.View.{View}
 use Rattle.gt_access.specs.Routes.{IsPinnedFor, Serves}
 use Rattle.gt_calls.specs.declared.action.Seen.TheVariants.{Nothing}
@@ -90,7 +90,7 @@ reaches-its-frame k ds may s p is = record {
 }
 
 -- a refusal without a word tells none
-pub wordless-found : (k : Layout) (v : View) (steps : List SeatStep) (f : Facts) → IsWordless f → CarriesFound k v steps f
+pub wordless-found : (k : Layout) (v : View) (steps : List Moment) (f : Facts) → IsWordless f → CarriesFound k v steps f
 wordless-found k v steps (facts.Entry dom gref word) is = absurd is
 wordless-found k v steps (facts.Header dom word) is = absurd is
 wordless-found k v steps facts.None is = tt

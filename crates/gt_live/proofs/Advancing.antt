@@ -5,7 +5,7 @@ use Rattle.gt_types.specs.declared.GrantRef.{GrantRef}
 use Rattle.gt_types.specs.declared.denial.Facts.{Facts}
 use Rattle.gt_types.specs.declared.denial.Facts.TheVariants as facts
 use Rattle.gt_entry.specs.declared.change.Change.{Change}
-use Rattle.gt_entry.specs.declared.change.Change.TheVariants.{Publish, Revoke, Demote, Promote}
+use Rattle.gt_entry.specs.declared.change.Change.TheVariants.{Publish, Revoke, Withdraw, Demote, Promote}
 use Rattle.gt_entry.specs.Words.{unit_of}
 use Rattle.gt_words.specs.Views.{last_of}
 use Rattle.gt_words.specs.Conditions.{IsNotEarlier, SeesNoEarlier}
@@ -14,6 +14,7 @@ use Rattle.gt_words.specs.Steps.{changed_word, on_entry, on_header}
 use Rattle.gt_words.specs.declared.view.EntryStep.{EntryStep}
 use Rattle.gt_words.specs.declared.view.EntryStep.TheVariants.{ChangeMissed, Looked, PinMissed}
 use Rattle.gt_words.specs.declared.view.HeaderStep.TheVariants as header
+use Rattle.gt_words.specs.History.{Moment}
 use Rattle.gt_words.specs.declared.view.SeatStep.{SeatStep}
 use Rattle.gt_words.specs.declared.view.View.{View}
 use Rattle.gt_calls.specs.declared.action.Action.{Action}
@@ -109,7 +110,7 @@ by-owner k caller change q looked n v dom gref word at low e =
     at-entry k v (on_entry v.position q.0 on) caller dom q gref n word
     (record { on = on; is = ap (λ (t : ℕ). on_entry t q.0 on) at; found = refl; not_earlier = subst (λ (t : ℕ). IsNotEarlier t q.0 v n) at low }) e
 
-finds : (k : Layout) (caller : DomId) (s : Step) (x : Seen) (v w : View) (m : Made k s x v w) (dom : DomId) (gref : GrantRef) (word : ℕ) → v.position ≡ position_in k.ids caller → IsFoundAt caller s x dom gref word → Finds k v (made-gains k s x v w m).step dom gref word
+finds : (k : Layout) (caller : DomId) (s : Step) (x : Seen) (v w : View) (m : Made k s x v w) (dom : DomId) (gref : GrantRef) (word : ℕ) → v.position ≡ position_in k.ids caller → IsFoundAt caller s x dom gref word → Finds k v (made-gains k s x v w m).step.1 dom gref word
 unfolding made-gains
 finds k caller (LookControl d q) (Word n) v w m dom gref word at e =
     at-entry k v (on_entry (position_in k.ids d) q.0 (Looked n)) d dom q gref n word (record { on = Looked n; is = refl; found = refl; not_earlier = m.0.not_earlier }) e
@@ -119,15 +120,16 @@ finds k caller (Pin p) (Missed n) v w m dom gref word at e =
 finds k caller (Exchange q looked Revoke) (Missed n) v w m dom gref word at e = by-owner k caller Revoke q looked n v dom gref word at m.missed.not_earlier e
 finds k caller (Exchange q looked Demote) (Missed n) v w m dom gref word at e = by-owner k caller Demote q looked n v dom gref word at m.not_earlier e
 finds k caller (Exchange q looked Promote) (Missed n) v w m dom gref word at e = by-owner k caller Promote q looked n v dom gref word at m.not_earlier e
-finds k caller (Exchange q looked (Publish entry)) (Missed n) v w m dom gref word at e = absurd m
+finds k caller (Exchange q looked (Publish entry)) (Missed n) v w m dom gref word at e = by-owner k caller (Publish entry) q looked n v dom gref word at m.missed.not_earlier e
+finds k caller (Exchange q looked Withdraw) (Missed n) v w m dom gref word at e = by-owner k caller Withdraw q looked n v dom gref word at m.not_earlier e
 finds k caller _ _ v w m dom gref word at e = absurd e
 
-finds-header : (k : Layout) (s : Step) (x : Seen) (v w : View) (m : Made k s x v w) (dom : DomId) (word : ℕ) → IsFoundIn s x dom word → (made-gains k s x v w m).step ≡ on_header (position_in k.ids dom) (header.Looked word)
+finds-header : (k : Layout) (s : Step) (x : Seen) (v w : View) (m : Made k s x v w) (dom : DomId) (word : ℕ) → IsFoundIn s x dom word → (made-gains k s x v w m).step.1 ≡ on_header (position_in k.ids dom) (header.Looked word)
 unfolding made-gains
 finds-header k (LookHeader d) (Word n) v w m dom word e = ap (λ (z : DomId). on_header (position_in k.ids z) (header.Looked n)) e.0 ∙ ap (λ (z : ℕ). on_header (position_in k.ids dom) (header.Looked z)) e.1
 finds-header k _ _ v w m dom word e = absurd e
 
-pub carried-facts : (k : Layout) (caller : DomId) (v u w : View) (s : Step) (x : Seen) (steps : List SeatStep) (m : Made k s x u w) (f : Facts) → SeesNoEarlier v u → u.position ≡ position_in k.ids caller → IsFound caller s x f → CarriesFound k v ((made-gains k s x u w m).step ∷ steps) f
+pub carried-facts : (k : Layout) (caller : DomId) (v u w : View) (s : Step) (x : Seen) (steps : List Moment) (m : Made k s x u w) (f : Facts) → SeesNoEarlier v u → u.position ≡ position_in k.ids caller → IsFound caller s x f → CarriesFound k v ((made-gains k s x u w m).step ∷ steps) f
 carried-facts k caller v u w s x steps m (facts.Entry dom gref word) early at found =
     let f = finds k caller s x u w m dom gref word at found in
     let low = early (position_in k.ids dom) gref.0 in let high = f.not_earlier in
@@ -137,14 +139,14 @@ carried-facts k caller v u w s x steps m facts.None early at found = tt
 carried-facts k caller v u w s x steps m (facts.Policy source target perm) early at found = tt
 carried-facts k caller v u w s x steps m (facts.Field field) early at found = tt
 
-carried-verdict : (k : Layout) (caller : DomId) (v u w : View) (s : Step) (x : Seen) (steps : List SeatStep) (m : Made k s x u w) (verdict : Verdict) → IsSame v u → v.position ≡ position_in k.ids caller → TellsFound caller s x verdict
+carried-verdict : (k : Layout) (caller : DomId) (v u w : View) (s : Step) (x : Seen) (steps : List Moment) (m : Made k s x u w) (verdict : Verdict) → IsSame v u → v.position ≡ position_in k.ids caller → TellsFound caller s x verdict
     → TellsSteps k v ((made-gains k s x u w m).step ∷ steps) verdict
 carried-verdict k caller v u w s x steps m (Refused denial) same at found = carried-facts k caller v u w s x steps m denial.facts same.seen (same.position ∙ at) found
 carried-verdict k caller v u w s x steps m Granted same at found = tt
 carried-verdict k caller v u w s x steps m (Given value) same at found = tt
 carried-verdict k caller v u w s x steps m (Mapped p) same at found = tt
 
-carried-so : (k : Layout) (caller : DomId) (v u w : View) (s : Step) (x : Seen) (steps : List SeatStep) (m : Made k s x u w) (action : Action) → IsSame v u → v.position ≡ position_in k.ids caller → EndsSo caller s x action
+carried-so : (k : Layout) (caller : DomId) (v u w : View) (s : Step) (x : Seen) (steps : List Moment) (m : Made k s x u w) (action : Action) → IsSame v u → v.position ≡ position_in k.ids caller → EndsSo caller s x action
     → ActionTells k v ((made-gains k s x u w m).step ∷ steps) action
 carried-so k caller v u w s x steps m (Makes next) same at ends = tt
 carried-so k caller v u w s x steps m (Done verdict) same at ends = carried-verdict k caller v u w s x steps m verdict same at ends.1

@@ -24,12 +24,12 @@ use Rattle.gt_words.specs.Views.{HasBody, is_pin, pins_like, IsIn, LivePin, Seen
 use Rattle.gt_words.specs.declared.view.EntryStep.{EntryStep}
 use Rattle.gt_entry.specs.declared.change.Half.TheVariants.{First as FirstHalf, Second as SecondHalf}
 use Rattle.gt_words.specs.declared.view.EntryRecord.{EntryRecord}
-use Rattle.gt_words.specs.declared.view.SeatStep.{SeatStep}
+use Rattle.gt_words.specs.History.{Moment}
 use Rattle.gt_words.specs.declared.view.View.{View}
 use Rattle.gt_handles.specs.declared.handles.Handle.{Handle}
 use Rattle.gt_calls.specs.declared.action.Action.TheVariants.{Step as Makes}
 use Rattle.gt_entry.specs.declared.change.Change.{Change}
-use Rattle.gt_entry.specs.declared.change.Change.TheVariants.{Publish, Revoke as ToInvalid, Demote as ToReadOnly, Promote as ToWritable}
+use Rattle.gt_entry.specs.declared.change.Change.TheVariants.{Publish, Revoke as ToInvalid, Withdraw as ToWithdrawn, Demote as ToReadOnly, Promote as ToWritable}
 use Rattle.gt_calls.specs.declared.action.Seen.{Seen}
 use Rattle.gt_calls.specs.declared.action.Seen.TheVariants.{Nothing, Word, Taken, Missed}
 use Rattle.gt_calls.specs.declared.action.Step.{Step}
@@ -58,7 +58,7 @@ use Rattle.gt_live.specs.Walks.{IsWalk, Made, after, shown}
 use Rattle.gt_live.proofs.Making.{look-same, same-then}
 use Rattle.gt_live.proofs.Rules.{idle-is, is-there, lets-page, page-seen, page-spelled, room-for}
 use Rattle.gt_live.proofs.Counting.{count-cons, dir-self}
-use Rattle.gt_live.proofs.Walking.{few-entries, in-seen-table, made-last, read-page}
+use Rattle.gt_live.proofs.Walking.{after-position, few-entries, in-seen-table, made-last, read-page}
 
 -- a domain at a place of the run is found there or before
 found-by : (ids : List DomId) (p : ℕ) → p < length ids → position_or_len (λ (x : DomId). x.0 == (id_at ids p).0) ids < length ids
@@ -131,7 +131,7 @@ module _ (c : CallerKnowledge) (k : Layout) (caller : DomId) (v : View) (knows :
   row : (w : View) → IsSame v w → (q : ℕ) → q < 2048 → last_of q w ≡ record { generation = c.generation q; entry = c.entry q }
   row w same q lt = same.records q ∙ knows.rows q lt
 
-  tried : (request : Asked) (held : HeldPins) (steps : List SeatStep) (way : Continuation) (p : Held) → WaitsForNobody request → IsWalk k way v steps → RestsOnTry c caller request held way (shown steps) p → Tried c k caller request p (after steps v)
+  tried : (request : Asked) (held : HeldPins) (steps : List Moment) (way : Continuation) (p : Held) → WaitsForNobody request → IsWalk k way v steps → RestsOnTry c caller request held way (shown steps) p → Tried c k caller request p (after steps v)
   tried request held steps way p waits walk r = by r.aim r.aimed
     where
       of-map : IsOfMap c caller request r.leg → Tried c k caller request p (after steps v)
@@ -194,7 +194,7 @@ module _ (c : CallerKnowledge) (k : Layout) (caller : DomId) (v : View) (knows :
       by SecondHalf x = here x.0 x.1
 
   -- the body words stored spell the entry
-  stored : (steps : List SeatStep) (way : Continuation) (q : GrantRef) (e : Entry) → e ≢ Invalid → IsWalk k way v steps → HasStored way q e (shown steps) → IsSpelled e (own_body q.0 FirstHalf (after steps v)) (own_body q.0 SecondHalf (after steps v))
+  stored : (steps : List Moment) (way : Continuation) (q : GrantRef) (e : Entry) → e ≢ Invalid → IsWalk k way v steps → HasStored way q e (shown steps) → IsSpelled e (own_body q.0 FirstHalf (after steps v)) (own_body q.0 SecondHalf (after steps v))
   stored steps way q Invalid ne walk r = absurd (ne refl)
   stored steps way q (Page dom ro frame) ne walk r = (made-last k way v steps [] Nothing (StoreBody q FirstHalf (first_body (Page dom ro frame))) walk r.0 r.1).made.stored
   stored steps way q (Via dom ro dom2 gref) ne walk r = (made-last k way v steps [] Nothing (StoreBody q FirstHalf (first_body (Via dom ro dom2 gref))) walk r.0 r.1).made.stored
@@ -202,14 +202,14 @@ module _ (c : CallerKnowledge) (k : Layout) (caller : DomId) (v : View) (knows :
       let e = Sub dom ro frame off len in
       let two = made-last k way v steps (Nothing ∷ []) Nothing (StoreBody q SecondHalf (second_body e)) walk r.0 r.2 in
       let one = made-last k way v two.rest [] Nothing (StoreBody q FirstHalf (first_body e)) two.walked two.shown_is r.1 in
-      let first : own_body q.0 FirstHalf (after steps v) ≡ own_body q.0 FirstHalf (after two.rest v) = ap (λ (ms : List EntryStep). stored_body FirstHalf ms) two.made.steps.adds.here in
+      let first : own_body q.0 FirstHalf (after steps v) ≡ own_body q.0 FirstHalf (after two.rest v) = two.made.other_half FirstHalf (λ z. cc) in
       (first ∙ one.made.stored, two.made.stored)
 
   -- an owner's exchange that is tried once
   once : (w : View) → IsSame v w → (q : GrantRef) → q.0 < 2048 → IsIdleOf (last_of q.0 w) (idle_word c q)
   once w same q lt = idle-is (c.entry q.0) (c.generation q.0) ∙ ap (λ (y : EntryRecord). idle_word_of y.entry y.generation) (sym (row w same q.0 lt))
 
-  can-publish : (request : Asked) (steps : List SeatStep) (way : Continuation) (q : GrantRef) (looked : ℕ) (e : Entry) → IsWalk k way v steps → IsSame v (after steps v) → begun c caller request ≡ None
+  can-publish : (request : Asked) (steps : List Moment) (way : Continuation) (q : GrantRef) (looked : ℕ) (e : Entry) → IsWalk k way v steps → IsSame v (after steps v) → begun c caller request ≡ None
       → (request ≡ asks.Grant q e) × (looked ≡ idle_word c q) × HasStored way q e (shown steps) → CanMake k (after steps v) (Exchange q looked (Publish e))
   can-publish request steps way q looked e walk same none r =
       let w = after steps v in
@@ -235,10 +235,17 @@ module _ (c : CallerKnowledge) (k : Layout) (caller : DomId) (v : View) (knows :
       (lt, record { idle = r.1 ∙ once w same q lt; some = own-valid w q same lt o.valid })
 
   -- the word of the caller's own entry that it looked at last
-  own-look : (steps : List SeatStep) (way : Continuation) (q : GrantRef) (word : ℕ) → IsWalk k way v steps → LookedLast way caller q word [] (shown steps) → IsWordOf (last_of q.0 (after steps v)) word
-  own-look steps way q word walk r = (made-last k way v steps r.before (Word word) (LookControl caller q) walk r.shown_is r.looked).made.1 (sym knows.named)
+  own-look : (steps : List Moment) (way : Continuation) (q : GrantRef) (word : ℕ) → IsWalk k way v steps → LookedLast way caller q word [] (shown steps) → IsWordOf (last_of q.0 (after steps v)) word
+  own-look steps way q word walk r = let m = made-last k way v steps r.before (Word word) (LookControl caller q) walk r.shown_is r.looked in
+      m.made.1 (sym knows.named ∙ ap (λ (i : ℕ). id_at k.ids i) (sym (after-position m.rest v)))
 
-  can-turn : (ro : Bool) (change : Change) (steps : List SeatStep) (way : Continuation) (q : GrantRef) (looked : ℕ) → IsWalk k way v steps → IsSame v (after steps v) → OpensTurn c change q → is_read_only (c.entry q.0) ≡ ro
+  can-withdraw : (request : Asked) (steps : List Moment) (way : Continuation) (q : GrantRef) (looked : ℕ) → IsWalk k way v steps → IsSame v (after steps v) → begun c caller request ≡ None
+      → (request ≡ asks.Withdraw q) × LookedLast way caller q looked [] (shown steps) × (is_stopped ToWithdrawn (control_of looked) ≡ false) → CanMake k (after steps v) (Exchange q looked ToWithdrawn)
+  can-withdraw request steps way q looked walk same none r =
+      let o = opens c caller (asks.Withdraw q) (subst (λ (x : Asked). begun c caller x ≡ None) r.0 none) in let lt = in-own q.0 o.in_table in
+      (lt, record { word_is = own-look steps way q looked walk r.1; some = own-valid (after steps v) q same lt o.valid })
+
+  can-turn : (ro : Bool) (change : Change) (steps : List Moment) (way : Continuation) (q : GrantRef) (looked : ℕ) → IsWalk k way v steps → IsSame v (after steps v) → OpensTurn c change q → is_read_only (c.entry q.0) ≡ ro
       → LookedLast way caller q looked [] (shown steps) → (q.0 < 2048) × CanTurn ro q.0 looked (after steps v)
   can-turn ro change steps way q looked walk same o now r =
       let w = after steps v in let lt = in-own q.0 o.in_table in let here = row w same q.0 lt in
@@ -252,7 +259,7 @@ module _ (c : CallerKnowledge) (k : Layout) (caller : DomId) (v : View) (knows :
         },
       )
 
-  can-demote : (request : Asked) (steps : List SeatStep) (way : Continuation) (q : GrantRef) (looked : ℕ) → IsWalk k way v steps → IsSame v (after steps v) → begun c caller request ≡ None
+  can-demote : (request : Asked) (steps : List Moment) (way : Continuation) (q : GrantRef) (looked : ℕ) → IsWalk k way v steps → IsSame v (after steps v) → begun c caller request ≡ None
       → (request ≡ asks.Demote q) × LookedLast way caller q looked [] (shown steps) × (is_stopped ToReadOnly (control_of looked) ≡ false) → CanMake k (after steps v) (Exchange q looked ToReadOnly)
   can-demote request steps way q looked walk same none r =
       let o = opens c caller (asks.Demote q) (subst (λ (x : Asked). begun c caller x ≡ None) r.0 none) in
@@ -260,7 +267,7 @@ module _ (c : CallerKnowledge) (k : Layout) (caller : DomId) (v : View) (knows :
       let none_left = ltb-false 0 (pins_in Write looked) r.2 in
       (turn.0, (turn.1, omega (arith, none_left)))
 
-  can-promote : (request : Asked) (steps : List SeatStep) (way : Continuation) (q : GrantRef) (looked : ℕ) → IsWalk k way v steps → IsSame v (after steps v) → begun c caller request ≡ None
+  can-promote : (request : Asked) (steps : List Moment) (way : Continuation) (q : GrantRef) (looked : ℕ) → IsWalk k way v steps → IsSame v (after steps v) → begun c caller request ≡ None
       → (request ≡ asks.Promote q) × LookedLast way caller q looked [] (shown steps) × (is_stopped ToWritable (control_of looked) ≡ false) → CanMake k (after steps v) (Exchange q looked ToWritable)
   can-promote request steps way q looked walk same none r =
       let o = opens c caller (asks.Promote q) (subst (λ (x : Asked). begun c caller x ≡ None) r.0 none) in
@@ -277,7 +284,7 @@ module _ (c : CallerKnowledge) (k : Layout) (caller : DomId) (v : View) (knows :
       record { version = subst (λ (n : ℕ). (n ≡ 1) ⊎ (n ≡ 2)) (sym r.1) knows.header.version; some = omega (arith, larger); few = omega (arith, within) }
 
   -- the step that comes next can be made
-  pub can-make : (request : Asked) (held : HeldPins) (steps : List SeatStep) (s : Step) → WaitsForNobody request → IsWalk k (path c caller request) v steps → IsSame v (after steps v) → last_first held ≡ []
+  pub can-make : (request : Asked) (held : HeldPins) (steps : List Moment) (s : Step) → WaitsForNobody request → IsWalk k (path c caller request) v steps → IsSame v (after steps v) → last_first held ≡ []
       → Rests c caller request held (shown steps) (Makes s) → CanMake k (after steps v) s
   can-make request held steps (LookHeader d) waits walk same free r = named-run d r.1
   can-make request held steps (LookControl d q) waits walk same free r = by r.1
@@ -294,7 +301,13 @@ module _ (c : CallerKnowledge) (k : Layout) (caller : DomId) (v : View) (knows :
           looked = (t.saw, t.word, t.body);
           valid = λ gone. let k1 = t.page in absurd (cc);
           room = t.few;
-          permitted = inl (ForMap, 0, 0, ap (λ (x : EntryRecord). permits x.entry (id_at k.ids v.position) p.dir ForMap 0 0) t.spelled ∙ (ap (λ (d : DomId). permits p.entry d p.dir ForMap 0 0) knows.named ∙ t.permitted));
+          permitted = inl (
+            ForMap,
+            0,
+            0,
+            ap (λ (x : EntryRecord). permits x.entry (id_at k.ids (after steps v).position) p.dir ForMap 0 0) t.spelled
+                ∙ (ap (λ (i : ℕ). permits p.entry (id_at k.ids i) p.dir ForMap 0 0) (after-position steps v) ∙ (ap (λ (d : DomId). permits p.entry d p.dir ForMap 0 0) knows.named ∙ t.permitted)),
+          );
         },
       )
   can-make request held steps (Unpin p (ByHandle handle)) waits walk same free r =
@@ -304,6 +317,7 @@ module _ (c : CallerKnowledge) (k : Layout) (caller : DomId) (v : View) (knows :
   can-make request held steps (StoreHeader version frames) waits walk same free r = can-header request version frames r.0 r.1
   can-make request held steps (Exchange q looked (Publish e)) waits walk same free r = can-publish request steps (path c caller request) q looked e walk same r.0 r.1
   can-make request held steps (Exchange q looked ToInvalid) waits walk same free r = can-revoke request (after steps v) q looked same r.0 r.1
+  can-make request held steps (Exchange q looked ToWithdrawn) waits walk same free r = can-withdraw request steps (path c caller request) q looked walk same r.0 r.1
   can-make request held steps (Exchange q looked ToReadOnly) waits walk same free r = can-demote request steps (path c caller request) q looked walk same r.0 r.1
   can-make request held steps (Exchange q looked ToWritable) waits walk same free r = can-promote request steps (path c caller request) q looked walk same r.0 r.1
   can-make request held steps (ReadBytes d frame off len) waits walk same free r = by r.1
@@ -329,7 +343,7 @@ module _ (c : CallerKnowledge) (k : Layout) (caller : DomId) (v : View) (knows :
         omega (arith, left),
       )
 
-  pub left-pinned : (request : Asked) (held : HeldPins) (steps : List SeatStep) (p : Held) (w' : View) → WaitsForNobody request → IsWalk k (path c caller request) v steps → IsSame v (after steps v)
+  pub left-pinned : (request : Asked) (held : HeldPins) (steps : List Moment) (p : Held) (w' : View) → WaitsForNobody request → IsWalk k (path c caller request) v steps → IsSame v (after steps v)
       → Rests c caller request held (shown steps) (Makes (Pin p)) → Pins k (position_in k.ids p.dom) p.gref.0 p.dir p.word (after steps v) w' → MapsBy c k caller request p v w'
   left-pinned request held steps p w' waits walk same r m =
       let w = after steps v in let at = position_in k.ids p.dom in
@@ -359,6 +373,8 @@ module _ (c : CallerKnowledge) (k : Layout) (caller : DomId) (v : View) (knows :
       let o = grant-opens request q e r.0 r.1.0 in let lt = in-own q.0 o.in_table in let few = knows.generations q.0 lt in let worn = o.not_worn in (lt, omega (arith, few, worn), subst (λ (x : Asked). IsOwnChange x) (sym r.1.0) tt)
   own-change request held shown_so q looked ToInvalid r =
       let o = opens c caller (asks.Revoke q) (subst (λ (x : Asked). begun c caller x ≡ None) r.1.0 r.0) in let lt = in-own q.0 o.in_table in let few = knows.generations q.0 lt in (lt, omega (arith, few), subst (λ (x : Asked). IsOwnChange x) (sym r.1.0) tt)
+  own-change request held shown_so q looked ToWithdrawn r =
+      let o = opens c caller (asks.Withdraw q) (subst (λ (x : Asked). begun c caller x ≡ None) r.1.0 r.0) in let lt = in-own q.0 o.in_table in let few = knows.generations q.0 lt in (lt, omega (arith, few), subst (λ (x : Asked). IsOwnChange x) (sym r.1.0) tt)
   own-change request held shown_so q looked ToReadOnly r =
       let o = opens c caller (asks.Demote q) (subst (λ (x : Asked). begun c caller x ≡ None) r.1.0 r.0) in let lt = in-own q.0 o.in_table in let few = knows.generations q.0 lt in let worn = o.not_worn in (lt, omega (arith, few, worn), subst (λ (x : Asked). IsOwnChange x) (sym r.1.0) tt)
   own-change request held shown_so q looked ToWritable r =
@@ -369,7 +385,7 @@ module _ (c : CallerKnowledge) (k : Layout) (caller : DomId) (v : View) (knows :
   header-asked request version frames (inr r) = subst (λ (x : Asked). IsHeaderChange x) (sym r.0) tt
 
   -- a call left its seat by what its last step did
-  pub leaves : (request : Asked) (held : HeldPins) (steps : List SeatStep) (s : Step) (x : Seen) (w' : View) → WaitsForNobody request → IsWalk k (path c caller request) v steps → IsSame v (after steps v) → last_first held ≡ []
+  pub leaves : (request : Asked) (held : HeldPins) (steps : List Moment) (s : Step) (x : Seen) (w' : View) → WaitsForNobody request → IsWalk k (path c caller request) v steps → IsSame v (after steps v) → last_first held ≡ []
       → Rests c caller request held (shown steps) (Makes s) → Made k s x (after steps v) w' → Leaves c k caller request v w' (effect_of s x)
   leaves request held steps (LookHeader d) (Word n) w' waits walk same free r m = same-then v (after steps v) w' same (look-same k (LookHeader d) (Word n) (after steps v) w' m tt)
   leaves request held steps (LookControl d q) (Word n) w' waits walk same free r m = same-then v (after steps v) w' same (look-same k (LookControl d q) (Word n) (after steps v) w' m tt)
@@ -380,10 +396,13 @@ module _ (c : CallerKnowledge) (k : Layout) (caller : DomId) (v : View) (knows :
   leaves request held steps (Pin p) (Missed n) w' waits walk same free r m = same-then v (after steps v) w' same (look-same k (Pin p) (Missed n) (after steps v) w' m tt)
   leaves request held steps (Unpin p (ByHandle handle)) Nothing w' waits walk same free r m = record { asked = r.1.0; mapping = p; found = r.1.1; before = after steps v; same = same; unpins = m }
   leaves request held steps (Unpin p (ByLeg place)) x w' waits walk same free r m = let some = r.1.held in absurd (cc)
-  leaves request held steps (Exchange q looked (Publish e)) Taken w' waits walk same free r m = let o = own-change request held (shown steps) q looked (Publish e) r in left-changed q (Publish e) (after steps v) w' o.0 o.1 same looked m request o.2
+  leaves request held steps (Exchange q looked (Publish e)) Taken w' waits walk same free r m = let o = own-change request held (shown steps) q looked (Publish e) r in left-changed q (Publish e) (after steps v) w' o.0 o.1 same looked m.changes request o.2
   leaves request held steps (Exchange q looked ToInvalid) Taken w' waits walk same free r m = let o = own-change request held (shown steps) q looked ToInvalid r in left-changed q ToInvalid (after steps v) w' o.0 o.1 same looked m.changes request o.2
+  leaves request held steps (Exchange q looked ToWithdrawn) Taken w' waits walk same free r m = let o = own-change request held (shown steps) q looked ToWithdrawn r in left-changed q ToWithdrawn (after steps v) w' o.0 o.1 same looked m request o.2
   leaves request held steps (Exchange q looked ToReadOnly) Taken w' waits walk same free r m = let o = own-change request held (shown steps) q looked ToReadOnly r in left-changed q ToReadOnly (after steps v) w' o.0 o.1 same looked m.changes request o.2
   leaves request held steps (Exchange q looked ToWritable) Taken w' waits walk same free r m = let o = own-change request held (shown steps) q looked ToWritable r in left-changed q ToWritable (after steps v) w' o.0 o.1 same looked m request o.2
+  leaves request held steps (Exchange q looked (Publish e)) (Missed n) w' waits walk same free r m = same-then v (after steps v) w' same (look-same k (Exchange q looked (Publish e)) (Missed n) (after steps v) w' m tt)
+  leaves request held steps (Exchange q looked ToWithdrawn) (Missed n) w' waits walk same free r m = same-then v (after steps v) w' same (look-same k (Exchange q looked ToWithdrawn) (Missed n) (after steps v) w' m tt)
   leaves request held steps (Exchange q looked ToInvalid) (Missed n) w' waits walk same free r m = same-then v (after steps v) w' same (look-same k (Exchange q looked ToInvalid) (Missed n) (after steps v) w' m tt)
   leaves request held steps (Exchange q looked ToReadOnly) (Missed n) w' waits walk same free r m = same-then v (after steps v) w' same (look-same k (Exchange q looked ToReadOnly) (Missed n) (after steps v) w' m tt)
   leaves request held steps (Exchange q looked ToWritable) (Missed n) w' waits walk same free r m = same-then v (after steps v) w' same (look-same k (Exchange q looked ToWritable) (Missed n) (after steps v) w' m tt)

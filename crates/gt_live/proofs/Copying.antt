@@ -19,7 +19,7 @@ use Rattle.gt_entry.specs.declared.control.Control.{Control}
 use Rattle.gt_entry.specs.declared.control.Kind.{Kind}
 use Rattle.gt_entry.specs.declared.control.Kind.TheVariants.{Invalid as KindInvalid, Page as KindPage, Sub as KindSub, Via as KindVia}
 use Rattle.gt_entry.specs.declared.change.Half.TheVariants.{First as FirstHalf, Second as SecondHalf}
-use Rattle.gt_entry.specs.declared.change.Change.TheVariants.{Publish, Revoke as ToInvalid, Demote as ToReadOnly, Promote as ToWritable}
+use Rattle.gt_entry.specs.declared.change.Change.TheVariants.{Publish, Revoke as ToInvalid, Withdraw as ToWithdrawn, Demote as ToReadOnly, Promote as ToWritable}
 use Rattle.gt_entry.specs.Permits.{forwards, permits}
 use Rattle.gt_entry.specs.Spelling.{entry_of, entry_with}
 use Rattle.gt_entry.specs.Words.{control_of, header_of, is_kind, kind_of, size_of}
@@ -30,6 +30,7 @@ use Rattle.gt_words.specs.Laws.{domain_at}
 use Rattle.gt_words.specs.Rule.{Layout, id_at, position_in}
 use Rattle.gt_words.specs.Views.{HasBody, Seen as Looks, last_seen, record_seen, seen, seen_or_none, steps_on, value_or_zero, with_body}
 use Rattle.gt_words.specs.declared.view.EntryRecord.{EntryRecord}
+use Rattle.gt_words.specs.History.{Moment}
 use Rattle.gt_words.specs.declared.view.SeatStep.{SeatStep}
 use Rattle.gt_words.specs.declared.view.View.{View}
 use Rattle.gt_calls.specs.declared.action.Action.TheVariants.{Step as Makes}
@@ -74,13 +75,13 @@ use Rattle.gt_live.proofs.Making.{IsLook, look-same, made-gains}
 use Rattle.gt_live.proofs.Once.{via-refused}
 use Rattle.gt_live.proofs.Rules.{none-stands, room-for}
 use Rattle.gt_live.proofs.Taking.{has-pin, holds-taken, taken-look, taken-pin, taken-unpin}
-use Rattle.gt_live.proofs.Walking.{in-seen-table, made-last, read-page}
+use Rattle.gt_live.proofs.Walking.{after-position, in-seen-table, made-last, read-page}
 
 -- what a seat saw of an entry whose words were read, the second body word of a sub-page alone
 abbrev pub words_seen : ℕ → ℕ → ℕ → Looks
 words_seen word body second = record { word = word; first = Some body; second = cond (is_kind (control_of word).kind KindSub) (Some second) None }
 
-read-words : (k : Layout) (way : Continuation) (v : View) (steps : List SeatStep) (dom : DomId) (gref : GrantRef) (word body second : ℕ) → IsWalk k way v steps → HasRead way dom gref word body second (shown steps)
+read-words : (k : Layout) (way : Continuation) (v : View) (steps : List Moment) (dom : DomId) (gref : GrantRef) (word body second : ℕ) → IsWalk k way v steps → HasRead way dom gref word body second (shown steps)
     → seen (steps_on (position_in k.ids dom) gref.0 (after steps v)) ≡ Some (words_seen word body second)
 read-words k way v steps dom gref word body second walk r = by (is_kind (control_of word).kind KindSub) refl
   where
@@ -146,7 +147,7 @@ IsEnd Mapping = ⊥
 IsEnd (Source copy via) = Unit {0}
 IsEnd (Dest copy source via) = Unit {0}
 
-an-end : (k : Layout) (v : View) (steps : List SeatStep) (aim : Aim) (l : Leg) (at : LegPhase) → StandsInCopy k v steps (Walking aim l at) → IsEnd aim
+an-end : (k : Layout) (v : View) (steps : List Moment) (aim : Aim) (l : Leg) (at : LegPhase) → StandsInCopy k v steps (Walking aim l at) → IsEnd aim
 an-end k v steps Mapping l at is = absurd is
 an-end k v steps (Source copy via) l at is = tt
 an-end k v steps (Dest copy source via) l at is = tt
@@ -167,7 +168,7 @@ pub one-fewer : (pins : HeldPins) (p : Held) (ps : List Held) → last_first pin
 one-fewer pins p ps e = fewer pins.source pins.dest ∙ ap tail_of e
 
 -- a word found is found still after one step more
-still-found : (k : Layout) (v : View) (x : SeatStep) (steps : List SeatStep) (f : Facts) → CarriesFound k v steps f → CarriesFound k v (x ∷ steps) f
+still-found : (k : Layout) (v : View) (x : Moment) (steps : List Moment) (f : Facts) → CarriesFound k v steps f → CarriesFound k v (x ∷ steps) f
 still-found k v x steps (facts.Entry dom gref word) is = record { step = is.step; taken = inr is.taken; found = is.found; not_earlier = is.not_earlier }
 still-found k v x steps (facts.Header dom word) is = inr is
 still-found k v x steps facts.None is = tt
@@ -218,7 +219,7 @@ module _ (c : CallerKnowledge) (k : Layout) (caller : DomId) (v : View) (knows :
     pub can : CanPin k (position_in k.ids p.dom) p.gref.0 p.dir p.word w
     pub spelled : record_seen (last_seen (position_in k.ids p.dom) p.gref.0 w) ≡ record_of p
 
-  pub tries-pin : (request : Asked) → IsCopy request → (held : HeldPins) (steps : List SeatStep) (p : Held) → IsWalk k (path c caller request) v steps → HasTaken k (last_first held) v (after steps v) → AreOfRun k (last_first held)
+  pub tries-pin : (request : Asked) → IsCopy request → (held : HeldPins) (steps : List Moment) (p : Held) → IsWalk k (path c caller request) v steps → HasTaken k (last_first held) v (after steps v) → AreOfRun k (last_first held)
       → RestsOnTry c caller request held (path c caller request) (shown steps) p → Tries p (after steps v)
   tries-pin request copies held steps p walk x all r =
       let w = after steps v in let l = r.leg in let at = position_in k.ids p.dom in let way = path c caller request in
@@ -230,7 +231,7 @@ module _ (c : CallerKnowledge) (k : Layout) (caller : DomId) (v : View) (knows :
       let here : record_seen (last_seen at p.gref.0 w) ≡ record_of p = ap record_seen last ∙ spelled in
       let dirs : p.dir ≡ l.dir = ap (λ (y : Held). y.dir) r.pin_is in
       let run = named-run c k caller v knows p.dom r.of_run in
-      let may = may-pin request copies r.aim l p w r.aimed knows.named (ap (λ (y : Held). y.dom) r.pin_is) (ap (λ (y : Held). y.gref) r.pin_is) run
+      let may = may-pin request copies r.aim l p w r.aimed (ap (λ (i : ℕ). id_at k.ids i) (after-position steps v) ∙ knows.named) (ap (λ (y : Held). y.dom) r.pin_is) (ap (λ (y : Held). y.gref) r.pin_is) run
       (subst (λ (h : HeldPins). HasTaken k (last_first h) v w) r.held x) (subst (λ (h : HeldPins). AreOfRun k (last_first h)) r.held all) r.lets in
       let valid = none-stands (is_kind (control_of p.word).kind KindInvalid) N10 _ r.first in
       let second_too : kind_of p.word ≡ KindSub → IsSome s.second = λ e. subst (λ (b : Bool). IsSome (cond b (Some r.second) None)) (sym (ap (λ (y : Kind). is_kind y KindSub) e)) refl in
@@ -247,7 +248,7 @@ module _ (c : CallerKnowledge) (k : Layout) (caller : DomId) (v : View) (knows :
       }
 
   -- the step that comes next can be made, where it is no access
-  pub can-walk : (request : Asked) → IsCopy request → (held : HeldPins) (steps : List SeatStep) (s : Step) → IsWalk k (path c caller request) v steps → HasTaken k (last_first held) v (after steps v) → AreOfRun k (last_first held)
+  pub can-walk : (request : Asked) → IsCopy request → (held : HeldPins) (steps : List Moment) (s : Step) → IsWalk k (path c caller request) v steps → HasTaken k (last_first held) v (after steps v) → AreOfRun k (last_first held)
       → Rests c caller request held (shown steps) (Makes s) → ((from to : Place) (len : ℕ) → s ≡ CopyBytes from to len → ⊥) → CanMake k (after steps v) s
   can-walk request copies held steps (LookHeader d) walk x all r other = named-run c k caller v knows d r.1
   can-walk request copies held steps (LookControl d q) walk x all r other = by r.1
@@ -270,6 +271,7 @@ module _ (c : CallerKnowledge) (k : Layout) (caller : DomId) (v : View) (knows :
       by (inr y) = absurd (subst (λ (z : Asked). IsCopy z) y.0 copies)
   can-walk request copies held steps (Exchange q looked (Publish e)) walk x all r other = absurd (subst (λ (y : Asked). IsCopy y) r.1.0 copies)
   can-walk request copies held steps (Exchange q looked ToInvalid) walk x all r other = absurd (subst (λ (y : Asked). IsCopy y) r.1.0 copies)
+  can-walk request copies held steps (Exchange q looked ToWithdrawn) walk x all r other = absurd (subst (λ (y : Asked). IsCopy y) r.1.0 copies)
   can-walk request copies held steps (Exchange q looked ToReadOnly) walk x all r other = absurd (subst (λ (y : Asked). IsCopy y) r.1.0 copies)
   can-walk request copies held steps (Exchange q looked ToWritable) walk x all r other = absurd (subst (λ (y : Asked). IsCopy y) r.1.0 copies)
   can-walk request copies held steps (ReadBytes d frame off len) walk x all r other = by r.1
@@ -286,7 +288,7 @@ module _ (c : CallerKnowledge) (k : Layout) (caller : DomId) (v : View) (knows :
 
   -- where a copy stands after a step
 
-  module _ (w : View) (steps : List SeatStep) where
+  module _ (w : View) (steps : List Moment) where
     walking-stands : (aim : Aim) (l : Leg) (at : LegPhase) → IsEnd aim → HasTaken k (last_first (pins_so_far aim)) v w → AreOfRun k (last_first (pins_so_far aim)) → StandsWell k v w steps (Walking aim l at)
     walking-stands Mapping l at is x all = absurd is
     walking-stands (Source copy via) l at is x all = record { stays = tt; taken = x; of_run = all }
@@ -329,10 +331,10 @@ module _ (c : CallerKnowledge) (k : Layout) (caller : DomId) (v : View) (knows :
         by (Sub dom ro frame off len) = record { stays = tt; taken = x; of_run = all }
     pin-stands (Dest copy source (Some via)) l p is x all = record { stays = tt; taken = x; of_run = all }
 
-  module _ (u w : View) (steps : List SeatStep) (low : SeesNoEarlier v u) (still : u.position ≡ v.position) where
+  module _ (u w : View) (steps : List Moment) (low : SeesNoEarlier v u) (still : u.position ≡ v.position) where
     -- a leg that goes on, or is refused by the word that its step found
     module _ (aim : Aim) (l : Leg) (s : Step) (x : Seen) (m : Made k s x u w) (is : IsEnd aim) (taken : HasTaken k (last_first (pins_so_far aim)) v w) (all : AreOfRun k (last_first (pins_so_far aim))) where
-      abbrev pub now : List SeatStep
+      abbrev pub now : List Moment
       now = (made-gains k s x u w m).step ∷ steps
 
       goes : (at : LegPhase) → StandsWell k v w now (after_leg c caller aim l (Going at))

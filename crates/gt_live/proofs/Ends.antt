@@ -16,7 +16,7 @@ use Rattle.gt_entry.specs.Words.{control_of, header_of, size_of}
 use Rattle.gt_calls.specs.declared.action.Action.{Action}
 use Rattle.gt_calls.specs.declared.action.Action.TheVariants.{Step as Makes, Done}
 use Rattle.gt_entry.specs.declared.change.Change.{Change}
-use Rattle.gt_entry.specs.declared.change.Change.TheVariants.{Publish, Revoke as ToInvalid, Demote as ToReadOnly, Promote as ToWritable}
+use Rattle.gt_entry.specs.declared.change.Change.TheVariants.{Publish, Revoke as ToInvalid, Withdraw as ToWithdrawn, Demote as ToReadOnly, Promote as ToWritable}
 use Rattle.gt_entry.specs.declared.change.Half.{Half}
 use Rattle.gt_entry.specs.declared.change.Half.TheVariants.{First, Second}
 use Rattle.gt_calls.specs.declared.action.Seen.{Seen}
@@ -34,7 +34,7 @@ use Rattle.gt_handles.specs.declared.handles.Handle.{Handle}
 use Rattle.gt_calls.specs.declared.leg.Leg.{Leg}
 use Rattle.gt_calls.specs.declared.request.Holder.TheVariants.{Mapping as ByHandle}
 use Rattle.gt_calls.specs.Rules.{CallerKnowledge, begun, first_look, is_kind, first_body, second_body}
-use Rattle.gt_calls.specs.Path.{Continuation, AfterRefusal, AfterPin, after_beginning, at_first_look, by_mapping, busy, ended, entry_refusal, exchanges, exchanges_once, grants, held_of, idle_word, is_stopped, last_step, leg, looks, looks_again, makes, map_leg, nowhere, path, pins, publishes, reads_body, reads_second, refused_at, refused_holding, rule_of_try, steps_of, stores_second, told, tries, try_pin, turn, turns}
+use Rattle.gt_calls.specs.Path.{Continuation, AfterRefusal, AfterPin, after_beginning, at_first_look, by_mapping, ended, entry_refusal, exchanges, exchanges_once, grants, held_of, idle_word, is_stopped, last_step, leg, looks, looks_again, makes, map_leg, path, pins, publishes, reads_body, reads_second, refused_at, refused_holding, rule_of_try, steps_of, stores_second, told, tries, try_pin, turn, turns}
 use Rattle.gt_live.specs.declared.driving.Effect.{Effect}
 use Rattle.gt_live.specs.declared.driving.Effect.TheVariants as effects
 use Rattle.gt_live.specs.Effects.{Answers, EndsSo, IsFound, IsFoundAt, effect_of}
@@ -51,9 +51,6 @@ module _ (caller : DomId) where
     pub answers : (vs : List Seen) (verdict : Verdict) → way vs ≡ Some (Done verdict) → P verdict
 
   module _ (P : Verdict → Type 0) where
-    nowhere-sound : Sound P nowhere
-    nowhere-sound = record { ends = λ vs s x a e. absurd (cc); answers = λ vs verdict e. absurd (cc) }
-
     ended-sound : (verdict : Verdict) → P verdict → Sound P (ended verdict)
     ended-sound verdict p = record { ends = ends; answers = answers }
       where
@@ -282,19 +279,8 @@ module _ (caller : DomId) where
 
   once-sound : (gref : GrantRef) (looked : ℕ) (change : Change) → Sound OkOrRefused (exchanges_once caller gref looked change)
   once-sound gref looked change =
-      exchanges-sound OkOrRefused (Exchange gref looked change) looked (ended Granted) (busy caller gref change) (exchange-taken gref looked change) (opened change) granted (sound change)
-    where
-      opened : (c : Change) (w : ℕ) → Opens (Exchange gref looked change) (Missed w) (busy caller gref c w)
-      opened (Publish entry) w = λ a e. absurd (cc)
-      opened ToInvalid w = then-refused (Exchange gref looked change) (Missed w) (entry_refusal caller gref N19 w) refl (refl, refl, refl)
-      opened ToReadOnly w = then-refused (Exchange gref looked change) (Missed w) (entry_refusal caller gref N19 w) refl (refl, refl, refl)
-      opened ToWritable w = then-refused (Exchange gref looked change) (Missed w) (entry_refusal caller gref N19 w) refl (refl, refl, refl)
-
-      sound : (c : Change) (w : ℕ) → Sound OkOrRefused (busy caller gref c w)
-      sound (Publish entry) w = nowhere-sound OkOrRefused
-      sound ToInvalid w = refused (entry_refusal caller gref N19 w)
-      sound ToReadOnly w = refused (entry_refusal caller gref N19 w)
-      sound ToWritable w = refused (entry_refusal caller gref N19 w)
+      exchanges-sound OkOrRefused (Exchange gref looked change) looked (ended Granted) (refused_at caller gref N19) (exchange-taken gref looked change)
+      (λ w. then-refused (Exchange gref looked change) (Missed w) (entry_refusal caller gref N19 w) refl (refl, refl, refl)) granted (λ w. refused (entry_refusal caller gref N19 w))
 
   turn-sound : (change : Change) (gref : GrantRef) (missed : ℕ → Continuation) → ((w : ℕ) → Sound OkOrRefused (missed w)) → ((s : Step) (x : Seen) → IsIdle s x → (w : ℕ) → IsFoundAt caller s x caller gref w → Opens s x (missed w)) → Sound OkOrRefused (turn change caller gref missed)
   turn-sound change gref missed others opens =
@@ -358,6 +344,13 @@ module _ (caller : DomId) where
     steps-sound (asks.Revoke gref) w = let s = once-sound gref (idle_word k gref) ToInvalid in record { ends = s.ends; answers = λ vs v e. ok v (s.answers vs v e) }
       where
         ok : (v : Verdict) → OkOrRefused v → IsAnswerTo (asks.Revoke gref) v
+        ok Granted h = tt
+        ok (Refused d) h = tt
+        ok (Mapped p) h = absurd h
+        ok (Given x) h = absurd h
+    steps-sound (asks.Withdraw gref) w = let s = turns-sound ToWithdrawn gref 3 in record { ends = s.ends; answers = λ vs v e. ok v (s.answers vs v e) }
+      where
+        ok : (v : Verdict) → OkOrRefused v → IsAnswerTo (asks.Withdraw gref) v
         ok Granted h = tt
         ok (Refused d) h = tt
         ok (Mapped p) h = absurd h

@@ -99,6 +99,7 @@ once-tells k v request (Mapped p) is = tt
 abbrev pub IsPlain : Asked → Type 0
 IsPlain (asks.Grant gref entry) = Unit {0}
 IsPlain (asks.Revoke gref) = Unit {0}
+IsPlain (asks.Withdraw gref) = Unit {0}
 IsPlain (asks.Demote gref) = Unit {0}
 IsPlain (asks.Promote gref) = Unit {0}
 IsPlain (asks.Unmap handle) = Unit {0}
@@ -108,6 +109,7 @@ IsPlain request = ⊥
 plain-mapped : (request : Asked) (p : Held) → IsPlain request → IsAnswerTo request (Mapped p) → ⊥
 plain-mapped (asks.Grant gref entry) p is a = a
 plain-mapped (asks.Revoke gref) p is a = a
+plain-mapped (asks.Withdraw gref) p is a = a
 plain-mapped (asks.Demote gref) p is a = a
 plain-mapped (asks.Promote gref) p is a = a
 plain-mapped (asks.Unmap handle) p is a = a
@@ -117,6 +119,7 @@ plain-mapped _ p is a = absurd is
 plain-given : (request : Asked) (value : Value) → IsPlain request → IsAnswerTo request (Given value) → ⊥
 plain-given (asks.Grant gref entry) value is a = a
 plain-given (asks.Revoke gref) value is a = a
+plain-given (asks.Withdraw gref) value is a = a
 plain-given (asks.Demote gref) value is a = a
 plain-given (asks.Promote gref) value is a = a
 plain-given (asks.Unmap handle) value is a = a

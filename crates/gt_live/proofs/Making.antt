@@ -5,9 +5,10 @@ use Rattle.gt_entry.specs.declared.change.Half.{Half}
 use Rattle.gt_words.specs.Conditions.{Board, IsSameSeat, IsSeatOf, Keeps, SeatOf, StoresBody}
 use Rattle.gt_words.specs.Rule.{Layout, id_at}
 use Rattle.gt_words.specs.Views.{last_of, with_step}
+use Rattle.gt_words.specs.History.{History, Moment}
 use Rattle.gt_words.specs.declared.view.SeatStep.{SeatStep}
 use Rattle.gt_words.specs.declared.view.View.{View}
-use Rattle.gt_entry.specs.declared.change.Change.TheVariants.{Publish, Revoke, Demote, Promote}
+use Rattle.gt_entry.specs.declared.change.Change.TheVariants.{Publish, Revoke, Withdraw, Demote, Promote}
 use Rattle.gt_calls.specs.declared.action.Seen.{Seen}
 use Rattle.gt_calls.specs.declared.action.Seen.TheVariants.{Nothing, Word, Taken, Missed}
 use Rattle.gt_calls.specs.declared.action.Step.{Step}
@@ -18,26 +19,29 @@ use Rattle.gt_live.specs.Driving.{IsSame}
 
 -- a step of a seat from one view to another, which shows this
 pub record Gains (seen : Seen) (v w : View) : Type 0 where
-  pub step : SeatStep
-  pub view : w ≡ with_step step v
+  pub step : Moment
+  pub view : w ≡ with_step step.0 step.1 v
   pub shows : shown_by step ≡ seen
 
 unfoldable pub made-gains : (k : Layout) (s : Step) (seen : Seen) (v w : View) → Made k s seen v w → Gains seen v w
-made-gains k (LookHeader d) (Word n) v w m = record { step = _; view = m.steps.adds.view; shows = refl }
-made-gains k (LookControl d q) (Word n) v w m = record { step = _; view = m.0.steps.adds.view; shows = refl }
-made-gains k (LookBody d q half) (Word n) v w m = record { step = _; view = m.steps.adds.view; shows = refl }
-made-gains k (Pin p) Taken v w m = record { step = _; view = m.steps.adds.view; shows = refl }
-made-gains k (Pin p) (Missed n) v w m = record { step = _; view = m.steps.adds.view; shows = refl }
-made-gains k (Unpin p holder) Nothing v w m = record { step = _; view = m.steps.adds.view; shows = refl }
-made-gains k (StoreBody q half n) Nothing v w m = record { step = _; view = m.steps.adds.view; shows = refl }
-made-gains k (StoreHeader version frames) Nothing v w m = record { step = _; view = m.steps.adds.view; shows = refl }
-made-gains k (Exchange q looked (Publish e)) Taken v w m = record { step = _; view = m.steps.adds.view; shows = refl }
-made-gains k (Exchange q looked Revoke) Taken v w m = record { step = _; view = m.changes.steps.adds.view; shows = refl }
-made-gains k (Exchange q looked Revoke) (Missed n) v w m = record { step = _; view = m.missed.steps.adds.view; shows = refl }
-made-gains k (Exchange q looked Demote) Taken v w m = record { step = _; view = m.changes.steps.adds.view; shows = refl }
-made-gains k (Exchange q looked Demote) (Missed n) v w m = record { step = _; view = m.steps.adds.view; shows = refl }
-made-gains k (Exchange q looked Promote) Taken v w m = record { step = _; view = m.steps.adds.view; shows = refl }
-made-gains k (Exchange q looked Promote) (Missed n) v w m = record { step = _; view = m.steps.adds.view; shows = refl }
+made-gains k (LookHeader d) (Word n) v w m = record { step = (_, _); view = m.steps.adds.view; shows = refl }
+made-gains k (LookControl d q) (Word n) v w m = record { step = (_, _); view = m.0.steps.adds.view; shows = refl }
+made-gains k (LookBody d q half) (Word n) v w m = record { step = (_, _); view = m.steps.adds.view; shows = refl }
+made-gains k (Pin p) Taken v w m = record { step = (_, _); view = m.steps.adds.view; shows = refl }
+made-gains k (Pin p) (Missed n) v w m = record { step = (_, _); view = m.steps.adds.view; shows = refl }
+made-gains k (Unpin p holder) Nothing v w m = record { step = (_, _); view = m.steps.adds.view; shows = refl }
+made-gains k (StoreBody q half n) Nothing v w m = record { step = (_, _); view = m.steps.adds.view; shows = refl }
+made-gains k (StoreHeader version frames) Nothing v w m = record { step = (_, _); view = m.steps.adds.view; shows = refl }
+made-gains k (Exchange q looked (Publish e)) Taken v w m = record { step = (_, _); view = m.changes.steps.adds.view; shows = refl }
+made-gains k (Exchange q looked (Publish e)) (Missed n) v w m = record { step = (_, _); view = m.missed.steps.adds.view; shows = refl }
+made-gains k (Exchange q looked Revoke) Taken v w m = record { step = (_, _); view = m.changes.steps.adds.view; shows = refl }
+made-gains k (Exchange q looked Revoke) (Missed n) v w m = record { step = (_, _); view = m.missed.steps.adds.view; shows = refl }
+made-gains k (Exchange q looked Withdraw) Taken v w m = record { step = (_, _); view = m.steps.adds.view; shows = refl }
+made-gains k (Exchange q looked Withdraw) (Missed n) v w m = record { step = (_, _); view = m.steps.adds.view; shows = refl }
+made-gains k (Exchange q looked Demote) Taken v w m = record { step = (_, _); view = m.changes.steps.adds.view; shows = refl }
+made-gains k (Exchange q looked Demote) (Missed n) v w m = record { step = (_, _); view = m.steps.adds.view; shows = refl }
+made-gains k (Exchange q looked Promote) Taken v w m = record { step = (_, _); view = m.steps.adds.view; shows = refl }
+made-gains k (Exchange q looked Promote) (Missed n) v w m = record { step = (_, _); view = m.steps.adds.view; shows = refl }
 made-gains k _ _ v w m = absurd m
 
 -- what was shown is a value that the step can see
@@ -50,9 +54,12 @@ made-fits k (Pin p) (Missed n) v w m = m.another
 made-fits k (Unpin p holder) Nothing v w m = refl
 made-fits k (StoreBody q half n) Nothing v w m = refl
 made-fits k (StoreHeader version frames) Nothing v w m = refl
-made-fits k (Exchange q looked (Publish e)) Taken v w m = refl
+made-fits k (Exchange q looked (Publish e)) Taken v w m = tt
+made-fits k (Exchange q looked (Publish e)) (Missed n) v w m = m.missed.another
 made-fits k (Exchange q looked Revoke) Taken v w m = tt
 made-fits k (Exchange q looked Revoke) (Missed n) v w m = m.missed.another
+made-fits k (Exchange q looked Withdraw) Taken v w m = tt
+made-fits k (Exchange q looked Withdraw) (Missed n) v w m = m.another
 made-fits k (Exchange q looked Demote) Taken v w m = tt
 made-fits k (Exchange q looked Demote) (Missed n) v w m = m.another
 made-fits k (Exchange q looked Promote) Taken v w m = tt
@@ -60,8 +67,8 @@ made-fits k (Exchange q looked Promote) (Missed n) v w m = m.another
 made-fits k _ _ v w m = absurd m
 
 -- the seat keeps what it knew
-kept-same : (v w : View) (s : SeatStep) → w ≡ with_step s v → Keeps v w → IsSame v w
-kept-same v w s e keeps = record { pins = keeps.pins; records = keeps.rows.last; seen = keeps.seen; position = ap (λ (u : View). u.position) e; ids = ap (λ (u : View). u.ids) e }
+kept-same : (v w : View) (past : History) (s : SeatStep) → w ≡ with_step past s v → Keeps v w → IsSame v w
+kept-same v w past s e keeps = record { pins = keeps.pins; records = keeps.rows.last; seen = keeps.seen; position = ap (λ (u : View). u.position) e; ids = ap (λ (u : View). u.ids) e }
 
 pub same-self : (v : View) → IsSame v v
 same-self v = record { pins = λ t r. refl; records = λ r. refl; seen = λ t r. omega arith; position = refl; ids = refl }
@@ -94,11 +101,11 @@ IsLook s seen = Unit {0}
 
 -- such a step keeps pins and records
 pub look-same : (k : Layout) (s : Step) (seen : Seen) (v w : View) → Made k s seen v w → IsLook s seen → IsSame v w
-look-same k (LookHeader d) (Word n) v w m l = kept-same v w _ m.steps.adds.view m.keeps
-look-same k (LookControl d q) (Word n) v w m l = kept-same v w _ m.0.steps.adds.view m.0.keeps
-look-same k (LookBody d q half) (Word n) v w m l = kept-same v w _ m.steps.adds.view m.keeps
+look-same k (LookHeader d) (Word n) v w m l = kept-same v w _ _ m.steps.adds.view m.keeps
+look-same k (LookControl d q) (Word n) v w m l = kept-same v w _ _ m.0.steps.adds.view m.0.keeps
+look-same k (LookBody d q half) (Word n) v w m l = kept-same v w _ _ m.steps.adds.view m.keeps
 look-same k (Pin p) Taken v w m l = absurd l
-look-same k (Pin p) (Missed n) v w m l = kept-same v w _ m.steps.adds.view m.keeps
+look-same k (Pin p) (Missed n) v w m l = kept-same v w _ _ m.steps.adds.view m.keeps
 look-same k (Unpin p holder) Nothing v w m l = absurd l
 look-same k (StoreBody q half n) Nothing v w m l = stored-same k q.0 n half v w m
 look-same k (StoreHeader version frames) Nothing v w m l = record {
@@ -109,12 +116,15 @@ look-same k (StoreHeader version frames) Nothing v w m l = record {
   ids = ap (λ (u : View). u.ids) m.steps.adds.view;
 }
 look-same k (Exchange q looked (Publish e)) Taken v w m l = absurd l
+look-same k (Exchange q looked (Publish e)) (Missed n) v w m l = kept-same v w _ _ m.missed.steps.adds.view m.missed.keeps
 look-same k (Exchange q looked Revoke) Taken v w m l = absurd l
-look-same k (Exchange q looked Revoke) (Missed n) v w m l = kept-same v w _ m.missed.steps.adds.view m.missed.keeps
+look-same k (Exchange q looked Revoke) (Missed n) v w m l = kept-same v w _ _ m.missed.steps.adds.view m.missed.keeps
+look-same k (Exchange q looked Withdraw) Taken v w m l = absurd l
+look-same k (Exchange q looked Withdraw) (Missed n) v w m l = kept-same v w _ _ m.steps.adds.view m.keeps
 look-same k (Exchange q looked Demote) Taken v w m l = absurd l
-look-same k (Exchange q looked Demote) (Missed n) v w m l = kept-same v w _ m.steps.adds.view m.keeps
+look-same k (Exchange q looked Demote) (Missed n) v w m l = kept-same v w _ _ m.steps.adds.view m.keeps
 look-same k (Exchange q looked Promote) Taken v w m l = absurd l
-look-same k (Exchange q looked Promote) (Missed n) v w m l = kept-same v w _ m.steps.adds.view m.keeps
+look-same k (Exchange q looked Promote) (Missed n) v w m l = kept-same v w _ _ m.steps.adds.view m.keeps
 look-same k _ _ v w m l = absurd m
 
 -- the same seat is of the same words

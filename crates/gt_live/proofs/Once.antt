@@ -102,6 +102,9 @@ module _ (k : CallerKnowledge) (caller : DomId) where
   once (requests.Revoke gref) w =
       let r = asks.Revoke gref in let a = nat_le (size_of k.header) gref.0 in let b = is_invalid (k.entry gref.0) in
       first-of r (refused_when a N9 ∷ refused_when b N10 ∷ []) (refused-may r a N9, (refused-may r b N10, tt))
+  once (requests.Withdraw gref) w =
+      let r = asks.Withdraw gref in let a = nat_le (size_of k.header) gref.0 in let b = is_invalid (k.entry gref.0) in
+      first-of r (refused_when a N9 ∷ refused_when b N10 ∷ []) (refused-may r a N9, (refused-may r b N10, tt))
   once (requests.Demote gref) w = once-turn (asks.Demote gref) ToReadOnly gref tt
   once (requests.Promote gref) w = once-turn (asks.Promote gref) ToWritable gref tt
   once (requests.Map dom gref flags) w =

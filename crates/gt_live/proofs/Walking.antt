@@ -7,7 +7,7 @@ use Rattle.gt_entry.specs.Words.{control_of, header_of, size_of}
 use Rattle.gt_words.specs.Rule.{Layout, position_in}
 use Rattle.gt_words.specs.Views.{Seen as Looks, seen, steps_on, with_body}
 use Rattle.gt_entry.specs.declared.change.Half.TheVariants.{First}
-use Rattle.gt_words.specs.declared.view.SeatStep.{SeatStep}
+use Rattle.gt_words.specs.History.{Moment}
 use Rattle.gt_words.specs.declared.view.View.{View}
 use Rattle.gt_calls.specs.declared.action.Action.{Action}
 use Rattle.gt_calls.specs.declared.action.Action.TheVariants.{Step as Makes}
@@ -38,14 +38,19 @@ module _ {A : Type 0} where
   unsnoc a [] = ([], a, refl)
   unsnoc a (b ∷ bs) = let more = unsnoc b bs in (a ∷ more.0, more.1, ap (λ (zs : List A). a ∷ zs) more.2)
 
+-- a seat stays at its position
+pub after-position : (xs : List Moment) (v : View) → (after xs v).position ≡ v.position
+after-position [] v = refl
+after-position (x ∷ xs) v = after-position xs v
+
 -- the last step of a walk, which the call made after these values and which showed this
-pub record MadeLast (k : Layout) (way : Continuation) (v : View) (steps : List SeatStep) (before : List Seen) (x : Seen) (s : Step) : Type 0 where
-  pub rest : List SeatStep
+pub record MadeLast (k : Layout) (way : Continuation) (v : View) (steps : List Moment) (before : List Seen) (x : Seen) (s : Step) : Type 0 where
+  pub rest : List Moment
   pub walked : IsWalk k way v rest
   pub shown_is : shown rest ≡ before
   pub made : Made k s x (after rest v) (after steps v)
 
-pub made-last : (k : Layout) (way : Continuation) (v : View) (steps : List SeatStep) (before : List Seen) (x : Seen) (s : Step) → IsWalk k way v steps → shown steps ≡ before ++ x ∷ [] → way before ≡ Some (Makes s)
+pub made-last : (k : Layout) (way : Continuation) (v : View) (steps : List Moment) (before : List Seen) (x : Seen) (s : Step) → IsWalk k way v steps → shown steps ≡ before ++ x ∷ [] → way before ≡ Some (Makes s)
     → MadeLast k way v steps before x s
 made-last k way v [] before x s walk e f = absurd (never before x [] e)
 made-last k way v (y ∷ rest) before x s walk e f =
@@ -55,7 +60,7 @@ made-last k way v (y ∷ rest) before x s walk e f =
     record { rest = rest; walked = walk.1; shown_is = i.0; made = subst (λ (z : Seen). Made k s z (after rest v) (after (y ∷ rest) v)) i.1 m }
 
 -- a header that was shown has no larger table than there is room for
-shown-header : (k : Layout) (way : Continuation) (v : View) (steps : List SeatStep) (before : List Seen) (word : ℕ) (later : List Seen) (dom : DomId) → IsWalk k way v steps → shown steps ≡ before ++ Word word ∷ later
+shown-header : (k : Layout) (way : Continuation) (v : View) (steps : List Moment) (before : List Seen) (word : ℕ) (later : List Seen) (dom : DomId) → IsWalk k way v steps → shown steps ≡ before ++ Word word ∷ later
     → way before ≡ Some (Makes (LookHeader dom)) → size_of (header_of word) ≤ 2048
 shown-header k way v [] before word later dom walk e f = absurd (never before (Word word) later e)
 shown-header k way v (y ∷ rest) before word [] dom walk e f = (made-last k way v (y ∷ rest) before (Word word) (LookHeader dom) walk e f).made.size
@@ -71,12 +76,12 @@ few-entries true f h = omega arith
 few-entries false f h = omega arith
 
 -- a reference in a table seen is one that there is room for
-pub in-seen-table : (k : Layout) (way : Continuation) (v : View) (steps : List SeatStep) (dom : DomId) (gref : GrantRef) → IsWalk k way v steps → HasSeenTable way dom gref (shown steps) → gref.0 < 2048
+pub in-seen-table : (k : Layout) (way : Continuation) (v : View) (steps : List Moment) (dom : DomId) (gref : GrantRef) → IsWalk k way v steps → HasSeenTable way dom gref (shown steps) → gref.0 < 2048
 in-seen-table k way v steps dom gref walk t =
     let size = shown-header k way v steps t.before t.word t.after dom walk t.shown_is t.looked in let lt = t.inside in omega (arith, size, lt)
 
 -- the words of an entry that was read, and is no sub-page, are those that the seat saw last of it
-pub read-page : (k : Layout) (way : Continuation) (v : View) (steps : List SeatStep) (dom : DomId) (gref : GrantRef) (word body second : ℕ) → IsWalk k way v steps → HasRead way dom gref word body second (shown steps)
+pub read-page : (k : Layout) (way : Continuation) (v : View) (steps : List Moment) (dom : DomId) (gref : GrantRef) (word body second : ℕ) → IsWalk k way v steps → HasRead way dom gref word body second (shown steps)
     → is_kind (control_of word).kind KindSub ≡ false → seen (steps_on (position_in k.ids dom) gref.0 (after steps v)) ≡ Some (record { word = word; first = Some body; second = None })
 read-page k way v steps dom gref word body second walk r page =
     let at = position_in k.ids dom in

@@ -6,7 +6,7 @@ use Rattle.gt_types.specs.declared.denial.Rule.TheVariants.{N16, N26}
 use Rattle.gt_types.specs.declared.denial.Facts.TheVariants.{None as NoFacts}
 use Rattle.gt_types.specs.Denial.{denial_of}
 use Rattle.gt_words.specs.Rule.{Layout}
-use Rattle.gt_words.specs.declared.view.SeatStep.{SeatStep}
+use Rattle.gt_words.specs.History.{Moment}
 use Rattle.gt_words.specs.declared.view.View.{View}
 use Rattle.gt_frames.specs.Receipts.{Copying, Reading, Writing}
 use Rattle.gt_frames.specs.declared.places.FrameName.{FrameName}
@@ -36,7 +36,7 @@ onward way values vs = way (values ++ vs)
 -- A call came to this access: the steps that took its seat's view from v to w are those of
 -- its way, one after another, and the access is what comes next (own)
 pub record ComesTo (k : Layout) (way : Continuation) (access : Step) (v w : View) : Type 0 where
-  pub steps : List SeatStep
+  pub steps : List Moment
   pub view : w ≡ after steps v
   pub walked : IsWalk k way v steps
   pub next : way (shown steps) ≡ Some (Makes access)

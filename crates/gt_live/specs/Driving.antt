@@ -12,7 +12,7 @@ use Rattle.gt_words.specs.Conditions.{CanChange, CanPin, Changes, HasDomain, Hol
 use Rattle.gt_words.specs.Conditions.{Unpins}
 use Rattle.gt_words.specs.Rule.{IsKeptHeader, Layout, id_at, position_in}
 use Rattle.gt_words.specs.Views.{last_seen, record_seen, last_of}
-use Rattle.gt_words.specs.declared.view.SeatStep.{SeatStep}
+use Rattle.gt_words.specs.History.{Moment}
 use Rattle.gt_calls.specs.declared.action.Action.{Action}
 use Rattle.gt_calls.specs.declared.action.Action.TheVariants.{Step as Makes, Done}
 use Rattle.gt_entry.specs.declared.change.Change.{Change}
@@ -117,7 +117,7 @@ StandsSo c k caller request v w effect (Makes step) = IsSame v w
 StandsSo c k caller request v w effect (Done verdict) = Leaves c k caller request v w effect × Answers effect verdict
 
 -- an answer that comes next carries a word of these steps (own)
-abbrev pub ActionTells : Layout → View → List SeatStep → Action → Type 0
+abbrev pub ActionTells : Layout → View → List Moment → Action → Type 0
 ActionTells k v steps (Makes step) = Unit {0}
 ActionTells k v steps (Done verdict) = TellsSteps k v steps verdict
 
@@ -125,7 +125,7 @@ ActionTells k v steps (Done verdict) = TellsSteps k v steps verdict
 -- its path, and the action is what comes next (own)
 pub record Going (c : CallerKnowledge) (k : Layout) (effect : Effect) (v w : View) (call : Call)
     (action : Action) : Type 0 where
-  pub steps : List SeatStep
+  pub steps : List Moment
   pub view : w ≡ after steps v
   pub walked : IsWalk k (path c call.caller call.request) v steps
   pub at : IsAt c call (shown steps)

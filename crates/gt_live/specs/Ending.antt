@@ -34,6 +34,7 @@ IsAnswerTo (asks.QuerySize dom) (Given (values.Size size)) = Unit {0}
 IsAnswerTo (asks.GetVersion dom) (Given (values.Version version)) = Unit {0}
 IsAnswerTo (asks.Grant gref entry) Granted = Unit {0}
 IsAnswerTo (asks.Revoke gref) Granted = Unit {0}
+IsAnswerTo (asks.Withdraw gref) Granted = Unit {0}
 IsAnswerTo (asks.Demote gref) Granted = Unit {0}
 IsAnswerTo (asks.Promote gref) Granted = Unit {0}
 IsAnswerTo (asks.Unmap handle) Granted = Unit {0}
@@ -55,6 +56,7 @@ IsOfMapping request = ⊥
 abbrev pub IsOwnChange : Asked → Type 0
 IsOwnChange (asks.Grant gref entry) = Unit {0}
 IsOwnChange (asks.Revoke gref) = Unit {0}
+IsOwnChange (asks.Withdraw gref) = Unit {0}
 IsOwnChange (asks.Demote gref) = Unit {0}
 IsOwnChange (asks.Promote gref) = Unit {0}
 IsOwnChange request = ⊥

@@ -7,7 +7,7 @@ use Rattle.gt_words.specs.Conditions.{HasDomain}
 use Rattle.gt_words.specs.Keeping.{SeesNoEarlier}
 use Rattle.gt_words.specs.Rule.{Layout, position_in}
 use Rattle.gt_words.specs.Views.{LivePin, last_of, pins, steps_on}
-use Rattle.gt_words.specs.declared.view.SeatStep.{SeatStep}
+use Rattle.gt_words.specs.History.{Moment}
 use Rattle.gt_words.specs.declared.view.View.{View}
 use Rattle.gt_calls.specs.declared.action.Action.{Action}
 use Rattle.gt_calls.specs.declared.action.Action.TheVariants as actions
@@ -63,7 +63,7 @@ AreOfRun k (p ∷ ps) = (HasDomain k p.dom × (p.gref.0 < TABLE_ENTRIES)) × Are
 
 -- where a copy is: on a leg to one of its ends, at its access, or at the
 -- end after a refusal, whose word its steps found (own)
-abbrev pub StandsInCopy : Layout → View → List SeatStep → Phase → Type 0
+abbrev pub StandsInCopy : Layout → View → List Moment → Phase → Type 0
 StandsInCopy k v steps (Walking (Source c via) l at) = Unit {0}
 StandsInCopy k v steps (Walking (Dest c source via) l at) = Unit {0}
 StandsInCopy k v steps (Accessing c source dest) = Unit {0}
@@ -71,7 +71,7 @@ StandsInCopy k v steps (Ending pins (Refused denial)) = CarriesFound k v steps d
 StandsInCopy k v steps phase = ⊥
 
 -- the same, and its seat has just the pins that it holds there, besides those that it had (own)
-pub record StandsWell (k : Layout) (v w : View) (steps : List SeatStep) (phase : Phase) : Type 0 where
+pub record StandsWell (k : Layout) (v w : View) (steps : List Moment) (phase : Phase) : Type 0 where
   pub stays : StandsInCopy k v steps phase
   pub taken : HasTaken k (held_in phase) v w
   pub of_run : AreOfRun k (held_in phase)
@@ -79,7 +79,7 @@ pub record StandsWell (k : Layout) (v w : View) (steps : List SeatStep) (phase :
 -- a copy under way: it added steps to its seat's view, which are those of
 -- its path, and the action is what comes next (own)
 pub record Underway (c : CallerKnowledge) (k : Layout) (v w : View) (call : Call) (action : Action) : Type 0 where
-  pub steps : List SeatStep
+  pub steps : List Moment
   pub view : w ≡ after steps v
   pub walked : IsWalk k (path c call.caller call.request) v steps
   pub at : IsAt c call (shown steps)
@@ -119,7 +119,7 @@ Stops c k call (Access from to len) v w = AtAccess c k call from to len v w
 
 -- the pins that a copy held at its access were given back, one after another, and nothing else (own)
 pub record GivesBack (k : Layout) (routes : Pins) (v w : View) : Type 0 where
-  pub steps : List SeatStep
+  pub steps : List Moment
   pub view : w ≡ after steps v
   pub walked : IsWalk k (give_back (last_first routes) Granted) v steps
   pub ended : give_back (last_first routes) Granted (shown steps) ≡ Some (actions.Done Granted)
@@ -128,7 +128,7 @@ pub record GivesBack (k : Layout) (routes : Pins) (v w : View) : Type 0 where
 -- pins that a copy held at its access are being given back: those given
 -- back are of the way, and the rest is what is left (own)
 pub record Returning (k : Layout) (routes : Pins) (v w : View) (call : Call) (action : Action) : Type 0 where
-  pub steps : List SeatStep
+  pub steps : List Moment
   pub view : w ≡ after steps v
   pub walked : IsWalk k (give_back (last_first routes) Granted) v steps
   pub left : Pins

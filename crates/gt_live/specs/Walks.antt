@@ -1,12 +1,13 @@
 -- What a call adds to the steps of its seat: the actions of its path, one after another.
-use Rattle.std.specs.Prelude.{◌≡◌, ℕ, Bool, true, false, List, [], ◌∷◌, ◌++◌, Option, Some, None}
+use Rattle.std.specs.Prelude.{◌≡◌, ℕ, Bool, true, false, List, [], ◌∷◌, ◌++◌, map, Option, Some, None}
 use Rattle.gt_words.specs.Controls.{generation_of}
 use Rattle.gt_words.specs.Conditions.{IsNotEarlier, LooksAtHeader, LooksAtControl, LooksAtBody, IsWordOf, Pins}
 use Rattle.gt_words.specs.Conditions.{MissesPin, Unpins, StoresBody, StoresHeader, Changes, MissesChange, MissesBusy}
-use Rattle.gt_words.specs.Conditions.{Revokes, Demotes}
+use Rattle.gt_words.specs.Conditions.{Publishes, Revokes, Demotes}
 use Rattle.gt_words.specs.Rule.{Layout, id_at, position_in}
 use Rattle.gt_words.specs.Steps.{on_entry, on_header}
-use Rattle.gt_words.specs.Views.{IsIn, last_of}
+use Rattle.gt_words.specs.History.{Moment}
+use Rattle.gt_words.specs.Views.{IsIn, last_of, with_step}
 use Rattle.gt_words.specs.declared.view.EntryStep.{EntryStep}
 use Rattle.gt_types.specs.declared.DomId.{DomId}
 use Rattle.gt_types.specs.declared.GrantRef.{GrantRef}
@@ -21,7 +22,7 @@ use Rattle.gt_words.specs.declared.view.View.{View}
 use Rattle.gt_calls.specs.declared.action.Action.{Action}
 use Rattle.gt_calls.specs.declared.action.Action.TheVariants.{Step as Makes, Done}
 use Rattle.gt_entry.specs.Words.{control_of, is_kind}
-use Rattle.gt_entry.specs.declared.change.Change.TheVariants.{Publish, Revoke, Demote, Promote}
+use Rattle.gt_entry.specs.declared.change.Change.TheVariants.{Publish, Revoke, Withdraw, Demote, Promote}
 use Rattle.gt_entry.specs.declared.change.Half.TheVariants.{First as FirstHalf, Second as SecondHalf}
 use Rattle.gt_entry.specs.declared.control.Kind.TheVariants.{Sub}
 use Rattle.gt_calls.specs.declared.leg.Leg.{Leg}
@@ -35,26 +36,31 @@ use Rattle.gt_calls.specs.declared.action.Verdict.TheVariants.{Refused}
 use Rattle.gt_calls.specs.Path.{Continuation}
 
 -- what a step of a seat shows to its call (own)
-abbrev pub shown_by : SeatStep → Seen
-shown_by (Entry t r (Looked n)) = Word n
-shown_by (Entry t r (ReadBody h n)) = Word n
-shown_by (Entry t r (Pinned d e y)) = Taken
-shown_by (Entry t r (PinMissed d e y n)) = Missed n
-shown_by (Entry t r (Unpinned d g)) = Nothing
-shown_by (Entry t r (StoredBody h n)) = Nothing
-shown_by (Entry t r (Changed c e n y)) = Taken
-shown_by (Entry t r (ChangeMissed c e y n)) = Missed n
-shown_by (Header t (header.Looked n)) = Word n
-shown_by (Header t (header.Stored n)) = Nothing
+abbrev pub shown_in : SeatStep → Seen
+shown_in (Entry t r (Looked n)) = Word n
+shown_in (Entry t r (ReadBody h n)) = Word n
+shown_in (Entry t r (Pinned d e y)) = Taken
+shown_in (Entry t r (PinMissed d e y n)) = Missed n
+shown_in (Entry t r (Unpinned d g)) = Nothing
+shown_in (Entry t r (StoredBody h n)) = Nothing
+shown_in (Entry t r (Changed c e n y)) = Taken
+shown_in (Entry t r (ChangeMissed c e y n)) = Missed n
+shown_in (Header t (header.Looked n)) = Word n
+shown_in (Header t (header.Stored n)) = Nothing
+
+-- the same of a step with its moment (own)
+abbrev pub shown_by : Moment → Seen
+shown_by x = shown_in x.1
 
 -- what steps show, the first first; the steps are listed with the last first (own)
-abbrev pub shown : List SeatStep → List Seen
+abbrev pub shown : List Moment → List Seen
 shown [] = []
 shown (x ∷ xs) = shown xs ++ shown_by x ∷ []
 
 -- the view after these steps more, the last first (own)
-abbrev pub after : List SeatStep → View → View
-after xs v = record v { steps = xs ++ v.steps }
+abbrev pub after : List Moment → View → View
+after [] v = v
+after (x ∷ xs) v = with_step x.0 x.1 (after xs v)
 
 -- The step of a call was made on the words, by a seat whose view it took from v to w, and
 -- showed this: what each of the words' own calls promises of it (own)
@@ -68,9 +74,12 @@ Made k (Pin p) (Missed n) v w = MissesPin k (position_in k.ids p.dom) p.gref.0 p
 Made k (Unpin p holder) Nothing v w = Unpins k (position_in k.ids p.dom) p.gref.0 p.dir (generation_of p.word) v w
 Made k (StoreBody q half n) Nothing v w = StoresBody k q.0 half n v w
 Made k (StoreHeader version frames) Nothing v w = StoresHeader k (record { version = version; frames = frames }) v w
-Made k (Exchange q looked (Publish e)) Taken v w = Changes k q.0 (Publish e) looked v w
+Made k (Exchange q looked (Publish e)) Taken v w = Publishes k q.0 e looked v w
+Made k (Exchange q looked (Publish e)) (Missed n) v w = MissesBusy k q.0 (Publish e) looked n v w
 Made k (Exchange q looked Revoke) Taken v w = Revokes k q.0 looked v w
 Made k (Exchange q looked Revoke) (Missed n) v w = MissesBusy k q.0 Revoke looked n v w
+Made k (Exchange q looked Withdraw) Taken v w = Changes k q.0 Withdraw looked v w
+Made k (Exchange q looked Withdraw) (Missed n) v w = MissesChange k q.0 Withdraw looked n v w
 Made k (Exchange q looked Demote) Taken v w = Demotes k q.0 looked v w
 Made k (Exchange q looked Demote) (Missed n) v w = MissesChange k q.0 Demote looked n v w
 Made k (Exchange q looked Promote) Taken v w = Changes k q.0 Promote looked v w
@@ -95,7 +104,7 @@ MakesStep k _ seen v w = ⊥
 
 -- each of these steps from the view v on, the last first, is what comes next
 -- on this way after what the steps before it showed (own)
-abbrev pub IsWalk : Layout → Continuation → View → List SeatStep → Type 0
+abbrev pub IsWalk : Layout → Continuation → View → List Moment → Type 0
 IsWalk k way v [] = Unit {0}
 IsWalk k way v (x ∷ xs) = MakesStep k (way (shown xs)) (shown_by x) (after xs v) (after (x ∷ xs) v) × IsWalk k way v xs
 
@@ -107,28 +116,28 @@ found_by (ChangeMissed c e y n) = Some n
 found_by m = None
 
 -- one of these steps found this word in this entry, and it is no earlier than what the view v had seen of it (own)
-pub record FindsWord (k : Layout) (v : View) (steps : List SeatStep) (dom : DomId) (gref : GrantRef)
+pub record FindsWord (k : Layout) (v : View) (steps : List Moment) (dom : DomId) (gref : GrantRef)
     (word : ℕ) : Type 0 where
   pub step : EntryStep
-  pub taken : IsIn (on_entry (position_in k.ids dom) gref.0 step) steps
+  pub taken : IsIn (on_entry (position_in k.ids dom) gref.0 step) (map (λ x. x.1) steps)
   pub found : found_by step ≡ Some word
   pub not_earlier : IsNotEarlier (position_in k.ids dom) gref.0 v word
 
 -- the word that a refusal carries, if it carries one, is of one of these steps (own)
-abbrev pub CarriesFound : Layout → View → List SeatStep → Facts → Type 0
+abbrev pub CarriesFound : Layout → View → List Moment → Facts → Type 0
 CarriesFound k v steps (facts.Entry dom gref word) = FindsWord k v steps dom gref word
-CarriesFound k v steps (facts.Header dom word) = IsIn (on_header (position_in k.ids dom) (header.Looked word)) steps
+CarriesFound k v steps (facts.Header dom word) = IsIn (on_header (position_in k.ids dom) (header.Looked word)) (map (λ x. x.1) steps)
 CarriesFound k v steps other = Unit {0}
 
 -- the same of an answer (own)
-abbrev pub TellsSteps : Layout → View → List SeatStep → Verdict → Type 0
+abbrev pub TellsSteps : Layout → View → List Moment → Verdict → Type 0
 TellsSteps k v steps (Refused denial) = CarriesFound k v steps denial.facts
 TellsSteps k v steps verdict = Unit {0}
 
 -- A call took its seat's view from v to w: it added steps, which are those of its way, one after another, and after
 -- what they showed the way ends with this answer; a word that the answer carries is one that they found (own)
 pub record Called (k : Layout) (way : Continuation) (verdict : Verdict) (v w : View) : Type 0 where
-  pub steps : List SeatStep
+  pub steps : List Moment
   pub view : w ≡ after steps v
   pub walked : IsWalk k way v steps
   pub answered : way (shown steps) ≡ Some (Done verdict)

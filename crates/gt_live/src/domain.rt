@@ -351,10 +351,10 @@ impl Domain {
         verdict
     }
 
-    /// Publishes an entry in place of an invalid one.
+    /// Publishes an entry in place of an invalid one, where that has no pins left.
     ///
     /// # Errors
-    /// N9, N20, N21 or N22, and nothing changes.
+    /// N9, N20, N21, N22 or, with the word found, N19, and nothing changes but the body words of an invalid entry.
     pub fn grant<P: Allows>(
         &mut self,
         monitor: &Monitor<P>,
@@ -376,7 +376,8 @@ impl Domain {
     /// Publishes the entry that the bytes spell in a table of the domain's version.
     ///
     /// # Errors
-    /// N9, N20, N22, or N25 with the field refused, and nothing changes.
+    /// N9, N20, N22, N25 with the field refused, or N19 with the word found, and nothing changes but the body words of
+    /// an invalid entry.
     pub fn grant_bytes<P: Allows>(
         &mut self,
         monitor: &Monitor<P>,
@@ -407,6 +408,25 @@ impl Domain {
         ensures silent { self.new.trail ≡ self.old.trail }
     {
         done(self.call(monitor, Request::Revoke { gref }))
+    }
+
+    /// Makes an entry of its own invalid, with or without pins: those that there are stay, and no more are taken.
+    ///
+    /// # Errors
+    /// N9, N10 or, with the word found, N18, and nothing changes.
+    pub fn withdraw<P: Allows>(
+        &mut self,
+        monitor: &Monitor<P>,
+        gref: GrantRef,
+    ) -> Result<(), Denial>
+        requires mine { IsOf P.may monitor.now self.old }
+        ensures mine { IsOf P.may monitor.now self.new }
+        ensures seat { IsSameSeat self.old.seat self.new.seat }
+        ensures answered { Answered P.may monitor.now self.old (Request.Withdraw gref) (verdict_of result) self.new }
+        ensures kept { KeepsPinned self.old self.new }
+        ensures silent { self.new.trail ≡ self.old.trail }
+    {
+        done(self.call(monitor, Request::Withdraw { gref }))
     }
 
     /// Makes an entry of its own read-only, where it has no write pins. Ok without a change where it is so already.

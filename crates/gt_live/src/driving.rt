@@ -127,6 +127,7 @@ fn exchange(words: &Words, seat: &mut Seat, gref: GrantRef, looked: u64, change:
     let result = match change {
         Change::Publish(entry) => words.grant(seat, gref, looked, entry),
         Change::Revoke => words.revoke(seat, gref, looked),
+        Change::Withdraw => words.withdraw(seat, gref, looked),
         Change::Demote => words.demote(seat, gref, looked),
         Change::Promote => words.promote(seat, gref, looked),
     };

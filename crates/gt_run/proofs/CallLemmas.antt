@@ -59,6 +59,7 @@ adds_record may m d (requests.Copy args) answer e (Err denial, is, accessed, kep
 adds_record may m d (requests.Grant gref entry) answer e (r, is, (answered, kept, silent)) = silent
 adds_record may m d (requests.GrantBytes gref bytes) answer e (r, is, (answered, kept, silent)) = silent
 adds_record may m d (requests.Revoke gref) answer e (r, is, (answered, kept, silent)) = silent
+adds_record may m d (requests.Withdraw gref) answer e (r, is, (answered, kept, silent)) = silent
 adds_record may m d (requests.Demote gref) answer e (r, is, (answered, kept, silent)) = silent
 adds_record may m d (requests.Promote gref) answer e (r, is, (answered, kept, silent)) = silent
 

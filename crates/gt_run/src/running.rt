@@ -150,6 +150,7 @@ impl<'m, P: Allows> Running<'m, P> {
                 done(self.domain.grant_bytes(self.monitor, gref, bytes))
             }
             Request::Revoke { gref } => done(self.domain.revoke(self.monitor, gref)),
+            Request::Withdraw { gref } => done(self.domain.withdraw(self.monitor, gref)),
             Request::Demote { gref } => done(self.domain.demote(self.monitor, gref)),
             Request::Promote { gref } => done(self.domain.promote(self.monitor, gref)),
             Request::Map { dom, gref, flags } => {

@@ -17,6 +17,7 @@ pub enum Asks<'a> {
     Grant(u32, Entry),
     Bytes(u32, &'a [u8]),
     Revoke(u32),
+    Withdraw(u32),
     Demote(u32),
     Promote(u32),
     /// Domain, reference and flags.

@@ -104,6 +104,10 @@ impl<'m, P: Allows> Running<'m, P> {
         self.domain.revoke(self.monitor, GrantRef(gref))
     }
 
+    pub fn withdraw(&mut self, gref: u32) -> Result<(), Denial> {
+        self.domain.withdraw(self.monitor, GrantRef(gref))
+    }
+
     pub fn demote(&mut self, gref: u32) -> Result<(), Denial> {
         self.domain.demote(self.monitor, GrantRef(gref))
     }
@@ -140,6 +144,7 @@ impl<'m, P: Allows> Running<'m, P> {
                 done(self.domain.grant_bytes(monitor, GrantRef(gref), bytes))
             }
             Asks::Revoke(gref) => done(self.revoke(gref)),
+            Asks::Withdraw(gref) => done(self.withdraw(gref)),
             Asks::Demote(gref) => done(self.demote(gref)),
             Asks::Promote(gref) => done(self.promote(gref)),
             Asks::Map(dom, gref, flags) => done(self.map(dom, gref, flags)),

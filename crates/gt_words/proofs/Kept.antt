@@ -10,6 +10,7 @@ use Rattle.gt_types.specs.declared.Dir.{Dir}
 use Rattle.gt_types.specs.declared.Dir.TheVariants.{Read, Write}
 use Rattle.gt_words.proofs.Records.{IsIn-without_pin}
 use Rattle.gt_words.specs.Conditions.{AddsToEntry, AddsToHeader}
+use Rattle.gt_words.specs.History.{History}
 use Rattle.gt_words.specs.Keeping.{Holds, HoldsOneMore, Keeps, KeepsOtherRows, KeepsPins, KeepsRecords, KeepsRows, SeesNoEarlier, generation_in, held, is_pin_of}
 use Rattle.gt_words.specs.Views.{IsIn, LivePin, Seen, is_pin, is_same_dir, last_record, own, own_header, pins, pins_like, seen, steps_on, steps_on_header, stored_body, stored_header, with_body, without_pin}
 use Rattle.gt_words.specs.declared.view.EntryRecord.{EntryRecord}
@@ -25,7 +26,7 @@ pub record IsQuiet (m : EntryStep) : Type 0 where
   pub last : (g : ℕ) (ms : List EntryStep) → last_record g (m ∷ ms) ≡ last_record g ms
   pub bodies : (h : Half) (ms : List EntryStep) → stored_body h (m ∷ ms) ≡ stored_body h ms
 
-module _ (t r : ℕ) (m : EntryStep) (v w : View) (z : AddsToEntry t r m v w) where
+module _ {past : History} (t r : ℕ) (m : EntryStep) (v w : View) (z : AddsToEntry past t r m v w) where
   -- what holds of the steps on each entry before and after a step on one
   pub at_each : (P : List EntryStep → List EntryStep → Type 0) → ((ms : List EntryStep) → P ms ms) → P (steps_on t r v) (m ∷ steps_on t r v) → (t' r' : ℕ) → P (steps_on t' r' v) (steps_on t' r' w)
   at_each P same here t' r' = dite (ℕ_discrete t t')
@@ -55,7 +56,7 @@ module _ (t r : ℕ) (m : EntryStep) (v w : View) (z : AddsToEntry t r m v w) wh
   keeps quiet same later = record { rows = keeps_rows quiet; header = keeps_header; pins = keeps_pins same; seen = sees_no_earlier later }
 
 -- a step of the owner on its entry r leaves its other entries
-pub keeps_others : (r : ℕ) (m : EntryStep) (v w : View) → AddsToEntry v.position r m v w → KeepsOtherRows r v w
+pub keeps_others : {past : History} (r : ℕ) (m : EntryStep) (v w : View) → AddsToEntry past v.position r m v w → KeepsOtherRows r v w
 keeps_others r m v w z = record { lists = other own; last = other last_record; bodies = λ q h n. other (λ g. stored_body h) q n }
   where
     other : {A : Type 0} (f : ℕ → List EntryStep → A) (q : ℕ) → r ≢ q → f w.first (steps_on w.position q w) ≡ f v.first (steps_on v.position q v)
@@ -123,12 +124,12 @@ one_more_of_all t r d g v w others here t' r' a h = dite (ℕ_discrete t t')
         let none : cond (is_pin_of t r d g t' r' a h) 1 0 ≡ 0 = ap {B = ℕ} (λ (b : Bool). cond b 1 0) (apart_is t r t' r' (is_same_dir a d && (h == g)) n) in omega (arith, same, none)
 
 -- a pin was taken
-pub taken_more : (t r : ℕ) (d : Dir) (e : ℕ) (x : EntryRecord) (v w : View) → AddsToEntry t r (Pinned d e x) v w → HoldsOneMore t r d x.generation v w
+pub taken_more : {past : History} (t r : ℕ) (d : Dir) (e : ℕ) (x : EntryRecord) (v w : View) → AddsToEntry past t r (Pinned d e x) v w → HoldsOneMore t r d x.generation v w
 taken_more t r d e x v w z = one_more_of_all t r d x.generation v w z.others (λ a h. let here : held t r a h w ≡ pins_like a h ((d, x) ∷ pins (steps_on t r v)) = ap (λ (ms : List EntryStep). pins_like a h (pins ms)) z.here in
     let all = count_cons a h (d, x) (pins (steps_on t r v)) in omega (arith, here, all))
 
 -- a pin was given back
-pub given_less : (t r : ℕ) (d : Dir) (g : ℕ) (v w : View) → Holds t r d g v → AddsToEntry t r (Unpinned d g) v w → HoldsOneMore t r d g w v
+pub given_less : {past : History} (t r : ℕ) (d : Dir) (g : ℕ) (v w : View) → Holds t r d g v → AddsToEntry past t r (Unpinned d g) v w → HoldsOneMore t r d g w v
 given_less t r d g v w holds z = one_more_of_all t r d g w v (λ t' r' n. sym (z.others t' r' n)) (λ a h. let here : held t r a h w ≡ pins_like a h (without_pin d g (pins (steps_on t r v))) = ap (λ (ms : List EntryStep). pins_like a h (pins ms)) z.here in
     let all = given_up a h d g (pins (steps_on t r v)) holds in omega (arith, here, all))
 
@@ -136,10 +137,10 @@ given_less t r d g v w holds z = one_more_of_all t r d g w v (λ t' r' n. sym (z
 abbrev pub AreAlike : List LivePin → Type 0
 AreAlike ps = (p q : LivePin) → IsIn p ps → IsIn q ps → p.1.generation ≡ q.1.generation → p.1 ≡ q.1
 
-pub taken_records : (t r : ℕ) (d : Dir) (e : ℕ) (x : EntryRecord) (v w : View) → AddsToEntry t r (Pinned d e x) v w → KeepsRecords v w
+pub taken_records : {past : History} (t r : ℕ) (d : Dir) (e : ℕ) (x : EntryRecord) (v w : View) → AddsToEntry past t r (Pinned d e x) v w → KeepsRecords v w
 taken_records t r d e x v w z t' r' p at holds = at_each t r (Pinned d e x) v w z (λ a b. IsIn p (pins a) → IsIn p (pins b)) (λ ms h. h) (λ h. inr h) t' r' at
 
-pub given_records : (t r : ℕ) (d : Dir) (g : ℕ) (v w : View) → AreAlike (pins (steps_on t r v)) → AddsToEntry t r (Unpinned d g) v w → KeepsRecords v w
+pub given_records : {past : History} (t r : ℕ) (d : Dir) (g : ℕ) (v w : View) → AreAlike (pins (steps_on t r v)) → AddsToEntry past t r (Unpinned d g) v w → KeepsRecords v w
 given_records t r d g v w alike z t' r' p at holds = at_each t r (Unpinned d g) v w z (λ a b. IsIn p (pins a) → 0 < pins_like p.0 p.1.generation (pins b) → IsIn p (pins b)) (λ ms h _. h) here t' r' at holds
   where
     here : IsIn p (pins (steps_on t r v)) → 0 < pins_like p.0 p.1.generation (without_pin d g (pins (steps_on t r v))) → IsIn p (without_pin d g (pins (steps_on t r v)))
@@ -148,16 +149,16 @@ given_records t r d g v w alike z t' r' p at holds = at_each t r (Unpinned d g) 
         subst (λ (u : LivePin). IsIn u (without_pin d g (pins (steps_on t r v)))) (λ i. (q.2 i, one i)) q.1
 
 -- a step on a header keeps all entries
-pub header_keeps_rows : (t : ℕ) (m : HeaderStep) (v w : View) → AddsToHeader t m v w → KeepsRows v w
+pub header_keeps_rows : {past : History} (t : ℕ) (m : HeaderStep) (v w : View) → AddsToHeader past t m v w → KeepsRows v w
 header_keeps_rows t m v w z = record { lists = row own; last = row last_record; bodies = λ q h. row (λ g. stored_body h) q }
   where
     row : {A : Type 0} (f : ℕ → List EntryStep → A) (q : ℕ) → f w.first (steps_on w.position q w) ≡ f v.first (steps_on v.position q v)
     row f q = ap (λ (u : View). f u.first (steps_on u.position q w)) z.view ∙ ap (f v.first) (z.entries v.position q)
 
-pub header_keeps_pins : (t : ℕ) (m : HeaderStep) (v w : View) → AddsToHeader t m v w → KeepsPins v w
+pub header_keeps_pins : {past : History} (t : ℕ) (m : HeaderStep) (v w : View) → AddsToHeader past t m v w → KeepsPins v w
 header_keeps_pins t m v w z t' r' = ap pins (z.entries t' r')
 
-pub header_sees : (t : ℕ) (m : HeaderStep) (v w : View) → AddsToHeader t m v w → SeesNoEarlier v w
+pub header_sees : {past : History} (t : ℕ) (m : HeaderStep) (v w : View) → AddsToHeader past t m v w → SeesNoEarlier v w
 header_sees t m v w z t' r' = let e : generation_in (seen (steps_on t' r' w)) ≡ generation_in (seen (steps_on t' r' v)) = ap (λ (ms : List EntryStep). generation_in (seen ms)) (z.entries t' r') in omega (arith, e)
 
 look_keeps : (h n : ℕ) (ms : List HeaderStep) (b : Bool) → stored_header h (cond b (header.Looked n ∷ ms) ms) ≡ stored_header h ms
@@ -165,7 +166,7 @@ look_keeps h n ms true = refl
 look_keeps h n ms false = refl
 
 -- a look at a header keeps all
-pub header_keeps : (t n : ℕ) (v w : View) → AddsToHeader t (header.Looked n) v w → Keeps v w
+pub header_keeps : {past : History} (t n : ℕ) (v w : View) → AddsToHeader past t (header.Looked n) v w → Keeps v w
 header_keeps t n v w z = record {
   rows = header_keeps_rows t (header.Looked n) v w z;
   header = ap own_header z.view ∙ look_keeps (get_or v.headers v.position 0) n (steps_on_header v.position v) (t == v.position);

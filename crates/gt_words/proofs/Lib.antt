@@ -1,4 +1,5 @@
 pub mod Lists
+pub mod Order
 pub mod Records
 pub mod GoneOn
 pub mod OneEntry
@@ -11,3 +12,5 @@ pub mod Told
 pub mod Opens
 pub mod Dealt
 pub mod Past
+pub mod Moments
+pub mod Happened

@@ -8,6 +8,8 @@ use lib.ListN.{get_elem?}
 use lib.Seq.{map-set}
 use Rattle.atomic_table.specs.Table.{State, stepped, keeps}
 use Rattle.atomic_table.proofs.Lists.{at_set, set_again, at_map}
+use Rattle.gt_words.proofs.Order.{leads_on}
+use Rattle.gt_words.specs.History.{History, IsByOwner, SaysFound, left_on_entry, word_on}
 use Rattle.gt_words.specs.Rule.{IsHeader, Layout, SawHeaders, Shows, ShowsEntry, header_now, header_place, place}
 use Rattle.gt_words.specs.Steps.{on_entry}
 use Rattle.gt_words.specs.Views.{steps_on, steps_on_header, with_step}
@@ -17,8 +19,8 @@ use Rattle.gt_words.specs.declared.view.View.{View}
 use Rattle.gt_types.specs.declared.limits.TheConstants.{TABLE_ENTRIES}
 
 -- the view after one more step on an entry
-abbrev pub added : ℕ → ℕ → EntryStep → View → View
-added t r m v = with_step (on_entry t r m) v
+abbrev pub added : History → ℕ → ℕ → EntryStep → View → View
+added past t r m v = with_step past (on_entry t r m) v
 
 pub apart : (t r j t' r' j' : ℕ) → r < TABLE_ENTRIES → r' < TABLE_ENTRIES → j < 3 → j' < 3 → place t r j ≡ place t' r' j' → (t ≡ t') × (r ≡ r')
 apart t r j t' r' j' a b c d e = (omega arith, omega arith)
@@ -26,65 +28,73 @@ apart t r j t' r' j' a b c d e = (omega arith, omega arith)
 pub inside : (n t r j : ℕ) → t < n → r < TABLE_ENTRIES → j < 3 → place t r j < n * DOMAIN_WORDS
 inside n t r j a b c = omega arith
 
-pub steps_on-added : (t r : ℕ) (m : EntryStep) (v : View) → steps_on t r (added t r m v) ≡ m ∷ steps_on t r v
-steps_on-added t r m v = let b : ((t == t) && (r == r)) ≡ true = λ i. eq-eqb t t refl i && eq-eqb r r refl i in ap (λ (z : Bool). cond z (m ∷ steps_on t r v) (steps_on t r v)) b
+pub steps_on-added : (past : History) (t r : ℕ) (m : EntryStep) (v : View) → steps_on t r (added past t r m v) ≡ m ∷ steps_on t r v
+steps_on-added past t r m v = let b : ((t == t) && (r == r)) ≡ true = λ i. eq-eqb t t refl i && eq-eqb r r refl i in ap (λ (z : Bool). cond z (m ∷ steps_on t r v) (steps_on t r v)) b
 
 -- another entry
 pub apart_test : (t r t' r' : ℕ) → (t ≡ t' → r ≡ r' → ⊥) → ((t == t') && (r == r')) ≡ false
 apart_test t r t' r' n = dite (ℕ_discrete t t') (λ e. let f : r ≢ r' = n e in λ i. eq-eqb t t' e i && ne_eqb r r' f i) (λ e. λ i. ne_eqb t t' e i && (r == r'))
 
-pub steps_on-added-else : (t r : ℕ) (m : EntryStep) (v : View) (t' r' : ℕ) → (t ≡ t' → r ≡ r' → ⊥) → steps_on t' r' (added t r m v) ≡ steps_on t' r' v
-steps_on-added-else t r m v t' r' n = ap (λ (z : Bool). cond z (m ∷ steps_on t' r' v) (steps_on t' r' v)) (apart_test t r t' r' n)
+pub steps_on-added-else : (past : History) (t r : ℕ) (m : EntryStep) (v : View) (t' r' : ℕ) → (t ≡ t' → r ≡ r' → ⊥) → steps_on t' r' (added past t r m v) ≡ steps_on t' r' v
+steps_on-added-else past t r m v t' r' n = ap (λ (z : Bool). cond z (m ∷ steps_on t' r' v) (steps_on t' r' v)) (apart_test t r t' r' n)
 
-module _ {S : Type 0} (s : State S View) (id : ℕ) (v : View) (t r : ℕ) (m : EntryStep) (at : get_elem? s.views id ≡ some v) where
-  pub map_here : map (steps_on t r) (set s.views id (added t r m v)) ≡ set (map (steps_on t r) s.views) id (m ∷ steps_on t r v)
-  map_here = map-set (steps_on t r) s.views id (added t r m v) ∙ ap (set (map (steps_on t r) s.views) id) (steps_on-added t r m v)
+module _ {S : Type 0} (past : History) (s : State S View) (id : ℕ) (v : View) (t r : ℕ) (m : EntryStep) (at : get_elem? s.views id ≡ some v) where
+  pub map_here : map (steps_on t r) (set s.views id (added past t r m v)) ≡ set (map (steps_on t r) s.views) id (m ∷ steps_on t r v)
+  map_here = map-set (steps_on t r) s.views id (added past t r m v) ∙ ap (set (map (steps_on t r) s.views) id) (steps_on-added past t r m v)
 
-  pub map_else : (t' r' : ℕ) → (t ≡ t' → r ≡ r' → ⊥) → map (steps_on t' r') (set s.views id (added t r m v)) ≡ map (steps_on t' r') s.views
-  map_else t' r' n = map-set (steps_on t' r') s.views id (added t r m v) ∙ (ap (set (map (steps_on t' r') s.views) id) (steps_on-added-else t r m v t' r' n)
+  pub map_else : (t' r' : ℕ) → (t ≡ t' → r ≡ r' → ⊥) → map (steps_on t' r') (set s.views id (added past t r m v)) ≡ map (steps_on t' r') s.views
+  map_else t' r' n = map-set (steps_on t' r') s.views id (added past t r m v) ∙ (ap (set (map (steps_on t' r') s.views) id) (steps_on-added-else past t r m v t' r' n)
       ∙ set_again (map (steps_on t' r') s.views) id (steps_on t' r' v) (at_map (steps_on t' r') s.views id v at))
 
 -- a seat that takes a step is still dealt by the first one, and stands where it stood
-module _ {S : Type 0} (k : Layout) (s : State S View) (id : ℕ) (v : View) (m : SeatStep) (shown : Shows k s) (at : get_elem? s.views id ≡ some v) where
-  pub still_dealt : ((u : View) → get_elem? (set s.views id (with_step m v)) 0 ≡ some u → u.dealt ≡ length (set s.views id (with_step m v)))
-      × (length (set s.views id (with_step m v)) ≤ k.domains) × (0 < length (set s.views id (with_step m v)))
-  still_dealt = let w : View = with_step m v in (
-    (λ u e. ⊎_elim (λ (q : (0 ≡ id) × (w ≡ u)). ap (λ (z : View). z.dealt) (sym q.1) ∙ (shown.dealt.0 v (subst (λ (z : ℕ). get_elem? s.views z ≡ some v) (sym q.0) at) ∙ sym (length-set s.views id w)))
-        (λ (q : (0 ≢ id) × (get_elem? s.views 0 ≡ some u)). shown.dealt.0 u q.1 ∙ sym (length-set s.views id w)) (at_set s.views id 0 w u e)),
-    (let z = length-set s.views id w in let a = shown.dealt.1 in omega arith),
-    (let z = length-set s.views id w in let a = shown.dealt.2 in omega arith),
+module _ {S : Type 0} (past : History) (k : Layout) (s : State S View) (id : ℕ) (v : View) (m : SeatStep) (shown : Shows k s) (at : get_elem? s.views id ≡ some v) where
+  pub still_dealt : ((u : View) → get_elem? (set s.views id (with_step past m v)) 0 ≡ some u → u.dealt ≡ length (set s.views id (with_step past m v)))
+      × (length (set s.views id (with_step past m v)) ≤ k.domains) × (0 < length (set s.views id (with_step past m v)))
+  still_dealt = let w : View = with_step past m v in (
+    (λ u e. ⊎_elim (λ (q : (0 ≡ id) × (w ≡ u)). ap (λ (z : View). z.dealt) (sym q.1) ∙ (shown.now.dealt.0 v (subst (λ (z : ℕ). get_elem? s.views z ≡ some v) (sym q.0) at) ∙ sym (length-set s.views id w)))
+        (λ (q : (0 ≢ id) × (get_elem? s.views 0 ≡ some u)). shown.now.dealt.0 u q.1 ∙ sym (length-set s.views id w)) (at_set s.views id 0 w u e)),
+    (let z = length-set s.views id w in let a = shown.now.dealt.1 in omega arith),
+    (let z = length-set s.views id w in let a = shown.now.dealt.2 in omega arith),
   )
 
-  pub still_seated : (i : ℕ) (u : View) → get_elem? (set s.views id (with_step m v)) i ≡ some u → (u.position ≡ i) × (u.first ≡ k.first) × (u.headers ≡ k.headers)
-  still_seated i u e = let w : View = with_step m v in ⊎_elim (λ (q : (i ≡ id) × (w ≡ u)). let z = shown.seats id v at in (ap (λ (x : View). x.position) (sym q.1) ∙ (z.0 ∙ sym q.0), ap (λ (x : View). x.first) (sym q.1) ∙ z.1, ap (λ (x : View). x.headers) (sym q.1) ∙ z.2))
-      (λ (q : (i ≢ id) × (get_elem? s.views i ≡ some u)). shown.seats i u q.1) (at_set s.views id i w u e)
+  pub still_seated : (i : ℕ) (u : View) → get_elem? (set s.views id (with_step past m v)) i ≡ some u → (u.position ≡ i) × (u.first ≡ k.first) × (u.headers ≡ k.headers)
+  still_seated i u e = let w : View = with_step past m v in ⊎_elim (λ (q : (i ≡ id) × (w ≡ u)). let z = shown.now.seats id v at in (ap (λ (x : View). x.position) (sym q.1) ∙ (z.0 ∙ sym q.0), ap (λ (x : View). x.first) (sym q.1) ∙ z.1, ap (λ (x : View). x.headers) (sym q.1) ∙ z.2))
+      (λ (q : (i ≢ id) × (get_elem? s.views i ≡ some u)). shown.now.seats i u q.1) (at_set s.views id i w u e)
 
 module _ {S : Type 0} (k : Layout) (s : State S View) (id : ℕ) (v : View) (t r : ℕ) (m : EntryStep) (shown : Shows k s) (at : get_elem? s.views id ≡ some v) where
+  abbrev past : History
+  past = shown.history
+
   -- the words of another entry stay
   stays : (j y t' r' j' : ℕ) → r < TABLE_ENTRIES → r' < TABLE_ENTRIES → j < 3 → j' < 3 → (t ≡ t' → r ≡ r' → ⊥) → get_or (set s.words (place t r j) y) (place t' r' j') 0 ≡ get_or s.words (place t' r' j') 0
   stays j y t' r' j' a b c d n = get_or-set_other s.words (place t r j) (place t' r' j') y 0 (λ e. let p = apart t r j t' r' j' a b c d (sym e) in n p.0 p.1)
 
-  pub shows_step : (j y : ℕ) → t < k.domains → r < TABLE_ENTRIES → j < 3
+  pub shows_step : (j y : ℕ) → t < k.domains → r < TABLE_ENTRIES → j < 3 → v.position ≡ id → word_on m ≡ j → y ≡ left_on_entry m (get_or s.words (place t r j) 0) → SaysFound m (get_or s.words (place t r j) 0) → IsByOwner id t m
       → (let ws : List ℕ = set s.words (place t r j) y in ShowsEntry k.first t (get_or ws (place t r 0) 0) (get_or ws (place t r 1) 0) (get_or ws (place t r 2) 0) (set (map (steps_on t r) s.views) id (m ∷ steps_on t r v)))
-      → Shows k (stepped s (place t r j) y id [] (added t r m v) keeps)
-  shows_step j y tn rn jn entries = let w : View = added t r m v in let ws : List ℕ = set s.words (place t r j) y in record {
-    wide = length-set s.words (place t r j) y ∙ shown.wide;
-    dealt = still_dealt k s id v (on_entry t r m) shown at;
-    seats = still_seated k s id v (on_entry t r m) shown at;
-    entries = λ t' r' tn' rn'. dite (ℕ_discrete t t')
-        (λ e. dite (ℕ_discrete r r') (λ f. subst (λ (z : ℕ × ℕ). ShowsEntry k.first z.0 (get_or ws (place z.0 z.1 0) 0) (get_or ws (place z.0 z.1 1) 0) (get_or ws (place z.0 z.1 2) 0) (map (steps_on z.0 z.1) (set s.views id w))) (λ i. (e i, f i))
-        (subst (ShowsEntry k.first t (get_or ws (place t r 0) 0) (get_or ws (place t r 1) 0) (get_or ws (place t r 2) 0)) (sym (map_here s id v t r m at)) entries))
-        (λ f. other t' r' tn' rn' (λ _ g. f g)))
-        (λ e. other t' r' tn' rn' (λ g _. e g));
-    headers = λ t' tn'. let h = shown.headers t' tn' in
-        let p : get_or (set s.words (place t r j) y) (header_place t') 0 ≡ get_or s.words (header_place t') 0 = get_or-set_other s.words (place t r j) (header_place t') y 0 (λ e. omega arith) in
-        let q : map (steps_on_header t') (set s.views id (added t r m v)) ≡ map (steps_on_header t') s.views = map-set (steps_on_header t') s.views id (added t r m v) ∙ set_again (map (steps_on_header t') s.views) id (steps_on_header t' v) (at_map (steps_on_header t') s.views id v at) in
-        (p ∙ (h.0 ∙ ap (header_now k t') (sym q)), subst IsHeader (sym p) h.1);
-    saw_headers = λ t' tn'. subst (SawHeaders k t') (sym (map-set (steps_on_header t') s.views id w ∙ set_again (map (steps_on_header t') s.views) id (steps_on_header t' v) (at_map (steps_on_header t') s.views id v at))) (shown.saw_headers t' tn');
+      → Shows k (stepped s (place t r j) y id [] (added past t r m v) keeps)
+  shows_step j y tn rn jn own on is says may entries = let w : View = added past t r m v in let ws : List ℕ = set s.words (place t r j) y in record {
+    history = (id, on_entry t r m) ∷ past;
+    stood = ((s, shown.now), shown.stood);
+    now = record {
+      wide = length-set s.words (place t r j) y ∙ shown.now.wide;
+      dealt = still_dealt past k s id v (on_entry t r m) shown at;
+      seats = still_seated past k s id v (on_entry t r m) shown at;
+      entries = λ t' r' tn' rn'. dite (ℕ_discrete t t')
+          (λ e. dite (ℕ_discrete r r') (λ f. subst (λ (z : ℕ × ℕ). ShowsEntry k.first z.0 (get_or ws (place z.0 z.1 0) 0) (get_or ws (place z.0 z.1 1) 0) (get_or ws (place z.0 z.1 2) 0) (map (steps_on z.0 z.1) (set s.views id w))) (λ i. (e i, f i))
+          (subst (ShowsEntry k.first t (get_or ws (place t r 0) 0) (get_or ws (place t r 1) 0) (get_or ws (place t r 2) 0)) (sym (map_here past s id v t r m at)) entries))
+          (λ f. other t' r' tn' rn' (λ _ g. f g)))
+          (λ e. other t' r' tn' rn' (λ g _. e g));
+      headers = λ t' tn'. let h = shown.now.headers t' tn' in
+          let p : get_or (set s.words (place t r j) y) (header_place t') 0 ≡ get_or s.words (header_place t') 0 = get_or-set_other s.words (place t r j) (header_place t') y 0 (λ e. omega arith) in
+          let q : map (steps_on_header t') (set s.views id (added past t r m v)) ≡ map (steps_on_header t') s.views = map-set (steps_on_header t') s.views id (added past t r m v) ∙ set_again (map (steps_on_header t') s.views) id (steps_on_header t' v) (at_map (steps_on_header t') s.views id v at) in
+          (p ∙ (h.0 ∙ ap (header_now k t') (sym q)), subst IsHeader (sym p) h.1);
+      saw_headers = λ t' tn'. subst (SawHeaders k t') (sym (map-set (steps_on_header t') s.views id w ∙ set_again (map (steps_on_header t') s.views) id (steps_on_header t' v) (at_map (steps_on_header t') s.views id v at))) (shown.now.saw_headers t' tn');
+      led_here = leads_on k s id v past (on_entry t r m) (place t r j) y at shown.now.led_here own shown.now.wide (inside k.domains t r j tn rn jn) (ap (place t r) on) is says may;
+    };
   }
     where
       other : (t' r' : ℕ) → t' < k.domains → r' < TABLE_ENTRIES → (t ≡ t' → r ≡ r' → ⊥) → let u : List ℕ = set s.words (place t r j) y in
-          ShowsEntry k.first t' (get_or u (place t' r' 0) 0) (get_or u (place t' r' 1) 0) (get_or u (place t' r' 2) 0) (map (steps_on t' r') (set s.views id (added t r m v)))
+          ShowsEntry k.first t' (get_or u (place t' r' 0) 0) (get_or u (place t' r' 1) 0) (get_or u (place t' r' 2) 0) (map (steps_on t' r') (set s.views id (added past t r m v)))
       other t' r' tn' rn' n = let p0 = stays j y t' r' 0 rn rn' jn (omega arith) n in let p1 = stays j y t' r' 1 rn rn' jn (omega arith) n in let p2 = stays j y t' r' 2 rn rn' jn (omega arith) n in
-          let h = map_else s id v t r m at t' r' n in let f = shown.entries t' r' tn' rn' in
+          let h = map_else past s id v t r m at t' r' n in let f = shown.now.entries t' r' tn' rn' in
           subst (λ (z : ℕ × ℕ × ℕ × List (List EntryStep)). ShowsEntry k.first t' z.0 z.1 z.2 z.3) (λ i. (sym p0 i, sym p1 i, sym p2 i, sym h i)) f

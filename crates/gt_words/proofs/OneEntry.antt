@@ -130,9 +130,9 @@ module _ (g t : ℕ) (hs : List (List EntryStep)) (h : List EntryStep) (at : get
   }
 
   pub entry_changes : (word' expected stored : ℕ) (c : Change) (y : EntryRecord) → IsRecord y → MayFollow y (last_record g h) → IsSpelled y.entry a b → word' ≡ word_of y.entry y.generation (total_pins Read hs) (total_pins Write hs)
-      → (y.entry ≡ Invalid → (total_pins Read hs ≡ 0) × (total_pins Write hs ≡ 0)) → (is_read_only y.entry ≡ true → total_pins Write hs ≡ 0) → word ≡ expected → ShowsEntry g t word' a b (set hs t (Changed c expected stored y ∷ h))
-  entry_changes word' expected stored c y ok may body is unpinned unwritten from = let m : EntryStep = Changed c expected stored y in let here : (m ∷ h) ≡ owner_steps t (set hs t (m ∷ h)) = sym (whose_here hs t h (m ∷ h) at) in record {
-    record_shown = subst (λ (z : List EntryStep). ShowsRecord (last_record g z) (earlier_records g z) word' a b (set hs t (m ∷ h))) here (changes_shown (last_record g h) (earlier_records g h) a b hs t h word word' expected stored c y mine at ok may body is unpinned unwritten);
+      → (is_read_only y.entry ≡ true → total_pins Write hs ≡ 0) → word ≡ expected → ShowsEntry g t word' a b (set hs t (Changed c expected stored y ∷ h))
+  entry_changes word' expected stored c y ok may body is unwritten from = let m : EntryStep = Changed c expected stored y in let here : (m ∷ h) ≡ owner_steps t (set hs t (m ∷ h)) = sym (whose_here hs t h (m ∷ h) at) in record {
+    record_shown = subst (λ (z : List EntryStep). ShowsRecord (last_record g z) (earlier_records g z) word' a b (set hs t (m ∷ h))) here (changes_shown (last_record g h) (earlier_records g h) a b hs t h word word' expected stored c y mine at ok may body is unwritten);
     first = k.first ∙ (ap (stored_body First) owner ∙ ap (stored_body First) here);
     second = k.second ∙ (ap (stored_body Second) owner ∙ ap (stored_body Second) here);
     gone_on = subst (λ (z : List EntryStep). (e : ℕ) → IsIn e (exchanged z) → HasGoneOn (last_record g z) (set hs t (m ∷ h)) e) here (λ e is. still_gone hs t h m at y e (each e is) (λ d. omega arith));
@@ -147,7 +147,13 @@ module _ (g t : ℕ) (hs : List (List EntryStep)) (h : List EntryStep) (at : get
       → ShowsEntry g t (idle_word_of Invalid (last_record g h).generation) a b (set hs t (Changed change.Revoke expected stored (record { generation = (last_record g h).generation; entry = Invalid }) ∷ h))
   entry_revokes expected stored from idle = let x : EntryRecord = last_record g h in let z = idle_held x (earlier_records g h) word (total_pins Read hs) (total_pins Write hs) mine.lawful mine.in_range mine.spelled idle in
       let z0 = z.0 in let z1 = z.1 in let rec = legal_record x (earlier_records g h) mine.lawful in
-      entry_changes (idle_word_of Invalid x.generation) expected stored change.Revoke (record { generation = x.generation; entry = Invalid }) (tt, rec.1) (inl (refl, refl)) tt (omega arith) (λ _. z) (λ _. z1) from
+      entry_changes (idle_word_of Invalid x.generation) expected stored change.Revoke (record { generation = x.generation; entry = Invalid }) (tt, rec.1) (inl (refl, refl)) tt (omega arith) (λ _. z1) from
+
+  -- the entry becomes invalid, with its pins
+  pub entry_withdraws : (word' expected stored : ℕ) → word ≡ expected → word' ≡ word_of Invalid (last_record g h).generation (total_pins Read hs) (total_pins Write hs)
+      → ShowsEntry g t word' a b (set hs t (Changed change.Withdraw expected stored (record { generation = (last_record g h).generation; entry = Invalid }) ∷ h))
+  entry_withdraws word' expected stored from is = let x : EntryRecord = last_record g h in let rec = legal_record x (earlier_records g h) mine.lawful in
+      entry_changes word' expected stored change.Withdraw (record { generation = x.generation; entry = Invalid }) (tt, rec.1) (inl (refl, refl)) tt is (λ n. cc) from
 
   -- an entry is published, where the word is the invalid word with no pins
   pub entry_grants : (expected stored : ℕ) (e : Entry) → word ≡ expected → word ≡ idle_word_of Invalid (last_record g h).generation → (last_record g h).entry ≡ Invalid → IsEntry e → e ≢ Invalid → (last_record g h).generation < LAST_GENERATION → IsSpelled e (stored_body First h) (stored_body Second h)
@@ -155,7 +161,7 @@ module _ (g t : ℕ) (hs : List (List EntryStep)) (h : List EntryStep) (at : get
   entry_grants expected stored e from idle none ok some_kind room body = let x : EntryRecord = last_record g h in
       let z = idle_held x (earlier_records g h) word (total_pins Read hs) (total_pins Write hs) mine.lawful mine.in_range mine.spelled (idle ∙ ap (λ (y : Entry). idle_word_of y x.generation) (sym none)) in let z0 = z.0 in let z1 = z.1 in
       entry_changes (idle_word_of e (x.generation + 1)) expected stored (change.Publish e) (record { generation = x.generation + 1; entry = e }) (ok, omega arith) (inr (refl, some_kind, inl none))
-      (subst (λ (u : ℕ × ℕ). IsSpelled e u.0 u.1) (λ j. (sym (k.first ∙ ap (stored_body First) owner) j, sym (k.second ∙ ap (stored_body Second) owner) j)) body) (omega arith) (λ n. absurd (some_kind n)) (λ _. z1) from
+      (subst (λ (u : ℕ × ℕ). IsSpelled e u.0 u.1) (λ j. (sym (k.first ∙ ap (stored_body First) owner) j, sym (k.second ∙ ap (stored_body Second) owner) j)) body) (omega arith) (λ _. z1) from
 
 -- the low bits of an entry that is turned
 pub turned_low : (o : Bool) (e : Entry) → e ≢ Invalid → is_read_only e ≡ not o → low_bits (with_ro o e) + flag (not o) ≡ low_bits e + flag o
@@ -214,4 +220,4 @@ module _ (g t : ℕ) (hs : List (List EntryStep)) (h : List EntryStep) (at : get
       → ShowsEntry g t word' a b (set hs t (Changed c expected stored (record { generation = (last_record g h).generation + 1; entry = with_ro o (last_record g h).entry }) ∷ h))
   entry_turns o c word' expected stored from some_kind now room unwritten is = let x : EntryRecord = last_record g h in let m = mine g t hs h at word a b k in let rec = legal_record x (earlier_records g h) m.lawful in
       entry_changes g t hs h at word a b k word' expected stored c (record { generation = x.generation + 1; entry = with_ro o x.entry }) (turned_entry o x.entry rec.0, omega arith) (inr (refl, turned_some o x.entry some_kind, inr (ap (λ (u : Bool). with_ro u x.entry) (turned_other o (is_read_only x.entry) now))))
-      (turned_spells o x.entry a b m.body) is (λ n. absurd (turned_some o x.entry some_kind n)) (λ q. unwritten (sym (turned_ro o x.entry some_kind) ∙ q)) from
+      (turned_spells o x.entry a b m.body) is (λ q. unwritten (sym (turned_ro o x.entry some_kind) ∙ q)) from

@@ -14,6 +14,7 @@ use Rattle.gt_types.specs.declared.Dir.{Dir}
 use Rattle.gt_types.specs.declared.Dir.TheVariants.{Read, Write}
 use Rattle.gt_types.specs.declared.config.DomainConfig.{DomainConfig}
 use Rattle.gt_types.specs.declared.limits.TheConstants.{LAST_VERSION, MAX_TABLE_FRAMES, TABLE_ENTRIES}
+use Rattle.gt_words.proofs.Order.{leads_from, leads_to_more, new_index}
 use Rattle.gt_words.specs.Conditions.{initial}
 use Rattle.gt_words.specs.Controls.{generation_of}
 use Rattle.gt_words.specs.Places.{dealer_after, dealt_to, new_view}
@@ -40,7 +41,6 @@ entry_opens g t small word a b w p q = subst (λ (ms : List EntryStep). ShowsRec
   in_range = (omega arith, omega arith);
   body = tt;
   lawful = ((tt, small), refl);
-  unpinned = λ _. (refl, refl);
   unwritten = λ _. refl;
   pinned = λ i h at z y. absurd (subst (λ (ms : List EntryStep). IsIn z (pins ms)) (alone_at i h at) y);
   saw = λ i h at. subst (λ (ms : List EntryStep). SawRecord (last_record g []) [] (seen ms)) (sym (alone_at i h at)) tt;
@@ -64,13 +64,18 @@ initial_header k t = let p : header_place t % DOMAIN_WORDS ≡ 0 = omega arith i
 pub opens : {S : Type 0} (k : Layout) (ws : List ℕ) → length ws ≡ k.domains * DOMAIN_WORDS → 0 < k.domains → k.first < 1048576 → ((t : ℕ) → t < k.domains → IsHeader (get_or k.headers t 0)) → ((i : ℕ) → i < k.domains * DOMAIN_WORDS → get_or ws i 0 ≡ initial k i)
     → Shows {S = S} k (opening ws [] (new_view k.first k.headers k.ids 0))
 opens k ws wide some_domain small headers is = record {
-  wide = wide;
-  dealt = ((λ v e. ap (λ (z : View). z.dealt) (sym (some-injective _ v e))), omega arith, omega arith);
-  seats = one;
-  entries = λ t r tn rn. entry_opens k.first t small _ _ _ (is (place t r 0) (omega arith) ∙ initial_here k t r 0 rn (omega arith)) (is (place t r 1) (omega arith) ∙ initial_here k t r 1 rn (omega arith)) (is (place t r 2) (omega arith) ∙ initial_here k t r 2 rn (omega arith));
-  headers = λ t tn. let e : get_or ws (header_place t) 0 ≡ get_or k.headers t 0 = is (header_place t) (omega arith) ∙ initial_header k t in
-      (e ∙ ap (stored_header (get_or k.headers t 0)) (sym (nothing_at t)), subst IsHeader (sym e) (headers t tn));
-  saw_headers = λ t tn i h at. subst (λ (ms : List HeaderStep). IfSome (seen_header ms) (λ n. IsIn n (headers_of k t ([] ∷ [])))) (sym (alone_at i h at)) tt;
+  history = [];
+  stood = tt;
+  now = record {
+    wide = wide;
+    dealt = ((λ v e. ap (λ (z : View). z.dealt) (sym (some-injective _ v e))), omega arith, omega arith);
+    seats = one;
+    entries = λ t r tn rn. entry_opens k.first t small _ _ _ (is (place t r 0) (omega arith) ∙ initial_here k t r 0 rn (omega arith)) (is (place t r 1) (omega arith) ∙ initial_here k t r 1 rn (omega arith)) (is (place t r 2) (omega arith) ∙ initial_here k t r 2 rn (omega arith));
+    headers = λ t tn. let e : get_or ws (header_place t) 0 ≡ get_or k.headers t 0 = is (header_place t) (omega arith) ∙ initial_header k t in
+        (e ∙ ap (stored_header (get_or k.headers t 0)) (sym (nothing_at t)), subst IsHeader (sym e) (headers t tn));
+    saw_headers = λ t tn i h at. subst (λ (ms : List HeaderStep). IfSome (seen_header ms) (λ n. IsIn n (headers_of k t ([] ∷ [])))) (sym (alone_at i h at)) tt;
+    led_here = leads_from k ws is;
+  };
 }
   where
     one : (j : ℕ) (v : View) → get_elem? (new_view k.first k.headers k.ids 0 ∷ []) j ≡ some v → (v.position ≡ j) × (v.first ≡ k.first) × (v.headers ≡ k.headers)
@@ -121,46 +126,44 @@ entry_more g t word a b hs k = let same = nothing_more hs t in
       in_range = (let r = held_more Read hs in let f = k.record_shown.in_range.0 in omega arith, let w = held_more Write hs in let f = k.record_shown.in_range.1 in omega arith);
       body = k.record_shown.body;
       lawful = k.record_shown.lawful;
-      unpinned = λ n. (held_more Read hs ∙ (k.record_shown.unpinned n).0, held_more Write hs ∙ (k.record_shown.unpinned n).1);
       unwritten = λ n. held_more Write hs ∙ k.record_shown.unwritten n;
       pinned = λ i h at p y. ⊎_elim (λ (e : get_elem? hs i ≡ some h). k.record_shown.pinned i h e p y) (λ (e : [] ≡ h). absurd (subst (λ (ms : List EntryStep). IsIn p (pins ms)) (sym e) y)) (at_snoc hs [] h i at);
       saw = λ i h at. ⊎_elim (λ (e : get_elem? hs i ≡ some h). k.record_shown.saw i h e) (λ (e : [] ≡ h). subst (λ (ms : List EntryStep). SawRecord (last_record g (owner_steps t hs)) (earlier_records g (owner_steps t hs)) (seen ms)) e tt) (at_snoc hs [] h i at);
       counted = λ i h at. counted_more hs (seen h) (⊎_elim (λ (e : get_elem? hs i ≡ some h). k.record_shown.counted i h e) (λ (e : [] ≡ h). subst (λ (ms : List EntryStep). CountsTaken hs (seen ms)) e tt) (at_snoc hs [] h i at));
     } k.first k.second (λ e is. gone_more (last_record g (owner_steps t hs)) hs e (k.gone_on e is))
 
-new_index : {A : Type 0} (l : List A) (a b : A) (j : ℕ) → get_elem? (l ++ a ∷ []) j ≡ some b → (get_elem? l j ≡ some b) ⊎ ((a ≡ b) × (j ≡ length l))
-new_index [] a b zero e = inr (some-injective a b e, refl)
-new_index [] a b (suc j) e = absurd (some-ne-none b (sym e))
-new_index (x ∷ xs) a b zero e = inl e
-new_index (x ∷ xs) a b (suc j) e = ⊎_elim (λ (f : get_elem? xs j ≡ some b). inl f) (λ (f : (a ≡ b) × (j ≡ length xs)). inr (f.0, ap suc f.1)) (new_index xs a b j e)
-
 in_front : {A : Type 0} (l m : List A) (b : A) → 0 < length l → get_elem? (l ++ m) 0 ≡ some b → get_elem? l 0 ≡ some b
 in_front [] m b h e = absurd (omega arith)
 in_front (x ∷ xs) m b h e = e
 
 pub deals : {S : Type 0} (k : Layout) (id : ℕ) (v : View) → v.position ≡ 0 → v.dealt < k.domains → Splits (Shows {S = S} k) id v (dealer_after v) (dealt_to v)
-deals k id v own room s shown at = let is = shown.seats id v at in let zero_is : id ≡ 0 = sym is.0 ∙ own in let u : View = dealer_after v in let vs : List View = set s.views id u in
-    let front : get_elem? s.views 0 ≡ some v = subst (λ (i : ℕ). get_elem? s.views i ≡ some v) zero_is at in let n : v.dealt ≡ length s.views = shown.dealt.0 v front in let len : length vs ≡ length s.views = length-set s.views id u in
+deals k id v own room s shown at = let is = shown.now.seats id v at in let zero_is : id ≡ 0 = sym is.0 ∙ own in let u : View = dealer_after v in let vs : List View = set s.views id u in
+    let front : get_elem? s.views 0 ≡ some v = subst (λ (i : ℕ). get_elem? s.views i ≡ some v) zero_is at in let n : v.dealt ≡ length s.views = shown.now.dealt.0 v front in let len : length vs ≡ length s.views = length-set s.views id u in
     let long : length (vs ++ dealt_to v ∷ []) ≡ length vs + 1 = length-append vs (dealt_to v ∷ []) in
     record {
-      wide = shown.wide;
-      dealt = (
-        (λ w e. ⊎_elim (λ (q : (0 ≡ id) × (u ≡ w)). ap (λ (z : View). z.dealt) (sym q.1) ∙ (let d : v.dealt + 1 ≡ length (vs ++ dealt_to v ∷ []) = omega arith in d)) (λ (q : (0 ≢ id) × (get_elem? s.views 0 ≡ some w)). absurd (q.0 (sym zero_is)))
-            (at_set s.views id 0 u w (in_front vs (dealt_to v ∷ []) w (let p = shown.dealt.2 in omega arith) e))),
-        omega arith,
-        omega arith,
-      );
-      seats = λ j w e. ⊎_elim (λ (f : get_elem? vs j ≡ some w). ⊎_elim (λ (q : (j ≡ id) × (u ≡ w)). (ap (λ (z : View). z.position) (sym q.1) ∙ (is.0 ∙ sym q.0), ap (λ (z : View). z.first) (sym q.1) ∙ is.1, ap (λ (z : View). z.headers) (sym q.1) ∙ is.2)) (λ (q : (j ≢ id) × (get_elem? s.views j ≡ some w)). shown.seats j w q.1) (at_set s.views id j u w f))
-          (λ (f : (dealt_to v ≡ w) × (j ≡ length vs)). (ap (λ (z : View). z.position) (sym f.0) ∙ (n ∙ (sym len ∙ sym f.1)), ap (λ (z : View). z.first) (sym f.0) ∙ is.1, ap (λ (z : View). z.headers) (sym f.0) ∙ is.2)) (new_index vs (dealt_to v) w j e);
-      entries = λ t r tn rn. let hs : List (List EntryStep) = map (steps_on t r) s.views in
-          let q : map (steps_on t r) (vs ++ dealt_to v ∷ []) ≡ hs ++ [] ∷ [] = map-append (steps_on t r) vs (dealt_to v ∷ []) ∙ ap (λ (l : List (List EntryStep)). l ++ [] ∷ []) (map-set (steps_on t r) s.views id u ∙ set_again hs id (steps_on t r v) (at_map (steps_on t r) s.views id v at)) in
-          subst (ShowsEntry k.first t (get_or s.words (place t r 0) 0) (get_or s.words (place t r 1) 0) (get_or s.words (place t r 2) 0)) (sym q) (entry_more k.first t _ _ _ hs (shown.entries t r tn rn));
-      headers = λ t tn. let hs : List (List HeaderStep) = map (steps_on_header t) s.views in let h = shown.headers t tn in
-          let q : map (steps_on_header t) (vs ++ dealt_to v ∷ []) ≡ hs ++ [] ∷ [] = map-append (steps_on_header t) vs (dealt_to v ∷ []) ∙ ap (λ (l : List (List HeaderStep)). l ++ [] ∷ []) (map-set (steps_on_header t) s.views id u ∙ set_again hs id (steps_on_header t v) (at_map (steps_on_header t) s.views id v at)) in
-          (h.0 ∙ sym (ap (header_now k t) q ∙ ap (stored_header (get_or k.headers t 0)) (nothing_more hs t)), h.1);
-      saw_headers = λ t tn. let hs : List (List HeaderStep) = map (steps_on_header t) s.views in
-          let q : map (steps_on_header t) (vs ++ dealt_to v ∷ []) ≡ hs ++ [] ∷ [] = map-append (steps_on_header t) vs (dealt_to v ∷ []) ∙ ap (λ (l : List (List HeaderStep)). l ++ [] ∷ []) (map-set (steps_on_header t) s.views id u ∙ set_again hs id (steps_on_header t v) (at_map (steps_on_header t) s.views id v at)) in
-          subst (SawHeaders k t) (sym q) (heard_more k t hs (shown.saw_headers t tn));
+      history = shown.history;
+      stood = shown.stood;
+      now = record {
+        wide = shown.now.wide;
+        dealt = (
+          (λ w e. ⊎_elim (λ (q : (0 ≡ id) × (u ≡ w)). ap (λ (z : View). z.dealt) (sym q.1) ∙ (let d : v.dealt + 1 ≡ length (vs ++ dealt_to v ∷ []) = omega arith in d)) (λ (q : (0 ≢ id) × (get_elem? s.views 0 ≡ some w)). absurd (q.0 (sym zero_is)))
+              (at_set s.views id 0 u w (in_front vs (dealt_to v ∷ []) w (let p = shown.now.dealt.2 in omega arith) e))),
+          omega arith,
+          omega arith,
+        );
+        seats = λ j w e. ⊎_elim (λ (f : get_elem? vs j ≡ some w). ⊎_elim (λ (q : (j ≡ id) × (u ≡ w)). (ap (λ (z : View). z.position) (sym q.1) ∙ (is.0 ∙ sym q.0), ap (λ (z : View). z.first) (sym q.1) ∙ is.1, ap (λ (z : View). z.headers) (sym q.1) ∙ is.2)) (λ (q : (j ≢ id) × (get_elem? s.views j ≡ some w)). shown.now.seats j w q.1) (at_set s.views id j u w f))
+            (λ (f : (dealt_to v ≡ w) × (j ≡ length vs)). (ap (λ (z : View). z.position) (sym f.0) ∙ (n ∙ (sym len ∙ sym f.1)), ap (λ (z : View). z.first) (sym f.0) ∙ is.1, ap (λ (z : View). z.headers) (sym f.0) ∙ is.2)) (new_index vs (dealt_to v) w j e);
+        entries = λ t r tn rn. let hs : List (List EntryStep) = map (steps_on t r) s.views in
+            let q : map (steps_on t r) (vs ++ dealt_to v ∷ []) ≡ hs ++ [] ∷ [] = map-append (steps_on t r) vs (dealt_to v ∷ []) ∙ ap (λ (l : List (List EntryStep)). l ++ [] ∷ []) (map-set (steps_on t r) s.views id u ∙ set_again hs id (steps_on t r v) (at_map (steps_on t r) s.views id v at)) in
+            subst (ShowsEntry k.first t (get_or s.words (place t r 0) 0) (get_or s.words (place t r 1) 0) (get_or s.words (place t r 2) 0)) (sym q) (entry_more k.first t _ _ _ hs (shown.now.entries t r tn rn));
+        headers = λ t tn. let hs : List (List HeaderStep) = map (steps_on_header t) s.views in let h = shown.now.headers t tn in
+            let q : map (steps_on_header t) (vs ++ dealt_to v ∷ []) ≡ hs ++ [] ∷ [] = map-append (steps_on_header t) vs (dealt_to v ∷ []) ∙ ap (λ (l : List (List HeaderStep)). l ++ [] ∷ []) (map-set (steps_on_header t) s.views id u ∙ set_again hs id (steps_on_header t v) (at_map (steps_on_header t) s.views id v at)) in
+            (h.0 ∙ sym (ap (header_now k t) q ∙ ap (stored_header (get_or k.headers t 0)) (nothing_more hs t)), h.1);
+        saw_headers = λ t tn. let hs : List (List HeaderStep) = map (steps_on_header t) s.views in
+            let q : map (steps_on_header t) (vs ++ dealt_to v ∷ []) ≡ hs ++ [] ∷ [] = map-append (steps_on_header t) vs (dealt_to v ∷ []) ∙ ap (λ (l : List (List HeaderStep)). l ++ [] ∷ []) (map-set (steps_on_header t) s.views id u ∙ set_again hs id (steps_on_header t v) (at_map (steps_on_header t) s.views id v at)) in
+            subst (SawHeaders k t) (sym q) (heard_more k t hs (shown.now.saw_headers t tn));
+        led_here = leads_to_more k s id v shown.history at shown.now.led_here;
+      };
     }
 
 -- the first headers are headers

@@ -47,14 +47,14 @@ until_more d g (x ∷ xs) (suc i) h m at e = let r = until_more d g xs i h m at 
 
 -- a pin that is left of a record is counted by each word that the owner exchanged from
 pub pins_left : PinsLeftAreCounted
-pins_left k s i v t r e p shown at tn rn held past old = let hs : List (List EntryStep) = map (steps_on t r) s.views in let l = ((shown.entries t r tn rn).gone_on e past).left p.0 in
+pins_left k s i v t r e p shown at tn rn held past old = let hs : List (List EntryStep) = map (steps_on t r) s.views in let l = ((shown.now.entries t r tn rn).gone_on e past).left p.0 in
     let a = until_at p.0 (generation_of e) hs i (steps_on t r v) (at_map (steps_on t r) s.views i v at) in let b = until_in (generation_of e) p (pins (steps_on t r v)) held old in omega arith
 
 -- no pin is taken of a record that the owner's list has gone on from
 pub past_pins : PastPinsAreRefused
-past_pins k s i v t r e at expected left d y here tn rn past old tight after = let hs : List (List EntryStep) = map (steps_on t r) s.views in let h : List EntryStep = steps_on t r v in let m : EntryStep = Pinned d expected y in
+past_pins k s i v t r e at expected left d y steps here tn rn past old tight after = let hs : List (List EntryStep) = map (steps_on t r) s.views in let h : List EntryStep = steps_on t r v in let m : EntryStep = Pinned d expected y in
     let h_at : get_elem? hs i ≡ some h = at_map (steps_on t r) s.views i v here in
-    let same = map_here s i v t r m here in let shown = after.entries t r tn rn in
+    let same = map_here steps s i v t r m here in let shown = after.now.entries t r tn rn in
     let there : IsIn e (exchanged (owner_steps t (set hs i (m ∷ h)))) = subst (IsIn e) (sym (same_owner k.first t hs i h h_at exchanged m refl)) past in
     let gone = shown.gone_on e (subst (λ (l : List (List EntryStep)). IsIn e (exchanged (owner_steps t l))) (sym same) there) in
     let l : total_until d (generation_of e) (set hs i (m ∷ h)) ≤ pins_in d e = subst (λ (u : List (List EntryStep)). total_until d (generation_of e) u ≤ pins_in d e) same (gone.left d) in
@@ -66,11 +66,11 @@ one_entry g t word a b word' a' b' hs k l = (k.record_shown.spelled ∙ sym l.re
 
 -- the words are those that the views say
 pub words_follow : WordsFollowViews
-words_follow k s z shown also same = (λ t r j tn rn jn. at j jn t r (entry t r tn rn), λ t tn. (shown.headers t tn).0 ∙ ap (λ (vs : List View). header_now k t (map (steps_on_header t) vs)) same ∙ sym (also.headers t tn).0)
+words_follow k s z shown also same = (λ t r j tn rn jn. at j jn t r (entry t r tn rn), λ t tn. (shown.now.headers t tn).0 ∙ ap (λ (vs : List View). header_now k t (map (steps_on_header t) vs)) same ∙ sym (also.now.headers t tn).0)
   where
     entry : (t r : ℕ) → t < k.domains → r < TABLE_ENTRIES → (get_or s.words (place t r 0) 0 ≡ get_or z.words (place t r 0) 0) × (get_or s.words (place t r 1) 0 ≡ get_or z.words (place t r 1) 0) × (get_or s.words (place t r 2) 0 ≡ get_or z.words (place t r 2) 0)
-    entry t r tn rn = one_entry k.first t _ _ _ _ _ _ (map (steps_on t r) s.views) (shown.entries t r tn rn)
-        (subst (λ (vs : List View). ShowsEntry k.first t (get_or z.words (place t r 0) 0) (get_or z.words (place t r 1) 0) (get_or z.words (place t r 2) 0) (map (steps_on t r) vs)) (sym same) (also.entries t r tn rn))
+    entry t r tn rn = one_entry k.first t _ _ _ _ _ _ (map (steps_on t r) s.views) (shown.now.entries t r tn rn)
+        (subst (λ (vs : List View). ShowsEntry k.first t (get_or z.words (place t r 0) 0) (get_or z.words (place t r 1) 0) (get_or z.words (place t r 2) 0) (map (steps_on t r) vs)) (sym same) (also.now.entries t r tn rn))
 
     at : (j : ℕ) → j < 3 → (t r : ℕ) → (get_or s.words (place t r 0) 0 ≡ get_or z.words (place t r 0) 0) × (get_or s.words (place t r 1) 0 ≡ get_or z.words (place t r 1) 0) × (get_or s.words (place t r 2) 0 ≡ get_or z.words (place t r 2) 0)
         → get_or s.words (place t r j) 0 ≡ get_or z.words (place t r j) 0

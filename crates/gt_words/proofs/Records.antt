@@ -180,7 +180,6 @@ module _ (x : EntryRecord) (xs : List EntryRecord) (a b : ℕ) (hs : List (List 
     in_range = (let t = k.in_range.0 in omega arith, let t = k.in_range.1 in omega arith);
     body = k.body;
     lawful = k.lawful;
-    unpinned = λ n. (r ∙ (k.unpinned n).0, w ∙ (k.unpinned n).1);
     unwritten = λ n. w ∙ k.unwritten n;
     pinned = all_pinned (λ q t. k.pinned i h e q (subst (IsIn q) p t)) k.pinned;
     saw = all_known f k.saw;
@@ -268,7 +267,6 @@ module _ (x : EntryRecord) (xs : List EntryRecord) (a b : ℕ) (hs : List (List 
         in_range = few_more d (total_pins Read hs) (total_pins Write hs) (total_pins Read hs') (total_pins Write hs') r w k.in_range fr fw;
         body = k.body;
         lawful = k.lawful;
-        unpinned = λ z. absurd (n z);
         unwritten = λ z. read_pin d x writable (total_pins Write hs) (total_pins Write hs') w z (k.unwritten z);
         pinned = all_pinned x xs a b hs i h (Pinned d expected x) (λ p t. ⊎_elim (λ (s : p ≡ (d, x)). let one = ap (λ (z : LivePin). z.1) s in (inl one, subst (λ (u : EntryRecord). u.entry ≢ Invalid) (sym one) n)) (λ (s : IsIn p (pins h)). k.pinned i h e p s) t) k.pinned;
         saw = all_known x xs a b hs i h (Pinned d expected x) (k.saw i h e) k.saw;
@@ -285,7 +283,6 @@ module _ (x : EntryRecord) (xs : List EntryRecord) (a b : ℕ) (hs : List (List 
         in_range = (omega arith, omega arith);
         body = k.body;
         lawful = k.lawful;
-        unpinned = λ z. let q = k.unpinned z in let q0 = q.0 in let q1 = q.1 in (omega arith, omega arith);
         unwritten = λ z. let q = k.unwritten z in omega arith;
         pinned = all_pinned x xs a b hs i h m (λ q t. k.pinned i h e q (IsIn-without_pin d g q (pins h) t)) k.pinned;
         saw = all_known x xs a b hs i h m (k.saw i h e) k.saw;
@@ -299,7 +296,6 @@ module _ (x : EntryRecord) (xs : List EntryRecord) (a b : ℕ) (hs : List (List 
     in_range = s.in_range;
     body = subst (λ (y : Entry). IsSpelled y a' b') (sym n) tt;
     lawful = s.lawful;
-    unpinned = s.unpinned;
     unwritten = s.unwritten;
     pinned = s.pinned;
     saw = s.saw;
@@ -308,15 +304,14 @@ module _ (x : EntryRecord) (xs : List EntryRecord) (a b : ℕ) (hs : List (List 
 
   -- the owner exchanges the control word
   pub changes_shown : (word word' expected stored : ℕ) (c : Change) (y : EntryRecord) → ShowsRecord x xs word a b hs → get_elem? hs i ≡ some h → IsRecord y → MayFollow y x → IsSpelled y.entry a b
-      → word' ≡ word_of y.entry y.generation (total_pins Read hs) (total_pins Write hs) → (y.entry ≡ Invalid → (total_pins Read hs ≡ 0) × (total_pins Write hs ≡ 0)) → (is_read_only y.entry ≡ true → total_pins Write hs ≡ 0)
+      → word' ≡ word_of y.entry y.generation (total_pins Read hs) (total_pins Write hs) → (is_read_only y.entry ≡ true → total_pins Write hs ≡ 0)
       → ShowsRecord y (x ∷ xs) word' a b (set hs i (Changed c expected stored y ∷ h))
-  changes_shown word word' expected stored c y k e ok may body is unpinned unwritten = let m : EntryStep = Changed c expected stored y in let s = sees_shown x xs a b hs i h m word k e refl (k.saw i h e) (k.counted i h e) in
+  changes_shown word word' expected stored c y k e ok may body is unwritten = let m : EntryStep = Changed c expected stored y in let s = sees_shown x xs a b hs i h m word k e refl (k.saw i h e) (k.counted i h e) in
       let r = same_held x xs a b hs i h m Read e refl in let w = same_held x xs a b hs i h m Write e refl in record {
         spelled = is ∙ ap (λ (z : ℕ × ℕ). word_of y.entry y.generation z.0 z.1) (λ j. (sym r j, sym w j));
         in_range = s.in_range;
         body = body;
         lawful = (ok, may, k.lawful);
-        unpinned = λ n. (r ∙ (unpinned n).0, w ∙ (unpinned n).1);
         unwritten = λ n. w ∙ unwritten n;
         pinned = λ j z at p t. let old = s.pinned j z at p t in (inr old.0, old.1);
         saw = λ j z at. on (seen z) (s.saw j z at);

@@ -21,8 +21,9 @@ use Rattle.gt_words.proofs.Owed.{spelled_generation}
 use Rattle.gt_words.specs.Keeping.{HoldsOneMore, generation_in}
 use Rattle.gt_words.specs.Laws.{bounded, one_record}
 use Rattle.gt_words.proofs.Records.{legal_record, listed_record, seen_is_last, spelled_control, spelled_parts}
-use Rattle.gt_words.specs.Conditions.{AddsToEntry, Changes, CountsPins, Demotes, HasLooked, HasNoPins, HasNoWritePins, Holds, IsBusyOf, IsIdleOf, IsNotEarlier, IsWordOf, LooksAtBody, LooksAtControl, MayPin, MissesBusy, MissesChange, MissesPin, Pins, Revokes, StepsOnControl, StoresBody, Unpins}
+use Rattle.gt_words.specs.Conditions.{AddsToEntry, Changes, CountsPins, Demotes, HasLooked, HasNoPins, HasNoWritePins, Holds, IsBusyOf, IsIdleOf, IsNotEarlier, IsWordOf, LooksAtBody, LooksAtControl, MayPin, MissesBusy, MissesChange, MissesPin, Pins, Publishes, Revokes, StepsOnControl, StoresBody, Unpins}
 use Rattle.gt_words.specs.Controls.{IsTurnable, IsValid, generation_of, pins_in}
+use Rattle.gt_words.specs.History.{History}
 use Rattle.gt_words.specs.Rule.{IsRecord, Layout, SawRecord, ShowsEntry, ShowsRecord, owner_steps, place, total_pins}
 use Rattle.gt_words.specs.Steps.{TakesStep, changed, changed_word, exchanging, half_index, half_of, missed, on_entry, taken}
 use Rattle.gt_words.specs.Views.{IsIn, LivePin, Seen, earlier_records, is_half, last_of, last_record, last_seen, own, own_body, pin_count, pins, record_seen, seen, steps_on, steps_on_header, stored_body, with_step}
@@ -34,35 +35,37 @@ use Rattle.gt_entry.specs.declared.change.Half.TheVariants.{First, Second}
 use Rattle.gt_words.specs.declared.view.Purpose.{Purpose}
 use Rattle.gt_words.specs.declared.view.EntryRecord.{EntryRecord}
 use Rattle.gt_words.specs.declared.view.View.{View}
-use Rattle.gt_entry.specs.declared.change.Change.TheVariants.{Demote, Revoke}
+use Rattle.gt_entry.specs.declared.change.Change.TheVariants.{Demote, Publish, Revoke}
 use Rattle.gt_types.specs.declared.limits.TheConstants.{TABLE_ENTRIES}
 
 -- one more step on an entry
-pub adds_to_entry : (t r : ℕ) (m : EntryStep) (v w : View) → w ≡ with_step (on_entry t r m) v → AddsToEntry t r m v w
-adds_to_entry t r m v w e = record {
+pub adds_to_entry : (past : History) (t r : ℕ) (m : EntryStep) (v w : View) → w ≡ with_step past (on_entry t r m) v → AddsToEntry past t r m v w
+adds_to_entry past t r m v w e = record {
   view = e;
-  here = ap (steps_on t r) e ∙ steps_on-added t r m v;
-  others = λ t' r' n. ap (steps_on t' r') e ∙ steps_on-added-else t r m v t' r' n;
+  here = ap (steps_on t r) e ∙ steps_on-added past t r m v;
+  others = λ t' r' n. ap (steps_on t' r') e ∙ steps_on-added-else past t r m v t' r' n;
   headers = λ t'. ap (steps_on_header t') e;
 }
 
 -- an exchange that found the word expected was taken
 pub exchange_taken : (k : Layout) (t r : ℕ) (v : View) (p : Purpose) (old new found : ℕ) (w : View) → found ≡ old
-    → w ≡ with_step ((exchanging k t r v p old new).step found) v → TakesStep (Unit {0}) k v ((exchanging k t r v p old new).step found) (place t r 0) found ((exchanging k t r v p old new).leaves found)
+    → (past : History) → w ≡ with_step past ((exchanging k t r v p old new).step found) v → TakesStep (Unit {0}) k v past ((exchanging k t r v p old new).step found) (place t r 0) found ((exchanging k t r v p old new).leaves found)
     → StepsOnControl k t r (taken t r v p old new) old new v w
-exchange_taken k t r v p old new found w e view step = let b : (found == old) ≡ true = eq-eqb found old e in record {
-  adds = adds_to_entry t r (taken t r v p old new) v w (view ∙ ap (λ (q : Bool). with_step (on_entry t r (cond q (taken t r v p old new) (missed p old new found))) v) b);
-  step = subst (λ (n : ℕ). TakesStep (Unit {0}) k v (on_entry t r (taken t r v p old new)) (place t r 0) n new) e
-      (subst (λ (q : Bool). TakesStep (Unit {0}) k v (on_entry t r (cond q (taken t r v p old new) (missed p old new found))) (place t r 0) found (either q new found)) b step);
+exchange_taken k t r v p old new found w e past view step = let b : (found == old) ≡ true = eq-eqb found old e in record {
+  past = past;
+  adds = adds_to_entry past t r (taken t r v p old new) v w (view ∙ ap (λ (q : Bool). with_step past (on_entry t r (cond q (taken t r v p old new) (missed p old new found))) v) b);
+  step = subst (λ (n : ℕ). TakesStep (Unit {0}) k v past (on_entry t r (taken t r v p old new)) (place t r 0) n new) e
+      (subst (λ (q : Bool). TakesStep (Unit {0}) k v past (on_entry t r (cond q (taken t r v p old new) (missed p old new found))) (place t r 0) found (either q new found)) b step);
 }
 
 -- an exchange that found another was missed
 pub exchange_missed : (k : Layout) (t r : ℕ) (v : View) (p : Purpose) (old new found : ℕ) (w : View) → found ≢ old
-    → w ≡ with_step ((exchanging k t r v p old new).step found) v → TakesStep (Unit {0}) k v ((exchanging k t r v p old new).step found) (place t r 0) found ((exchanging k t r v p old new).leaves found)
+    → (past : History) → w ≡ with_step past ((exchanging k t r v p old new).step found) v → TakesStep (Unit {0}) k v past ((exchanging k t r v p old new).step found) (place t r 0) found ((exchanging k t r v p old new).leaves found)
     → StepsOnControl k t r (missed p old new found) found found v w
-exchange_missed k t r v p old new found w n view step = let b : (found == old) ≡ false = ne_eqb found old n in record {
-  adds = adds_to_entry t r (missed p old new found) v w (view ∙ ap (λ (q : Bool). with_step (on_entry t r (cond q (taken t r v p old new) (missed p old new found))) v) b);
-  step = subst (λ (q : Bool). TakesStep (Unit {0}) k v (on_entry t r (cond q (taken t r v p old new) (missed p old new found))) (place t r 0) found (either q new found)) b step;
+exchange_missed k t r v p old new found w n past view step = let b : (found == old) ≡ false = ne_eqb found old n in record {
+  past = past;
+  adds = adds_to_entry past t r (missed p old new found) v w (view ∙ ap (λ (q : Bool). with_step past (on_entry t r (cond q (taken t r v p old new) (missed p old new found))) v) b);
+  step = subst (λ (q : Bool). TakesStep (Unit {0}) k v past (on_entry t r (cond q (taken t r v p old new) (missed p old new found))) (place t r 0) found (either q new found)) b step;
 }
 
 module _ (k : Layout) (t r : ℕ) (m : EntryStep) (found left : ℕ) (v w : View) (tn : t < k.domains) (rn : r < TABLE_ENTRIES) (z : StepsOnControl k t r m found left v w) where
@@ -78,7 +81,7 @@ module _ (k : Layout) (t r : ℕ) (m : EntryStep) (found left : ℕ) (v w : View
 
   -- the entry is shown, by the word found
   pub shown_there : ShowsEntry k.first t found first_there second_there all
-  shown_there = subst (λ (u : ℕ). ShowsEntry k.first t u first_there second_there all) z.step.found_is (z.step.shown.entries t r tn rn)
+  shown_there = subst (λ (u : ℕ). ShowsEntry k.first t u first_there second_there all) z.step.found_is (z.step.shown.now.entries t r tn rn)
 
   pub seat_there : get_elem? all v.position ≡ some (steps_on t r v)
   seat_there = at_map (steps_on t r) z.step.before.views v.position v z.step.mine
@@ -102,7 +105,7 @@ module _ (k : Layout) (t r : ℕ) (m : EntryStep) (found left : ℕ) (v w : View
   module _ (own_is : v.position ≡ t) where
     -- the entry is shown by the owner's last record
     pub owners_entry : ShowsRecord (last_of r v) (earlier_records v.first (steps_on v.position r v)) found first_there second_there all
-    owners_entry = let is = z.step.shown.seats v.position v z.step.mine in let here : get_elem? all t ≡ some (steps_on t r v) = subst (λ (u : ℕ). get_elem? all u ≡ some (steps_on t r v)) own_is seat_there in
+    owners_entry = let is = z.step.shown.now.seats v.position v z.step.mine in let here : get_elem? all t ≡ some (steps_on t r v) = subst (λ (u : ℕ). get_elem? all u ≡ some (steps_on t r v)) own_is seat_there in
         let s = mine k.first t all (steps_on t r v) here found first_there second_there shown_there in
         subst (λ (u : ℕ × ℕ). ShowsRecord (last_record u.0 (steps_on u.1 r v)) (earlier_records u.0 (steps_on u.1 r v)) found first_there second_there all) (λ i. (sym is.1 i, sym own_is i)) s
 
@@ -128,11 +131,6 @@ module _ (k : Layout) (t r : ℕ) (m : EntryStep) (found left : ℕ) (v w : View
           pinned = dite (ℕ_discrete reads 0) (λ e. dite (ℕ_discrete writes 0) (λ f. absurd (n (let s = spelled_word in omega arith))) (λ f. inr (λ g. f (sym b ∙ g)))) (λ e. inl (λ g. e (sym a ∙ g)));
         }
 
-    -- while an invalid entry has no pins, its word is the idle one
-    pub still_idle : (word : ℕ) → IsIdleOf (last_of r v) word → (last_of r v).entry ≡ Invalid → found ≡ word
-    still_idle word idle none_yet = let q = owners_entry.unpinned none_yet in let x : EntryRecord = last_of r v in let a = q.0 in let b = q.1 in
-        spelled_word ∙ ((λ i. word_of x.entry x.generation (a i) (b i)) ∙ (let e : word_of x.entry x.generation 0 0 ≡ idle_word_of x.entry x.generation = omega arith in e ∙ sym idle))
-
     no_pins : (ps : List LivePin) → pin_count Read ps ≡ 0 → pin_count Write ps ≡ 0 → ps ≡ []
     no_pins [] a b = refl
     no_pins ((Read, x) ∷ ps) a b = absurd (omega arith)
@@ -152,12 +150,12 @@ module _ (k : Layout) (t r : ℕ) (m : EntryStep) (found left : ℕ) (v w : View
         omega arith
 
 -- the view of the owner after a step on its own entry
-own_steps : (t r : ℕ) (m : EntryStep) (v : View) → v.position ≡ t → steps_on v.position r (with_step (on_entry t r m) v) ≡ m ∷ steps_on v.position r v
-own_steps t r m v own_is = subst (λ (u : ℕ). steps_on u r (with_step (on_entry t r m) v) ≡ m ∷ steps_on u r v) (sym own_is) (steps_on-added t r m v)
+own_steps : (past : History) (t r : ℕ) (m : EntryStep) (v : View) → v.position ≡ t → steps_on v.position r (with_step past (on_entry t r m) v) ≡ m ∷ steps_on v.position r v
+own_steps past t r m v own_is = subst (λ (u : ℕ). steps_on u r (with_step past (on_entry t r m) v) ≡ m ∷ steps_on u r v) (sym own_is) (steps_on-added past t r m v)
 
 -- a step that is no change of the owner's
-pub keeps_last : (t r : ℕ) (m : EntryStep) (v w : View) → v.position ≡ t → AddsToEntry t r m v w → last_record v.first (m ∷ steps_on v.position r v) ≡ last_record v.first (steps_on v.position r v) → last_of r w ≡ last_of r v
-keeps_last t r m v w own_is z same = ap (last_of r) z.view ∙ (ap (last_record v.first) (own_steps t r m v own_is) ∙ same)
+pub keeps_last : (past : History) (t r : ℕ) (m : EntryStep) (v w : View) → v.position ≡ t → AddsToEntry past t r m v w → last_record v.first (m ∷ steps_on v.position r v) ≡ last_record v.first (steps_on v.position r v) → last_of r w ≡ last_of r v
+keeps_last past t r m v w own_is z same = ap (last_of r) z.view ∙ (ap (last_record v.first) (own_steps past t r m v own_is) ∙ same)
 
 module _ (k : Layout) (r : ℕ) (c : Change) (word : ℕ) (v w : View) (vn : v.position < k.domains) (rn : r < TABLE_ENTRIES) where
   abbrev stored : ℕ
@@ -170,8 +168,8 @@ module _ (k : Layout) (r : ℕ) (c : Change) (word : ℕ) (v w : View) (vn : v.p
   pub changes : StepsOnControl k v.position r (Changed c word stored after) word stored v w → Changes k r c word v w
   changes z = let m : EntryStep = Changed c word stored after in record {
     steps = z;
-    last = ap (last_of r) z.adds.view ∙ ap (last_record v.first) (own_steps v.position r m v refl);
-    bodies = λ h. ap (own_body r h) z.adds.view ∙ ap (stored_body h) (own_steps v.position r m v refl);
+    last = ap (last_of r) z.adds.view ∙ ap (last_record v.first) (own_steps z.past v.position r m v refl);
+    bodies = λ h. ap (own_body r h) z.adds.view ∙ ap (stored_body h) (own_steps z.past v.position r m v refl);
     rows = keeps_others r m v w z.adds;
     header = keeps_header v.position r m v w z.adds;
     pins = keeps_pins v.position r m v w z.adds refl;
@@ -189,8 +187,8 @@ module _ (k : Layout) (r : ℕ) (c : Change) (word : ℕ) (v w : View) (vn : v.p
   }
 
 -- a look at a control word
-pub looks : (k : Layout) (t r n : ℕ) (v w : View) → t < k.domains → r < TABLE_ENTRIES → w ≡ with_step (on_entry t r (Looked n)) v → TakesStep (Unit {0}) k v (on_entry t r (Looked n)) (place t r 0) n n → LooksAtControl k t r n v w
-looks k t r n v w tn rn view step = let z : StepsOnControl k t r (Looked n) n n v w = record { adds = adds_to_entry t r (Looked n) v w view; step = step } in let later = not_earlier k t r (Looked n) n n v w tn rn z in record {
+pub looks : (k : Layout) (t r n : ℕ) (v w : View) → t < k.domains → r < TABLE_ENTRIES → (past : History) → w ≡ with_step past (on_entry t r (Looked n)) v → TakesStep (Unit {0}) k v past (on_entry t r (Looked n)) (place t r 0) n n → LooksAtControl k t r n v w
+looks k t r n v w tn rn past view step = let z : StepsOnControl k t r (Looked n) n n v w = record { past = past; adds = adds_to_entry past t r (Looked n) v w view; step = step } in let later = not_earlier k t r (Looked n) n n v w tn rn z in record {
   steps = z;
   not_earlier = later;
   keeps = keeps t r (Looked n) v w z.adds (record { lists = λ g ms. refl; last = λ g ms. refl; bodies = λ h ms. refl }) refl later;
@@ -230,7 +228,7 @@ pins_in-spelled Write x word reads writes ok in_range is hs a b = ap (pins_in Wr
 
 -- while a view has a pin of an entry, its control word counts it
 pub counts_pins : (k : Layout) (t r : ℕ) (d : Dir) → t < k.domains → r < TABLE_ENTRIES → CountsPins k t r d
-counts_pins k t r d tn rn s i v shown at = let hs : List (List EntryStep) = map (steps_on t r) s.views in let f = (shown.entries t r tn rn).record_shown in
+counts_pins k t r d tn rn s i v shown at = let hs : List (List EntryStep) = map (steps_on t r) s.views in let f = (shown.now.entries t r tn rn).record_shown in
     let x : EntryRecord = last_record k.first (owner_steps t hs) in let xs : List EntryRecord = earlier_records k.first (owner_steps t hs) in
     let e = pins_in-spelled d x (get_or s.words (place t r 0) 0) (total_pins Read hs) (total_pins Write hs) (legal_record x xs f.lawful) f.in_range f.spelled hs refl refl in
     let l = held_at d hs i (steps_on t r v) (at_map (steps_on t r) s.views i v at) in omega arith
@@ -241,12 +239,12 @@ lowered Write w a b = omega arith
 
 -- a pin was given back
 pub unpins : (k : Layout) (t r : ℕ) (d : Dir) (g : ℕ) (v : View) (found : ℕ) (w : View) → t < k.domains → r < TABLE_ENTRIES → Holds t r d g v → found < 18446744073709551616
-    → w ≡ with_step (on_entry t r (Unpinned d g)) v → TakesStep (Unit {0}) k v (on_entry t r (Unpinned d g)) (place t r 0) found ((found + (2 ^ 64 - unit_of d)) % 2 ^ 64) → Unpins k t r d g v w
-unpins k t r d g v found w tn rn holds fits view step = let p = there_is d g (pins (steps_on t r v)) holds in let c = count_in d p.0 (pins (steps_on t r v)) p.1 p.2 in
+    → (past : History) → w ≡ with_step past (on_entry t r (Unpinned d g)) v → TakesStep (Unit {0}) k v past (on_entry t r (Unpinned d g)) (place t r 0) found ((found + (2 ^ 64 - unit_of d)) % 2 ^ 64) → Unpins k t r d g v w
+unpins k t r d g v found w tn rn holds fits past view step = let p = there_is d g (pins (steps_on t r v)) holds in let c = count_in d p.0 (pins (steps_on t r v)) p.1 p.2 in
     let l = counts_pins k t r d tn rn step.before v.position v step.shown step.mine in let e : get_or step.before.words (place t r 0) 0 ≡ found = step.found_is in
     let l' : pin_count d (pins (steps_on t r v)) ≤ pins_in d found = subst (λ (n : ℕ). pin_count d (pins (steps_on t r v)) ≤ pins_in d n) e l in let some_pin : 0 < pins_in d found = omega arith in
-    let m : EntryStep = Unpinned d g in let a = adds_to_entry t r m v w view in
-    let z : StepsOnControl k t r m found (found - unit_of d) v w = record { adds = a; step = subst (λ (n : ℕ). TakesStep (Unit {0}) k v (on_entry t r m) (place t r 0) found n) (lowered d found some_pin fits) step } in record {
+    let m : EntryStep = Unpinned d g in let a = adds_to_entry past t r m v w view in
+    let z : StepsOnControl k t r m found (found - unit_of d) v w = record { past = past; adds = a; step = subst (λ (n : ℕ). TakesStep (Unit {0}) k v past (on_entry t r m) (place t r 0) found n) (lowered d found some_pin fits) step } in record {
       found = found;
       counted = some_pin;
       steps = z;
@@ -271,6 +269,11 @@ module _ (k : Layout) (t r : ℕ) (word : ℕ) (v : View) (w : View) (tn : t < k
 
   pub finds_pins : (c : Change) (new found : ℕ) → new ≡ changed_word c (last_of r v) word → IsIdleOf (last_of r v) word → found ≢ word → StepsOnControl k t r (ChangeMissed c word new found) found found v w → MissesBusy k r c word found v w
   finds_pins c new found is idle n z = record { missed = finds_another c new found is n z; busy = busy k t r (ChangeMissed c word new found) found found v w tn rn z own_is word idle n }
+
+  pub publishes : (e : Entry) (new : ℕ) → new ≡ changed_word (Publish e) (last_of r v) word → IsIdleOf (last_of r v) word
+      → StepsOnControl k t r (Changed (Publish e) word new (changed (Publish e) (last_of r v))) word new v w → Publishes k r e word v w
+  publishes e new is idle z = let s = takes_change (Publish e) new is z in
+      record { changes = s; no_pins = idle_unpinned k v.position r (Changed (Publish e) word (changed_word (Publish e) (last_of r v) word) (changed (Publish e) (last_of r v))) word (changed_word (Publish e) (last_of r v) word) v w vn rn s.steps refl idle }
 
   pub revokes : (new : ℕ) → new ≡ changed_word Revoke (last_of r v) word → IsIdleOf (last_of r v) word → StepsOnControl k t r (Changed Revoke word new (changed Revoke (last_of r v))) word new v w → Revokes k r word v w
   revokes new is idle z = let s = takes_change Revoke new is z in
@@ -299,22 +302,22 @@ half_is First = refl
 half_is Second = refl
 
 -- a body word was read
-pub reads_body : (k : Layout) (t r i : ℕ) (h : Half) (n : ℕ) (v w : View) → i ≡ half_index h → w ≡ with_step (on_entry t r (ReadBody (half_of i) n)) v
-    → TakesStep (Unit {0}) k v (on_entry t r (ReadBody (half_of i) n)) (place t r i) n n → LooksAtBody k t r h n v w
-reads_body k t r i h n v w e view step = let f : half_of i ≡ h = ap half_of e ∙ half_is h in let a = adds_to_entry t r (ReadBody h n) v w (view ∙ ap (λ (u : Half). with_step (on_entry t r (ReadBody u n)) v) f) in
+pub reads_body : (k : Layout) (t r i : ℕ) (h : Half) (n : ℕ) (v w : View) → i ≡ half_index h → (past : History) → w ≡ with_step past (on_entry t r (ReadBody (half_of i) n)) v
+    → TakesStep (Unit {0}) k v past (on_entry t r (ReadBody (half_of i) n)) (place t r i) n n → LooksAtBody k t r h n v w
+reads_body k t r i h n v w e past view step = let f : half_of i ≡ h = ap half_of e ∙ half_is h in let a = adds_to_entry past t r (ReadBody h n) v w (view ∙ ap (λ (u : Half). with_step past (on_entry t r (ReadBody u n)) v) f) in
     let same = body_generation h n (seen (steps_on t r v)) in record {
-      steps = record { adds = a; step = subst (λ (u : ℕ × Half). TakesStep (Unit {0}) k v (on_entry t r (ReadBody u.1 n)) (place t r u.0) n n) (λ j. (e j, f j)) step };
+      steps = record { past = past; adds = a; step = subst (λ (u : ℕ × Half). TakesStep (Unit {0}) k v past (on_entry t r (ReadBody u.1 n)) (place t r u.0) n n) (λ j. (e j, f j)) step };
       keeps = keeps t r (ReadBody h n) v w a (record { lists = λ g ms. refl; last = λ g ms. refl; bodies = λ i ms. refl }) refl (omega (arith, same));
     }
 
 -- the owner stored a body word
-pub stores_body : (k : Layout) (t r i : ℕ) (h : Half) (value found : ℕ) (v w : View) → v.position ≡ t → i ≡ half_index h → w ≡ with_step (on_entry t r (StoredBody (half_of i) value)) v
-    → TakesStep (Unit {0}) k v (on_entry t r (StoredBody (half_of i) value)) (place t r i) found value → StoresBody k r h value v w
-stores_body k t r i h value found v w own_is e view step = let m : EntryStep = StoredBody h value in let f : half_of i ≡ h = ap half_of e ∙ half_is h in
-    let a : AddsToEntry v.position r m v w = subst (λ (u : ℕ × Half). AddsToEntry u.0 r (StoredBody u.1 value) v w) (λ j. (sym own_is j, f j)) (adds_to_entry t r (StoredBody (half_of i) value) v w view) in
+pub stores_body : (k : Layout) (t r i : ℕ) (h : Half) (value found : ℕ) (v w : View) → v.position ≡ t → i ≡ half_index h → (past : History) → w ≡ with_step past (on_entry t r (StoredBody (half_of i) value)) v
+    → TakesStep (Unit {0}) k v past (on_entry t r (StoredBody (half_of i) value)) (place t r i) found value → StoresBody k r h value v w
+stores_body k t r i h value found v w own_is e past view step = let m : EntryStep = StoredBody h value in let f : half_of i ≡ h = ap half_of e ∙ half_is h in
+    let a : AddsToEntry past v.position r m v w = subst (λ (u : ℕ × Half). AddsToEntry past u.0 r (StoredBody u.1 value) v w) (λ j. (sym own_is j, f j)) (adds_to_entry past t r (StoredBody (half_of i) value) v w view) in
     let here : steps_on w.position r w ≡ m ∷ steps_on v.position r v = ap (λ (u : View). steps_on u.position r w) view ∙ a.here in record {
       found = found;
-      steps = record { adds = a; step = subst (λ (u : ℕ × ℕ × Half). TakesStep (Unit {0}) k v (on_entry u.0 r (StoredBody u.2 value)) (place u.0 r u.1) found value) (λ j. (sym own_is j, e j, f j)) step };
+      steps = record { past = past; adds = a; step = subst (λ (u : ℕ × ℕ × Half). TakesStep (Unit {0}) k v past (on_entry u.0 r (StoredBody u.2 value)) (place u.0 r u.1) found value) (λ j. (sym own_is j, e j, f j)) step };
       stored = ap (stored_body h) here ∙ same h;
       other_half = λ i n. ap (stored_body i) here ∙ ap (λ (b : Bool). cond b value (stored_body i (steps_on v.position r v))) (not_same i h n);
       unchanged = ap (λ (u : View). own u.first (steps_on w.position r w)) view ∙ ap (own v.first) here;

@@ -23,7 +23,9 @@ use Rattle.gt_words.specs.Controls.{ForwardsPin, IsValid, LeadsTo, PermitsPin, g
 use Rattle.gt_words.specs.Events.{shown_entry}
 pub use Rattle.gt_words.specs.Keeping.{Holds, HoldsOneMore, Keeps, KeepsOtherRows, KeepsPins, KeepsRecords, KeepsRows}
 pub use Rattle.gt_words.specs.Keeping.{SeesNoEarlier, seen_generation}
+use Rattle.gt_words.specs.History.{History}
 use Rattle.gt_words.specs.Rule.{IsKeptHeader, Layout, Shows, header_place, id_at, place, position_in}
+pub use Rattle.gt_words.specs.Rule.{initial}
 use Rattle.gt_words.specs.Steps.{TakesStep, changed, changed_word, half_index, on_entry, on_header}
 use Rattle.gt_words.specs.Views.{HasBody, IsIn, LivePin, last_of, last_seen, own_body, own_header, own_list, pin_count}
 use Rattle.gt_words.specs.Views.{pins, record_seen, seen, steps_on, steps_on_header, with_step}
@@ -39,7 +41,7 @@ use Rattle.gt_words.specs.declared.view.EntryRecord.{EntryRecord}
 use Rattle.gt_words.specs.declared.view.View.{View}
 use Rattle.gt_words.specs.declared.words.Pin.{Pin}
 use Rattle.gt_types.specs.declared.config.StartFault.TheVariants as fault
-use Rattle.gt_entry.specs.declared.change.Change.TheVariants.{Demote, Promote, Publish, Revoke}
+use Rattle.gt_entry.specs.declared.change.Change.TheVariants.{Demote, Promote, Publish, Revoke, Withdraw}
 use Rattle.gt_words.specs.declared.view.HeaderStep.TheVariants as header
 
 -- what clauses see of the words: which table of words it is, and the run that it serves (own)
@@ -157,6 +159,11 @@ pub record CanRevoke (r word : ℕ) (v : View) : Type 0 where
   pub idle : IsIdleOf (last_of r v) word
   pub some : (last_of r v).entry ≢ Invalid
 
+-- the word is one of the owner's last record, which is an entry, worn or not, with pins or without (own)
+pub record CanWithdraw (r word : ℕ) (v : View) : Type 0 where
+  pub word_is : IsWordOf (last_of r v) word
+  pub some : (last_of r v).entry ≢ Invalid
+
 -- the word is one of the owner's last record, which is an entry with this
 -- readonly, and not worn (own, after grant_table.h)
 pub record CanTurn (ro : Bool) (r word : ℕ) (v : View) : Type 0 where
@@ -173,6 +180,7 @@ CanDemote r word v = CanTurn false r word v × (pins_in Write word ≡ 0)
 abbrev pub CanChange : Change → ℕ → ℕ → View → Type 0
 CanChange (Publish e) r word v = CanPublish e r word v
 CanChange Revoke r word v = CanRevoke r word v
+CanChange Withdraw r word v = CanWithdraw r word v
 CanChange Demote r word v = CanDemote r word v
 CanChange Promote r word v = CanTurn true r word v
 
@@ -195,34 +203,39 @@ CountsPins k t r d =
 abbrev pub IsNotEarlier : ℕ → ℕ → View → ℕ → Type 0
 IsNotEarlier t r v word = seen_generation t r v ≤ generation_of word
 
--- the seat added the step m on the entry r of the domain t to its view, and nothing else (own)
-pub record AddsToEntry (t r : ℕ) (m : EntryStep) (v w : View) : Type 0 where
-  pub view : w ≡ with_step (on_entry t r m) v
+-- the seat added the step m on the entry r of the domain t to its view, which was taken
+-- after the steps past of all seats, and nothing else (own)
+pub record AddsToEntry (past : History) (t r : ℕ) (m : EntryStep) (v w : View) : Type 0 where
+  pub view : w ≡ with_step past (on_entry t r m) v
   pub here : steps_on t r w ≡ m ∷ steps_on t r v
   pub others : (t' r' : ℕ) → (t ≡ t' → r ≡ r' → ⊥) → steps_on t' r' w ≡ steps_on t' r' v
   pub headers : (t' : ℕ) → steps_on_header t' w ≡ steps_on_header t' v
 
--- the seat added the step m on the header of the domain t to its view, and nothing else (own)
-pub record AddsToHeader (t : ℕ) (m : HeaderStep) (v w : View) : Type 0 where
-  pub view : w ≡ with_step (on_header t m) v
+-- the seat added the step m on the header of the domain t to its view, which was taken
+-- after the steps past of all seats, and nothing else (own)
+pub record AddsToHeader (past : History) (t : ℕ) (m : HeaderStep) (v w : View) : Type 0 where
+  pub view : w ≡ with_step past (on_header t m) v
   pub here : steps_on_header t w ≡ m ∷ steps_on_header t v
   pub others : (t' : ℕ) → t ≢ t' → steps_on_header t' w ≡ steps_on_header t' v
   pub entries : (t' r' : ℕ) → steps_on t' r' w ≡ steps_on t' r' v
 
 -- the step m was taken on the control word of the entry r of the domain t, where it found and left these numbers (own)
 pub record StepsOnControl (k : Layout) (t r : ℕ) (m : EntryStep) (found left : ℕ) (v w : View) : Type 0 where
-  pub adds : AddsToEntry t r m v w
-  pub step : TakesStep (Unit {0}) k v (on_entry t r m) (place t r 0) found left
+  pub past : History
+  pub adds : AddsToEntry past t r m v w
+  pub step : TakesStep (Unit {0}) k v past (on_entry t r m) (place t r 0) found left
 
 -- the step m was taken on the body word h of the entry r of the domain t, where it found and left these numbers (own)
 pub record StepsOnBody (k : Layout) (t r : ℕ) (h : Half) (m : EntryStep) (found left : ℕ) (v w : View) : Type 0 where
-  pub adds : AddsToEntry t r m v w
-  pub step : TakesStep (Unit {0}) k v (on_entry t r m) (place t r (half_index h)) found left
+  pub past : History
+  pub adds : AddsToEntry past t r m v w
+  pub step : TakesStep (Unit {0}) k v past (on_entry t r m) (place t r (half_index h)) found left
 
 -- the step m was taken on the header word of the domain t, where it found and left these numbers (own)
 pub record StepsOnHeader (k : Layout) (t : ℕ) (m : HeaderStep) (found left : ℕ) (v w : View) : Type 0 where
-  pub adds : AddsToHeader t m v w
-  pub step : TakesStep (Unit {0}) k v (on_header t m) (header_place t) found left
+  pub past : History
+  pub adds : AddsToHeader past t m v w
+  pub step : TakesStep (Unit {0}) k v past (on_header t m) (header_place t) found left
 
 -- a look at the header of the domain t found this word: that of a header within the
 -- limits, whose table has no more entries than there is room for (own)
@@ -328,6 +341,11 @@ pub record MissesBusy (k : Layout) (r : ℕ) (c : Change) (word found : ℕ) (v 
   pub missed : MissesChange k r c word found v w
   pub busy : IsBusyOf (last_of r v) found
 
+-- the entry was published by one exchange, in a state in which no view had a pin of an earlier one there (own)
+pub record Publishes (k : Layout) (r : ℕ) (e : Entry) (word : ℕ) (v w : View) : Type 0 where
+  pub changes : Changes k r (Publish e) word v w
+  pub no_pins : HasNoPins v.position r changes.steps.step.before
+
 -- the entry was made invalid by one exchange, in a state in which no view had a pin of it (own)
 pub record Revokes (k : Layout) (r : ℕ) (word : ℕ) (v w : View) : Type 0 where
   pub changes : Changes k r Revoke word v w
@@ -350,10 +368,3 @@ pub record IsNewSeat (b : Board) (i : ℕ) (s : SeatOf) : Type 0 where
   pub first : s.view.first ≡ b.layout.first
   pub headers : s.view.headers ≡ b.layout.headers
   pub steps : s.view.steps ≡ []
-
--- the words at the start: the first header of each domain, the invalid word
--- of the first generation for each entry, and zeros (own)
-abbrev pub initial : Layout → ℕ → ℕ
-initial k i =
-    cond (i % DOMAIN_WORDS == 0) (slice_index k.headers (i / DOMAIN_WORDS))
-    (cond (i % DOMAIN_WORDS % ENTRY_WORDS == 0) (17592186044416 * k.first) 0)

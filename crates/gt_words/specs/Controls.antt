@@ -1,6 +1,7 @@
 -- What a control word says, and the words that owners and pins make of it.
 use Rattle.std.specs.Prelude.{◌≡◌, ◌≢◌, ℕ, ◌+◌, ◌*◌, Bool, true, false, not}
 use Rattle.gt_types.specs.declared.Dir.{Dir}
+use Rattle.gt_types.specs.declared.Dir.TheVariants.{Read, Write}
 use Rattle.gt_types.specs.declared.DomId.{DomId}
 use Rattle.gt_types.specs.declared.Use.{Use}
 use Rattle.gt_entry.specs.declared.control.Kind.TheVariants.{Invalid as KindInvalid}
@@ -26,6 +27,10 @@ IsValid word = kind_of word ≢ KindInvalid
 -- the invalid word of the same generation, with no pins (own)
 abbrev pub invalid_word : ℕ → ℕ
 invalid_word word = 17592186044416 * generation_of word
+
+-- the invalid word of the same generation, with the same pins (own)
+abbrev pub withdrawn_word : ℕ → ℕ
+withdrawn_word word = 17592186044416 * generation_of word + 16 * pins_in Read word + 65536 * pins_in Write word
 
 -- the word of the same entry read-only, at the next generation, if the entry was writable (own)
 abbrev pub demoted_word : ℕ → ℕ

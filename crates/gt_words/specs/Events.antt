@@ -1,5 +1,5 @@
 -- The state of the core that words and views show, and what each event of the core makes of it.
-use Rattle.std.specs.Prelude.{◌≡◌, ℕ, cond, ◌==◌, ◌&&◌, List, [], ◌∷◌, map, slice_index_or, slice_set}
+use Rattle.std.specs.Prelude.{◌≡◌, ℕ, zero, suc, cond, ◌==◌, ◌&&◌, List, [], ◌∷◌, map, slice_index, slice_index_or, slice_set}
 use Rattle.atomic_table.specs.Table.{State}
 use Rattle.gt_entry.specs.declared.change.Half.TheVariants.{First, Second}
 use Rattle.gt_words.specs.declared.view.EntryRecord.{EntryRecord}
@@ -12,6 +12,9 @@ use Rattle.gt_words.specs.declared.view.SeatStep.{SeatStep}
 use Rattle.gt_words.specs.declared.view.SeatStep.TheVariants.{Entry, Header}
 use Rattle.gt_words.specs.declared.view.View.{View}
 use Rattle.gt_words.specs.Views.{LivePin, pins, without_pin, last_record, stored_body, steps_on, steps_on_header}
+use Rattle.gt_words.specs.Views.{entry_steps, header_steps, stored_header}
+use Rattle.gt_words.specs.History.{History, part_of}
+pub use Rattle.gt_words.specs.History.{HeaderByOwner, IsByOwner}
 use Rattle.gt_words.specs.Rule.{Layout, owner_steps, header_now}
 
 -- an entry of the core: entry and generation, the body words, and the live pins of each domain (own)
@@ -76,13 +79,15 @@ pub record Happens {S : Type 0} (k : Layout) (i : ℕ) (x : SeatStep) (before af
   pub entries : (t r : ℕ) → shown_entry k t r after ≡ event_on_entry i x t r (shown_entry k t r before)
   pub headers : (t : ℕ) → shown_header k t after ≡ event_on_header x t (shown_header k t before)
 
--- a step of the domain i on an entry of the domain t stores or changes only if i is t (own)
-abbrev pub IsByOwner : ℕ → ℕ → EntryStep → Type 0
-IsByOwner i t (StoredBody h n) = i ≡ t
-IsByOwner i t (Changed c e n y) = i ≡ t
-IsByOwner i t _ = Unit {0}
+-- out of a history, the steps of each seat on the entry r of the domain t, at n positions from i on (own)
+abbrev pub parts_on : ℕ → ℕ → History → ℕ → ℕ → List (List EntryStep)
+parts_on t r h i zero = []
+parts_on t r h i (suc n) = entry_steps t r (part_of i h) ∷ parts_on t r h (suc i) n
 
--- a step of the domain i on the header of the domain t stores only if i is t (own)
-abbrev pub HeaderByOwner : ℕ → ℕ → HeaderStep → Type 0
-HeaderByOwner i t (header.Stored n) = i ≡ t
-HeaderByOwner i t (header.Looked n) = Unit {0}
+-- the entry r of the domain t that a history makes (own)
+abbrev pub entry_made : Layout → ℕ → ℕ → History → EntryState
+entry_made k t r h = entry_by k.first t (parts_on t r h 0 k.domains)
+
+-- the header of the domain t that a history makes (own)
+abbrev pub header_made : Layout → ℕ → History → ℕ
+header_made k t h = stored_header (slice_index k.headers t) (header_steps t (part_of t h))

@@ -1,5 +1,5 @@
 -- What follows from the definitions, for callers.
-use Rattle.std.specs.Prelude.{◌≡◌, ◌≢◌, ℕ, ◌+◌, ◌<◌, ◌≤◌, AllPairs, ◌==◌, not, cond, Bool, true, false, List, [], ◌∷◌}
+use Rattle.std.specs.Prelude.{◌≡◌, ◌≢◌, ℕ, ◌+◌, ◌*◌, ◌<◌, ◌≤◌, AllPairs, ◌==◌, not, cond, Bool, true, false, List, [], ◌∷◌, ◌++◌}
 use Rattle.std.specs.Prelude.{map, length, zero, suc, Option, Some, None, position, unwrap_or, nat_lt, IsSome}
 use Rattle.std.specs.Prelude.{slice_index}
 use Rattle.std.proofs.Common.{arith, inl, inr, ⊎_elim, get_or, eq-eqb, ne_eqb, refl, sym, ap, ◌∙◌, subst}
@@ -9,7 +9,7 @@ use Rattle.std.proofs.lemmas.Bool.Decides.{nat_tests}
 use Rattle.std.proofs.lemmas.List.Quantifiers.{position-Some}
 use mathlib.Core.Option.{some}
 use lib.ListN.{get_elem?}
-use Rattle.atomic_table.specs.Table.{State, keeps, stepped}
+use Rattle.atomic_table.specs.Table.{Allows, Me, State, keeps, stepped}
 use Rattle.atomic_table.proofs.Lists.{at_map}
 use Rattle.gt_entry.specs.declared.entry.Entry.TheVariants.{Invalid}
 use Rattle.gt_types.specs.Config.{IsWithinLimits}
@@ -20,14 +20,18 @@ use Rattle.gt_types.specs.declared.config.DomainConfig.{DomainConfig}
 use Rattle.gt_types.specs.declared.limits.TheConstants.{TABLE_ENTRIES}
 use Rattle.gt_words.specs.Conditions.{Board, HasDomain, IsSeatOf, SeatOf, position_at}
 use Rattle.gt_words.specs.Controls.{generation_of, pins_in}
-use Rattle.gt_words.specs.Rule.{IsLawful, IsNextEntry, IsRevocation, Layout, Shows, header_place, id_at, layout_of}
+use Rattle.gt_words.specs.Events.{entry_made, event_on_entry, event_on_header, header_made}
+use Rattle.gt_words.specs.History.{History, IsOwners, Says, place_of, word_after}
+use Rattle.gt_words.specs.Rule.{IsLawful, IsNextEntry, IsRevocation, Layout, Shows, Stands, header_place, id_at, layout_of}
 use Rattle.gt_words.specs.Rule.{owner_steps, place, position_in, total_until}
 use Rattle.gt_words.specs.Steps.{on_entry}
 use Rattle.gt_words.specs.Views.{IsIn, LivePin, exchanged, pins, steps_on, with_step}
 use Rattle.gt_types.specs.declared.Dir.{Dir}
 use Rattle.gt_words.specs.declared.view.EntryRecord.{EntryRecord}
 use Rattle.gt_words.specs.declared.view.EntryStep.TheVariants.{Pinned}
+use Rattle.gt_words.specs.declared.view.SeatStep.{SeatStep}
 use Rattle.gt_words.specs.declared.view.View.{View}
+use Rattle.gt_words.specs.declared.word_table.TheConstants.{DOMAIN_WORDS}
 
 -- a domain is one of the run exactly where the configuration has it (own)
 abbrev pub DomainsAreOfRun : Type 0
@@ -73,10 +77,11 @@ PinsLeftAreCounted =
 abbrev pub PastPinsAreRefused : Type 0
 PastPinsAreRefused =
     (k : Layout) (s : State (Unit {0}) View) (i : ℕ) (v : View) (t r e at expected left : ℕ) (d : Dir) (y : EntryRecord)
+    (past : History)
     → get_elem? s.views i ≡ some v → t < k.domains → r < TABLE_ENTRIES
     → IsIn e (exchanged (owner_steps t (map (steps_on t r) s.views))) → y.generation ≤ generation_of e
     → total_until d (generation_of e) (map (steps_on t r) s.views) ≡ pins_in d e
-    → ¬ Shows k (stepped s at left i [] (with_step (on_entry t r (Pinned d expected y)) v) keeps)
+    → ¬ Shows k (stepped s at left i [] (with_step past (on_entry t r (Pinned d expected y)) v) keeps)
 
 -- two states that words and views show, with the same views, have the same words: so no
 -- step leaves another word than what it adds to its view says (own)
@@ -85,6 +90,43 @@ WordsFollowViews = (k : Layout) (s z : State (Unit {0}) View) → Shows k s → 
     → ((t r j : ℕ) → t < k.domains → r < TABLE_ENTRIES → j < 3
     → slice_index s.words (place t r j) ≡ slice_index z.words (place t r j))
     × ((t : ℕ) → t < k.domains → slice_index s.words (header_place t) ≡ slice_index z.words (header_place t))
+
+-- a step that leads from a state that words and views show to another such state is taken then: it comes right after all
+-- steps before it, its seat knows them, it says the word that is there, and it stores or changes only its own (own)
+abbrev pub StepsAreTakenThen : Type 0
+StepsAreTakenThen =
+    (k : Layout) (s : State (Unit {0}) View) (i : ℕ) (v : View) (x : SeatStep) (past : History) (at left : ℕ)
+    (shown : Shows k s) (after : Shows k (stepped s at left i [] (with_step past x v) keeps))
+    → get_elem? s.views i ≡ some v
+    → (past ≡ shown.history) × (after.history ≡ (i, x) ∷ shown.history) × IsOwners i x
+    × (place_of x < k.domains * DOMAIN_WORDS → Says x (slice_index s.words (place_of x)))
+
+-- where a raw step of the table is allowed that adds the step x to its seat's view, by the number found, x says the word
+-- that is there, in every state that words and views show: so no body tells a step of a word that it did not find (own)
+abbrev pub AllowedStepsSayWhatIsThere : Type 0
+AllowedStepsSayWhatIsThere =
+    (k : Layout) (slots id : ℕ) (me : Me (Unit {0}) View) (at : ℕ) (f : ℕ → ℕ) (x : ℕ → SeatStep)
+    (s : State (Unit {0}) View) → Shows k s
+    → Allows (Shows k) slots id me at f (λ n m. (past : History) × (m.0 ≡ with_step past (x n) me.0))
+    → length s.homes ≡ slots → get_elem? s.views id ≡ some me.0 → slice_index s.words at < 18446744073709551616
+    → let step : SeatStep = x (slice_index s.words at) in
+    place_of step < k.domains * DOMAIN_WORDS → Says step (slice_index s.words (place_of step))
+
+-- each step x of the history, by the seat i after the steps h: words and views showed a state before it, it says the word
+-- that was there, and it takes each entry and header to what its event makes of it (own)
+abbrev pub EachStepHappened : Type 0
+EachStepHappened =
+    (k : Layout) (s : State (Unit {0}) View) (later h : History) (i : ℕ) (x : SeatStep) (shown : Shows k s)
+    → shown.history ≡ later ++ (i, x) ∷ h
+    → ((z : State (Unit {0}) View) × Stands k h z) × Says x (word_after k h (place_of x))
+    × ((t r : ℕ) → entry_made k t r ((i, x) ∷ h) ≡ event_on_entry i x t r (entry_made k t r h))
+    × ((t : ℕ) → header_made k t ((i, x) ∷ h) ≡ event_on_header x t (header_made k t h))
+
+-- what words and views show has one history, by the views alone (own)
+abbrev pub HistoryIsOne : Type 0
+HistoryIsOne =
+    (k : Layout) (s z : State (Unit {0}) View) (shown : Shows k s) (also : Shows k z) → s.views ≡ z.views
+    → shown.history ≡ also.history
 
 -- the list of records
 
@@ -234,7 +276,7 @@ seat_at c b s limits layout is =
 
 -- pins of one entry and generation have one record
 pub pins_alike : PinsHaveOneRecord
-pins_alike k s i j v w t r p q shown at_v at_w tn rn p_in q_in same = let f = (shown.entries t r tn rn).record_shown in
+pins_alike k s i j v w t r p q shown at_v at_w tn rn p_in q_in same = let f = (shown.now.entries t r tn rn).record_shown in
     let a = f.pinned i (steps_on t r v) (at_map (steps_on t r) s.views i v at_v) p p_in in
     let b = f.pinned j (steps_on t r w) (at_map (steps_on t r) s.views j w at_w) q q_in in
     one_record _ _ p.1 q.1 f.lawful a.0 b.0 a.1 b.1 same
@@ -242,4 +284,4 @@ pins_alike k s i j v w t r p q shown at_v at_w tn rn p_in q_in same = let f = (s
 -- each pin is of an entry
 pub pin_entry : PinsAreOfEntries
 pin_entry k s i v t r p shown at tn rn p_in =
-    ((shown.entries t r tn rn).record_shown.pinned i (steps_on t r v) (at_map (steps_on t r) s.views i v at) p p_in).1
+    ((shown.now.entries t r tn rn).record_shown.pinned i (steps_on t r v) (at_map (steps_on t r) s.views i v at) p p_in).1

@@ -1,5 +1,6 @@
 pub mod Controls
 pub mod Views
+pub mod History
 pub mod Rule
 pub mod Events
 pub mod Steps

@@ -8,7 +8,7 @@ use Rattle.gt_words.specs.Rule.{Layout}
 
 -- the view of a seat that has done nothing (own)
 abbrev pub new_view : ℕ → List ℕ → List DomId → ℕ → View
-new_view g headers ids t = record { position = t; first = g; headers = headers; ids = ids; dealt = 1; steps = [] }
+new_view g headers ids t = record { position = t; first = g; headers = headers; ids = ids; dealt = 1; steps = []; past = [] }
 
 -- the view of the seat that dealt another, after it (own)
 abbrev pub dealer_after : View → View

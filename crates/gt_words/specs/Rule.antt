@@ -16,8 +16,10 @@ use Rattle.gt_types.specs.declared.DomId.{DomId}
 use Rattle.gt_types.specs.declared.config.Config.{Config}
 use Rattle.gt_types.specs.declared.config.DomainConfig.{DomainConfig}
 use Rattle.gt_types.specs.declared.limits.TheConstants.{MAX_TABLE_FRAMES, TABLE_ENTRIES}
-use Rattle.gt_words.specs.declared.word_table.TheConstants.{DOMAIN_WORDS, ENTRY_WORDS}
+use Rattle.gt_words.specs.declared.word_table.TheConstants.{DOMAIN_WORDS}
 use Rattle.gt_words.specs.Controls.{generation_of, pins_in}
+use Rattle.gt_words.specs.History.{HasLedTo, History}
+pub use Rattle.gt_words.specs.History.{Layout, header_place, initial, place}
 use Rattle.gt_words.specs.Views.{IsIn, LivePin, Seen, earlier_records, exchanged, last_record, pin_count, pins}
 use Rattle.gt_words.specs.Views.{pins_until, seen, seen_header, steps_on, steps_on_header, stored_body, stored_header}
 use Rattle.gt_words.specs.Views.{stored_headers, taken_count}
@@ -26,14 +28,6 @@ use Rattle.gt_entry.specs.declared.change.Half.TheVariants.{First, Second}
 use Rattle.gt_words.specs.declared.view.HeaderStep.{HeaderStep}
 use Rattle.gt_words.specs.declared.view.EntryRecord.{EntryRecord}
 use Rattle.gt_words.specs.declared.view.View.{View}
-
--- the run as the words need it: the domains in order, their number, the first
--- generation of all entries, and the first header of each domain (own)
-pub record Layout : Type 0 where
-  pub ids : List DomId
-  pub domains : ℕ
-  pub first : ℕ
-  pub headers : List ℕ
 
 -- the header of a domain at the start (own)
 abbrev pub first_header : DomainConfig → Header
@@ -57,20 +51,11 @@ position_in xs d = unwrap_or (position (λ x. x.0 == d.0) xs) (length xs)
 abbrev pub id_at : List DomId → ℕ → DomId
 id_at xs t = slice_index_or xs t (record { 0 = 0 })
 
--- the place of the word j of the entry r of the domain t: after the header
--- of its domain, each entry at a stride of its own (own)
-abbrev pub place : ℕ → ℕ → ℕ → ℕ
-place t r j = t * DOMAIN_WORDS + (ENTRY_WORDS * r + (ENTRY_WORDS + j))
-
--- the place of the header word of a domain: first of its words (own)
-abbrev pub header_place : ℕ → ℕ
-header_place t = t * DOMAIN_WORDS
-
 -- each part of the record is in its range (own)
 abbrev pub IsRecord : EntryRecord → Type 0
 IsRecord x = IsEntry x.entry × (x.generation < 1048576)
 
--- x is the record y revoked: invalid, of the same generation (own)
+-- x is the record y revoked or withdrawn: invalid, of the same generation (own)
 abbrev pub IsRevocation : EntryRecord → EntryRecord → Type 0
 IsRevocation x y = (x.entry ≡ Invalid) × (x.generation ≡ y.generation)
 
@@ -141,8 +126,6 @@ pub record ShowsRecord (x : EntryRecord) (xs : List EntryRecord) (word a b : ℕ
   pub in_range : (total_pins Read hs < 4096) × (total_pins Write hs < 4096)
   pub body : IsSpelled x.entry a b
   pub lawful : IsLawful x xs
-  -- an invalid last record has no pins in any view
-  pub unpinned : x.entry ≡ Invalid → (total_pins Read hs ≡ 0) × (total_pins Write hs ≡ 0)
   -- a read-only last record has no write pins in any view
   pub unwritten : is_read_only x.entry ≡ true → total_pins Write hs ≡ 0
   -- each pin is of a record of the owner's list, which is an entry
@@ -197,8 +180,8 @@ SawHeaders k t hs =
     (i : ℕ) (h : List HeaderStep) → get_elem? hs i ≡ some h → IfSome (seen_header h) (λ n. IsIn n (headers_of k t hs))
 
 module _ {S : Type 0} where
-  -- words and views show a state of the core (own)
-  pub record Shows (k : Layout) (s : State S View) : Type 0 where
+  -- words and views show a state of the core, to which the history h has led (own)
+  pub record Stands (k : Layout) (h : History) (s : State S View) : Type 0 where
     pub wide : length s.words ≡ k.domains * DOMAIN_WORDS
     -- the first seat deals the others, and counts them
     pub dealt : ((v : View) → get_elem? s.views 0 ≡ some v → v.dealt ≡ length s.views) × (length s.views ≤ k.domains)
@@ -213,3 +196,17 @@ module _ {S : Type 0} where
         → (slice_index s.words (header_place t) ≡ header_now k t (map (steps_on_header t) s.views))
         × IsHeader (slice_index s.words (header_place t))
     pub saw_headers : (t : ℕ) → t < k.domains → SawHeaders k t (map (steps_on_header t) s.views)
+    -- one order of all steps of all seats has led here
+    pub led_here : HasLedTo k h s
+
+-- before each step of the history words and views showed a state, to which the steps before it had led (own)
+abbrev pub HasStood : Type 0 → Layout → History → Type 0
+HasStood S k [] = Unit {0}
+HasStood S k (p ∷ h) = ((z : State S View) × Stands k h z) × HasStood S k h
+
+module _ {S : Type 0} where
+  -- words and views show a state of the core, and did before each step of their history (own)
+  pub record Shows (k : Layout) (s : State S View) : Type 0 where
+    pub history : History
+    pub now : Stands k history s
+    pub stood : HasStood S k history

@@ -9,8 +9,10 @@ use Rattle.gt_entry.specs.Spelling.{idle_word_of}
 use Rattle.gt_entry.specs.Words.{unit_of}
 use Rattle.gt_entry.specs.declared.change.Change.{Change}
 use Rattle.gt_types.specs.declared.Dir.{Dir}
-use Rattle.gt_words.specs.Controls.{demoted_word, invalid_word, promoted_word}
+use Rattle.gt_words.specs.Controls.{demoted_word, invalid_word, promoted_word, withdrawn_word}
 use Rattle.gt_words.specs.Events.{Happens}
+use Rattle.gt_words.specs.History.{History}
+pub use Rattle.gt_words.specs.History.{half_index}
 use Rattle.gt_words.specs.Rule.{Layout, Shows}
 use Rattle.gt_words.specs.Views.{last_of, last_seen, record_seen, with_step}
 use Rattle.gt_words.specs.declared.view.EntryStep.{EntryStep}
@@ -28,15 +30,18 @@ use Rattle.gt_words.specs.declared.view.Purpose.TheVariants as purpose
 use Rattle.gt_words.specs.declared.view.HeaderStep.TheVariants as header
 use Rattle.gt_words.specs.declared.view.SeatStep.TheVariants as step_of
 
--- the seat with the view v takes the step x on this word, where it finds and leaves these numbers: words and views show
--- a state before it and after it, and it takes the one to what the core's event makes of it (own)
-pub record TakesStep (S : Type 0) (k : Layout) (v : View) (x : SeatStep) (word found left : ℕ) : Type 0 where
+-- the seat with the view v takes the step x on this word, where it finds and leaves these numbers, after the steps past
+-- of all seats: words and views show a state before it and after it, and it takes the one to what the core's event
+-- makes of it (own)
+pub record TakesStep (S : Type 0) (k : Layout) (v : View) (past : History) (x : SeatStep)
+    (word found left : ℕ) : Type 0 where
   pub before : State S View
   pub shown : Shows k before
+  pub led_by : shown.history ≡ past
   pub mine : get_elem? before.views v.position ≡ some v
   pub found_is : slice_index before.words word ≡ found
-  pub still_shown : Shows k (stepped before word left v.position [] (with_step x v) keeps)
-  pub happens : Happens k v.position x before (stepped before word left v.position [] (with_step x v) keeps)
+  pub still_shown : Shows k (stepped before word left v.position [] (with_step past x v) keeps)
+  pub happens : Happens k v.position x before (stepped before word left v.position [] (with_step past x v) keeps)
 
 -- a step on the entry r of the domain t (own)
 abbrev pub on_entry : ℕ → ℕ → EntryStep → SeatStep
@@ -56,7 +61,8 @@ pub record StepKind : Type 0 where
 -- which was taken on words and views that show a state (own)
 abbrev pub tells : {S : Type 0} → StepKind → TableStep S → Me S View → ℕ → Me S View → Type 0
 tells {S} d st m n m' =
-    (m'.1 ≡ m.1) × (m'.0 ≡ with_step (d.step n) m.0) × TakesStep S d.layout m.0 (d.step n) st.word n (d.leaves n)
+    (m'.1 ≡ m.1) × ((past : History) × (m'.0 ≡ with_step past (d.step n) m.0)
+    × TakesStep S d.layout m.0 past (d.step n) st.word n (d.leaves n))
 
 -- the same of a store, which does not say what it found (own)
 abbrev pub tells_stored : {S : Type 0} → StepKind → TableStep S → Me S View → Me S View → Type 0
@@ -98,10 +104,11 @@ changed c x = record { generation = x.generation + raise_of c; entry = changed_e
 
 -- the word that an owner's exchange stores in place of this one, where the last record is x: the
 -- idle word of the entry published, at the next generation; the invalid one of the same
--- generation; or the same with the other readonly, at the next generation (own)
+-- generation, for a withdrawal with the same pins; or the same with the other readonly, at the next generation (own)
 abbrev pub changed_word : Change → EntryRecord → ℕ → ℕ
 changed_word (change.Publish e) x word = idle_word_of e (x.generation + 1)
 changed_word change.Revoke x word = invalid_word word
+changed_word change.Withdraw x word = withdrawn_word word
 changed_word change.Demote x word = demoted_word word
 changed_word change.Promote x word = promoted_word word
 
@@ -120,11 +127,6 @@ missed (purpose.Change c) old new n = ChangeMissed c old new n
 abbrev pub exchanging : Layout → ℕ → ℕ → View → Purpose → ℕ → ℕ → StepKind
 exchanging k t r v p old new =
     entry_kind k t r (λ n. cond (n == old) (taken t r v p old new) (missed p old new n)) (λ n. either (n == old) new n)
-
--- the index of a body word among the words of an entry (own)
-abbrev pub half_index : Half → ℕ
-half_index First = 1
-half_index Second = 2
 
 -- the body word at an index: the first at 1, else the second (own)
 abbrev pub half_of : ℕ → Half

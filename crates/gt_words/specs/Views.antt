@@ -46,9 +46,9 @@ header_steps t (Entry d q m ∷ xs) = header_steps t xs
 abbrev pub steps_on_header : ℕ → View → List HeaderStep
 steps_on_header t v = header_steps t v.steps
 
--- the view after one more step (own)
-abbrev pub with_step : SeatStep → View → View
-with_step x v = record v { steps = x ∷ v.steps }
+-- the view after one more step, which was taken after the steps past of all seats (own)
+abbrev pub with_step : List (ℕ × SeatStep) → SeatStep → View → View
+with_step past x v = record v { steps = x ∷ v.steps; past = (v.position, x) ∷ past }
 
 -- a live pin of an entry: its kind, and the generation and entry that it was taken from (own)
 abbrev pub LivePin : Type 0

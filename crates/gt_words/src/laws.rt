@@ -1,7 +1,9 @@
 //! What follows from the definitions, for callers.
 ghost use Rattle.gt_words.specs.Laws.{DomainsAreOfRun, DomainsStandThere, PastPinsAreRefused, PinsAreOfEntries};
-ghost use Rattle.gt_words.specs.Laws.{PinsHaveOneRecord, PinsLeftAreCounted, SeatsStandThere};
-ghost use Rattle.gt_words.specs.Laws.{WordsFollowViews};
+ghost use Rattle.gt_words.specs.Laws.{AllowedStepsSayWhatIsThere, EachStepHappened, HistoryIsOne};
+ghost use Rattle.gt_words.specs.Laws.{PinsHaveOneRecord};
+ghost use Rattle.gt_words.specs.Laws.{PinsLeftAreCounted, SeatsStandThere};
+ghost use Rattle.gt_words.specs.Laws.{StepsAreTakenThen, WordsFollowViews};
 
 /// A law: a domain is one of the run exactly where the configuration has it.
 pub fn every_domain_is_of_the_run()
@@ -45,4 +47,27 @@ pub fn no_pin_is_taken_of_a_past_record()
 /// leaves another word than what it adds to its view says.
 pub fn every_word_follows_from_the_views()
     ensures { WordsFollowViews }
+{}
+
+/// A law: a step that leads from a state that words and views show to another such state is taken then. It comes right
+/// after all steps before it, and says the word that is there. So no body tells a step of another moment, or a word that
+/// its step did not find.
+pub fn every_step_is_taken_then()
+    ensures { StepsAreTakenThen }
+{}
+
+/// A law: what words and views show has one history, by the views alone.
+pub fn every_history_follows_from_the_views()
+    ensures { HistoryIsOne }
+{}
+
+/// A law: where a raw step of the table is allowed, the step that it adds to its seat's view says the word that is there.
+pub fn every_allowed_step_says_what_is_there()
+    ensures { AllowedStepsSayWhatIsThere }
+{}
+
+/// A law: each step of a history took a state that words and views showed to what the event of the step makes of it,
+/// and says the word that was there.
+pub fn every_step_of_a_history_happened()
+    ensures { EachStepHappened }
 {}

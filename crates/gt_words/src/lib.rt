@@ -5,8 +5,8 @@
 //! the core: who was granted what, with each pin counted. So a revocation that is answered Ok was made
 //! while no domain had a pin of its entry.
 //!
-//! Each call promises, by its contract, a state in which its step can have been made, and what the step
-//! made of it. At run time views and steps cost nothing. No call but `Words::new` takes memory, and
+//! Each call promises, by its contract, the state in which its step was made, and what the step made of it. All steps of
+//! all domains have one order. At run time views and steps cost nothing. No call but `Words::new` takes memory, and
 //! none waits.
 //!
 //! It uses `atomic_table`, whose rule is `Shows` of specs/Rule.antt, and the words of `gt_entry`.
@@ -19,8 +19,10 @@ mod word_table;
 mod words;
 
 pub use laws::{
-    every_domain_has_its_position, every_domain_is_of_the_run, every_pin_is_of_an_entry,
-    every_pin_left_is_counted, every_seat_has_its_position, every_word_follows_from_the_views,
+    every_allowed_step_says_what_is_there, every_domain_has_its_position,
+    every_domain_is_of_the_run, every_history_follows_from_the_views, every_pin_is_of_an_entry,
+    every_pin_left_is_counted, every_seat_has_its_position, every_step_is_taken_then,
+    every_step_of_a_history_happened, every_word_follows_from_the_views,
     no_pin_is_taken_of_a_past_record, pins_of_one_generation_have_one_record,
 };
 pub use view::{EntryRecord, EntryStep, HeaderStep, Purpose, SeatStep, View};

@@ -89,4 +89,6 @@ pub struct View {
     /// The number of seats that this one has dealt, its own among them.
     pub dealt: u64,
     pub steps: LinkedList<SeatStep>,
+    /// The steps of all seats up to its own last one, each with the position of its seat, the last first.
+    pub past: LinkedList<(u64, SeatStep)>,
 }

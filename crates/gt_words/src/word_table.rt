@@ -1,19 +1,19 @@
 //! The table of the words, and its steps by the positions of the domains.
 ghost use Rattle.std.specs.Prelude.{◌≡◌, ◌≢◌, ℕ, ◌+◌, ◌-◌, ◌*◌, ◌/◌, ◌%◌, ◌^◌, ◌<◌, ◌≤◌, ◌==◌, [], length};
-ghost use Rattle.std.specs.Prelude.{slice_index, true, false, IfOk, IsOk, MatchResult, HoldsAt};
+ghost use Rattle.std.specs.Prelude.{slice_index, true, false, IfOk, MatchResult, HoldsAt};
 ghost use mathlib.Core.Option.{none};
 ghost use prog.Atomic.{either};
 ghost use Rattle.atomic_table.specs.Table.{step, Allows};
 ghost use Rattle.gt_entry.specs.Entries.{IsEntry};
 ghost use Rattle.gt_entry.specs.Spelling.{idle_word_of};
-ghost use Rattle.gt_words.specs.Controls.{IsTurnable, generation_of, turned_word};
+ghost use Rattle.gt_words.specs.Controls.{IsTurnable, generation_of, turned_word, withdrawn_word};
 ghost use Rattle.gt_words.specs.Views.{last_of};
 ghost use Rattle.gt_words.specs.Rule.{Shows, layout_of, place, header_place, IsKeptHeader};
 ghost use Rattle.gt_words.specs.Steps.{StepKind, tells, tells_stored, looking, half_index};
-ghost use Rattle.gt_words.specs.Conditions.{CanDemote, CanPin, CanPublish, CanRevoke, CanTurn, Changes, CountsPins};
-ghost use Rattle.gt_words.specs.Conditions.{Demotes, Holds, IsWide, IsWordOf, LooksAtBody, LooksAtControl};
-ghost use Rattle.gt_words.specs.Conditions.{LooksAtHeader, MissesBusy, MissesChange, MissesPin, Pins, Revokes};
-ghost use Rattle.gt_words.specs.Conditions.{StoresBody, StoresHeader, Unpins};
+ghost use Rattle.gt_words.specs.Conditions.{CanDemote, CanPin, CanPublish, CanRevoke, CanTurn, CanWithdraw, Changes};
+ghost use Rattle.gt_words.specs.Conditions.{CountsPins, Demotes, Holds, IsWide, IsWordOf, LooksAtBody, LooksAtControl};
+ghost use Rattle.gt_words.specs.Conditions.{LooksAtHeader, MissesBusy, MissesChange, MissesPin, Pins, Publishes};
+ghost use Rattle.gt_words.specs.Conditions.{Revokes, StoresBody, StoresHeader, Unpins};
 ghost use Rattle.gt_words.specs.Places.{new_view, IsSamePlace};
 
 use crate::view::{Purpose, View};
@@ -327,8 +327,8 @@ impl WordTable {
         store_word::<Brand>(&self.table.shared, seat, at, gref, index_of(half), value);
     }
 
-    /// The owner publishes an entry whose body it has stored. Answers the word found where it is
-    /// another than the one handed in.
+    /// The owner publishes an entry whose body it has stored, where the invalid one has no pins. Answers the word
+    /// found where it has some.
     pub(crate) fn grant(
         &self,
         seat: &mut TableSeat,
@@ -343,11 +343,9 @@ impl WordTable {
         requires can { CanPublish entry gref word seat.old.me.0 }
         ensures seat { IsSamePlace seat.old seat.new }
         ensures step { MatchResult result
-            (λ _. Changes (layout_of self.now.table.shared.key) gref (Change.Publish entry) word
-            seat.old.me.0 seat.new.me.0)
+            (λ _. Publishes (layout_of self.now.table.shared.key) gref entry word seat.old.me.0 seat.new.me.0)
             (λ n. MissesBusy (layout_of self.now.table.shared.key) gref (Change.Publish entry) word n
             seat.old.me.0 seat.new.me.0) }
-        ensures taken { IsOk result }
     {
         let new = idle_word(entry, Control::unpack(word).generation + 1);
         let purpose = Purpose::Change(Change::Publish(entry));
@@ -374,6 +372,29 @@ impl WordTable {
     {
         let new = idle_word(Entry::Invalid, Control::unpack(word).generation);
         let purpose = Purpose::Change(Change::Revoke);
+        let found = exchange_word::<Brand>(&self.table.shared, seat, at, gref, word, new, purpose);
+        if found == word { Ok(()) } else { Err(found) }
+    }
+
+    /// The owner makes its entry invalid and leaves its pins, where its word still is the one handed in.
+    pub(crate) fn withdraw(
+        &self,
+        seat: &mut TableSeat,
+        at: usize,
+        gref: usize,
+        word: u64,
+    ) -> Result<(), u64>
+        requires mine { (seat.old.table_id ≡ self.now.table.shared.table_id) × (seat.old.me.0.position ≡ at) }
+        requires entry { (at < length self.now.table.shared.key.domains.items) × (gref < TABLE_ENTRIES) }
+        requires can { CanWithdraw gref word seat.old.me.0 }
+        ensures seat { IsSamePlace seat.old seat.new }
+        ensures step { MatchResult result
+            (λ _. Changes (layout_of self.now.table.shared.key) gref Change.Withdraw word seat.old.me.0 seat.new.me.0)
+            (λ n. MissesChange (layout_of self.now.table.shared.key) gref Change.Withdraw word n
+            seat.old.me.0 seat.new.me.0) }
+    {
+        let new = withdrawn(word);
+        let purpose = Purpose::Change(Change::Withdraw);
         let found = exchange_word::<Brand>(&self.table.shared, seat, at, gref, word, new, purpose);
         if found == word { Ok(()) } else { Err(found) }
     }
@@ -431,6 +452,20 @@ pub(crate) fn idle_word(entry: Entry, generation: u32) -> u64
     ensures { result ≡ idle_word_of entry generation }
 {
     Control::of_entry(entry, generation, 0, 0).pack()
+}
+
+// The invalid word of the same generation, with the same pins.
+fn withdrawn(word: u64) -> u64
+    ensures { result ≡ withdrawn_word word }
+{
+    let control = Control::unpack(word);
+    Control::of_entry(
+        Entry::Invalid,
+        control.generation,
+        control.reads,
+        control.writes,
+    )
+    .pack()
 }
 
 // The same word read-only or writable, at the next generation.

@@ -1,5 +1,5 @@
 //! The words and the seats with nothing in sight but what contracts name.
-ghost use Rattle.std.specs.Prelude.{◌≡◌, ◌⊎◌, ◌<◌, ◌≤◌, [], length, MatchResult, IfOk, IfErr, OnOk, IsOk, HoldsAt, ℕ};
+ghost use Rattle.std.specs.Prelude.{◌≡◌, ◌⊎◌, ◌<◌, ◌≤◌, [], length, MatchResult, IfOk, IfErr, OnOk, HoldsAt, ℕ};
 ghost use Rattle.std.specs.Prelude.{position, ◌==◌, true};
 ghost use Rattle.gt_types.specs.Config.{IsWithinLimits};
 ghost use Rattle.gt_entry.specs.Words.{header_word};
@@ -9,10 +9,10 @@ ghost use Rattle.gt_words.specs.Views.{own_header, own_table, last_of};
 ghost use Rattle.gt_words.specs.Rule.{layout_of, position_in, IsKeptHeader};
 ghost use Rattle.gt_words.specs.Conditions.{Board, SeatOf, IsSeatOf, IsSameSeat, IsNewSeat, IsStartFault, HasDomain};
 ghost use Rattle.gt_words.specs.Conditions.{IsEntryOf, position_at, with_version, with_frames, IsWordOf, Holds};
-ghost use Rattle.gt_words.specs.Conditions.{CanPin, CanPublish, CanRevoke, CanDemote, CanTurn, CountsPins};
+ghost use Rattle.gt_words.specs.Conditions.{CanPin, CanPublish, CanRevoke, CanWithdraw, CanDemote, CanTurn, CountsPins};
 ghost use Rattle.gt_words.specs.Conditions.{LooksAtHeader, LooksAtControl, LooksAtBody, StoresBody, StoresHeader};
 ghost use Rattle.gt_words.specs.Conditions.{UnpinsPin, Pins, MissesPin, Changes, MissesChange, MissesBusy, Revokes};
-ghost use Rattle.gt_words.specs.Conditions.{Demotes};
+ghost use Rattle.gt_words.specs.Conditions.{Demotes, Publishes};
 
 use crate::start::{deal_seats, domain_ids, first_words};
 use crate::word_table::{TableSeat, WordTable};
@@ -314,11 +314,12 @@ impl Words {
             .store_body(&mut seat.place, at, gref.0 as usize, half, value);
     }
 
-    /// The owner publishes an entry whose body words it has stored, at the next generation.
+    /// The owner publishes an entry whose body words it has stored, at the next generation, by one exchange from
+    /// the invalid word without pins.
     ///
     /// # Errors
-    /// The word found, where it is another than the one handed in: it has pins. That can't be while
-    /// an invalid entry has none.
+    /// The word found, where the invalid entry has pins: those that a withdrawal left. The owner's list is then as
+    /// it was.
     pub fn grant(&self, seat: &mut Seat, gref: GrantRef, word: u64, entry: Entry) -> Result<(), u64>
         requires seat { IsSeatOf self.now seat.old }
         requires entry { (gref.0 < TABLE_ENTRIES) × IsEntry entry }
@@ -326,9 +327,8 @@ impl Words {
         ensures seat { IsSameSeat seat.old seat.new }
         ensures fits { IsSeatOf self.now seat.new }
         ensures step { MatchResult result
-            (λ _. Changes self.now.layout gref.0 (Change.Publish entry) word seat.old.view seat.new.view)
+            (λ _. Publishes self.now.layout gref.0 entry word seat.old.view seat.new.view)
             (λ n. MissesBusy self.now.layout gref.0 (Change.Publish entry) word n seat.old.view seat.new.view) }
-        ensures taken { IsOk result }
     {
         let at = seat.position;
         self.words
@@ -352,6 +352,26 @@ impl Words {
         let at = seat.position;
         self.words
             .revoke(&mut seat.place, at, gref.0 as usize, word)
+    }
+
+    /// The owner makes its entry invalid by one exchange from the word handed in, and leaves its pins: no more are
+    /// taken of it, and those that there are stay until they are given back.
+    ///
+    /// # Errors
+    /// The word found, where it is another than the one handed in. The owner's list is then as it was.
+    pub fn withdraw(&self, seat: &mut Seat, gref: GrantRef, word: u64) -> Result<(), u64>
+        requires seat { IsSeatOf self.now seat.old }
+        requires entry { gref.0 < TABLE_ENTRIES }
+        requires can { CanWithdraw gref.0 word seat.old.view }
+        ensures seat { IsSameSeat seat.old seat.new }
+        ensures fits { IsSeatOf self.now seat.new }
+        ensures step { MatchResult result
+            (λ _. Changes self.now.layout gref.0 Change.Withdraw word seat.old.view seat.new.view)
+            (λ n. MissesChange self.now.layout gref.0 Change.Withdraw word n seat.old.view seat.new.view) }
+    {
+        let at = seat.position;
+        self.words
+            .withdraw(&mut seat.place, at, gref.0 as usize, word)
     }
 
     /// The owner makes its writable entry read-only at the next generation, by one exchange from a

@@ -126,6 +126,30 @@ pub(crate) fn revoke(
     Ok(())
 }
 
+// The owner withdraws its entry with the pins that it has. Answers Ok where it is invalid already.
+pub(crate) fn withdraw(
+    words: &Words,
+    seat: &mut Seat,
+    gref: GrantRef,
+    row: &mut Row,
+) -> Result<(), u64>
+    requires seat { IsSeatOf words.now seat.old }
+    requires reference { gref.0 < TABLE_ENTRIES }
+    requires entry { HasDomain words.now.layout seat.old.dom }
+    requires row { last_of gref.0 seat.old.view ≡ record { generation = row.old.generation; entry = row.old.entry } }
+    ensures seat { IsSameSeat seat.old seat.new }
+    ensures row { last_of gref.0 seat.new.view ≡ record { generation = row.new.generation; entry = row.new.entry } }
+{
+    if row.entry.is_invalid() {
+        return Ok(());
+    }
+    let owner = seat.dom();
+    let word = words.load_control(seat, owner, gref);
+    words.withdraw(seat, gref, word)?;
+    row.entry = Entry::Invalid;
+    Ok(())
+}
+
 // The owner makes its entry read-only or writable, where it is the other and has no write pin that it must not have.
 pub(crate) fn turn(
     words: &Words,
@@ -188,6 +212,60 @@ pub(crate) fn revoke_pinned(
     let answer = revoke(words, owner, gref, row);
     words.unpin(other, pin);
     Some(answer)
+}
+
+// The owner withdraws its entry, and grants this one in its place. Answers the word between, and what the grant was
+// answered.
+fn withdraw_and_grant(
+    words: &Words,
+    owner: &mut Seat,
+    gref: GrantRef,
+    row: &mut Row,
+    entry: Entry,
+) -> (u64, Result<(), u64>)
+    requires owner { IsSeatOf words.now owner.old }
+    requires entry { IsEntryOf words.now owner.old.dom gref }
+    requires row { last_of gref.0 owner.old.view ≡ record { generation = row.old.generation; entry = row.old.entry } }
+    requires given { entry ≢ Entry.Invalid }
+    ensures owner { IsSameSeat owner.old owner.new }
+    ensures row { last_of gref.0 owner.new.view ≡ record { generation = row.new.generation; entry = row.new.entry } }
+{
+    let dom = owner.dom();
+    let _ = withdraw(words, owner, gref, row);
+    let word = words.load_control(owner, dom, gref);
+    let early = publish(words, owner, gref, row, entry);
+    (word, early)
+}
+
+// The other domain pins the entry to write, the owner withdraws it, and grants this one in its place before and after
+// the pin is given back. Answers the word between, and what both grants were answered, or nothing where the pin was not
+// taken.
+pub(crate) fn withdraw_pinned(
+    words: &Words,
+    owner: &mut Seat,
+    other: &mut Seat,
+    gref: GrantRef,
+    row: &mut Row,
+    entry: Entry,
+) -> Option<(u64, Result<(), u64>, Result<(), u64>)>
+    requires owner { IsSeatOf words.now owner.old }
+    requires other { IsSeatOf words.now other.old }
+    requires entry { IsEntryOf words.now owner.old.dom gref }
+    requires row { last_of gref.0 owner.old.view ≡ record { generation = row.old.generation; entry = row.old.entry } }
+    requires given { entry ≢ Entry.Invalid }
+    ensures owner { IsSameSeat owner.old owner.new }
+    ensures other { IsSameSeat other.old other.new }
+    ensures row { last_of gref.0 owner.new.view ≡ record { generation = row.new.generation; entry = row.new.entry } }
+{
+    let dom = owner.dom();
+    let sight = look(words, other, dom, gref);
+    let Some(Ok(pin)) = try_pin(words, other, dom, gref, &sight, Dir::Write) else {
+        return None;
+    };
+    let (word, early) = withdraw_and_grant(words, owner, gref, row, entry);
+    words.unpin(other, pin);
+    let late = publish(words, owner, gref, row, entry);
+    Some((word, early, late))
 }
 
 // Takes a read pin of the entry that was looked at, where it can be.

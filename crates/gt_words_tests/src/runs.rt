@@ -1,7 +1,7 @@
 //! Worked runs of two domains, each written as one text. Words are in base 16, but inside an answer in base 10.
 use crate::calls::{
     Row, churn, look, page, pin_twice, publish, revoke, revoke_pinned, start, toggle, try_pin,
-    turn, two_domains,
+    turn, two_domains, withdraw_pinned,
 };
 use gt_entry::{Control, Entry};
 use gt_types::{Dir, DomId, GrantRef};
@@ -70,6 +70,24 @@ fn refuses_to_revoke_a_pinned_entry(rt: HostRuntime) -> Result<(), Fail> {
     let last = revoke(&words, &mut owner, ENTRY, &mut row);
     let text = format!(in rt.alloc(); "{read:?} {write:?} {idle:x} {last:?}")?;
     assert_eq!(rt; text.as_str(), PINNED);
+    Ok(())
+}
+
+// The word of a withdrawn entry with a write pin, and what grants before and after the pin was given back answered;
+// then the word of the new entry.
+const WITHDRAWN: &str = "Some((17592186109952, Err(17592186109952), Ok(()))) 200020000001";
+
+#[test]
+fn grants_no_entry_over_pins(rt: HostRuntime) -> Result<(), Fail> {
+    let config = two_domains(rt.alloc())?;
+    let (words, mut owner, mut other) = start(rt.alloc(), &config)?;
+    assert_eq!(rt; owner.dom(), OWNER);
+    let mut row = UNUSED;
+    let _ = publish(&words, &mut owner, ENTRY, &mut row, page(5));
+    let done = withdraw_pinned(&words, &mut owner, &mut other, ENTRY, &mut row, page(6));
+    let word = words.load_control(&mut owner, OWNER, ENTRY);
+    let text = format!(in rt.alloc(); "{done:?} {word:x}")?;
+    assert_eq!(rt; text.as_str(), WITHDRAWN);
     Ok(())
 }
 

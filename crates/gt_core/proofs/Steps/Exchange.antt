@@ -1,7 +1,7 @@
 -- An owner's exchange: it keeps what a core stands for. What it rests on, which rule it meets, and where it leads its
 -- call.
-use Rattle.gt_core.proofs.Words.{◌≡◌, ◌≢◌, ◌<◌, ◌≤◌, ◌+◌, ℕ, refl, Bool, true, List, ◌∷◌, length, Option, Some, None, cond, sym, ap, ◌∙◌, arith, subst, get_or, eqb-true, none-some, slice_get-get_or, option_map, ◌==◌, All, slice_get, fun_ext, DomId, GrantRef, TABLE_ENTRIES, LAST_GENERATION, Entry, Invalid, Change, Publish, IsEntry, Own, Open, Item, Answer, entry_in, generation_in, row_entry, row_generation, changed_at, State, state_of, changed_in, with_own, own_after, History, Setting, Pin, live, entry_at, raises_at, raise_of, generation_at, open_call, change_of, entry_after, raise_after, one_if_mapped, IsSafeChange, IsLawful, FitsTable, Agrees, DomainsStand, CallAgrees, GivenAgrees, gather, by_mapping, first, false, inl, suc, zero, ◌-◌, cond_both, eq-eqb, false≢true, lt-leb, lt-ltb, ltb-false, ltb-true, nat_le, nat_lt, Read, Write, N18, N19, MAX_TRIES, is_invalid, control_of, control_word, ToReadOnly, ToWritable, ToInvalid, FirstHalf, SecondHalf, last_first, no_pins, action_at, phase_after, refused_as, opens, Continuation, idle_word, path, RestsOnWord, CallerKnowledge, begun, control_with, size_of, stands, HasShown, IsQuiet, IsTurn, Makes, Seen, Missed, Taken, Step, Exchange, Granted, Phase, Changing, Ending, Exchanging, Last, Looking, Walking, MORE_TRIES, Asked, Demote, Grant, Promote, Revoke, known_at, reads_at, seen_by, word_at, writes_at, IsSpelled, StepsSoFar, at_entry, first_at, FitsAsked, PhaseStands, phase_refusal, body_at, table_at, misses, IsLegalHistory}
-use Rattle.gt_core.proofs.{Entries.free, Steps.Observers.unstored, Steps.Observers.answered-stays, Steps.Observers.kept-table, Keeping.SlotsAgree, Keeping.same-number, Keeping.counts-fit, Rows.get-changed, Rows.length-changed, Mappings.mappings-same, Keeping.slots-kept, Keeping.Facts, Keeping.facts_at, Keeping.Fits, Keeping.facts-fit, Keeping.each-stays, Keeping.all-stand, Keeping.own-changed, Steps.Observers.exchanged, Steps.Observers.exchanged-entry, Steps.Observers.exchanged-raises, Steps.Observers.exchanged-live, Phases.none-of, Phases.IsHere, Phases.makes-same, Phases.by-leg, Phases.by-giving, Phases.IsPublished, Phases.Judged, Phases.Leads, Legs.late-last, Legs.late-more, Legs.control-parts, Steps.See.word-shows, Steps.See.table-fits, Steps.Look.writes-shown}
+use Rattle.gt_core.proofs.Words.{◌≡◌, ◌≢◌, ◌<◌, ◌≤◌, ◌+◌, ℕ, refl, Bool, true, List, ◌∷◌, length, Option, Some, None, cond, sym, ap, ◌∙◌, arith, subst, get_or, eqb-true, none-some, slice_get-get_or, option_map, ◌==◌, All, slice_get, fun_ext, DomId, GrantRef, TABLE_ENTRIES, LAST_GENERATION, Entry, Invalid, Change, Publish, IsEntry, Own, Open, Item, Answer, entry_in, generation_in, row_entry, row_generation, changed_at, State, state_of, changed_in, with_own, own_after, History, Setting, Pin, live, entry_at, raises_at, raise_of, generation_at, open_call, change_of, entry_after, raise_after, one_if_mapped, IsSafeChange, IsLawful, FitsTable, Agrees, DomainsStand, CallAgrees, GivenAgrees, gather, by_mapping, first, false, inl, suc, zero, ◌-◌, cond_both, eq-eqb, false≢true, lt-leb, lt-ltb, ltb-false, ltb-true, nat_le, nat_lt, Read, Write, N18, N19, MAX_TRIES, is_invalid, control_of, control_word, ToReadOnly, ToWritable, ToInvalid, ToWithdrawn, FirstHalf, SecondHalf, last_first, no_pins, action_at, phase_after, refused_as, opens, Continuation, idle_word, path, RestsOnWord, CallerKnowledge, begun, control_with, size_of, stands, HasShown, IsQuiet, IsTurn, Makes, Seen, Missed, Taken, Step, Exchange, Granted, Phase, Changing, Ending, Exchanging, Last, Looking, Walking, MORE_TRIES, Asked, Demote, Grant, Promote, Revoke, Withdraw, known_at, reads_at, seen_by, word_at, writes_at, IsSpelled, StepsSoFar, at_entry, first_at, FitsAsked, PhaseStands, phase_refusal, body_at, table_at, misses, IsLegalHistory}
+use Rattle.gt_core.proofs.{Steps.Observers.unstored, Steps.Observers.answered-stays, Steps.Observers.kept-table, Keeping.SlotsAgree, Keeping.same-number, Keeping.counts-fit, Rows.get-changed, Rows.length-changed, Mappings.mappings-same, Keeping.slots-kept, Keeping.Facts, Keeping.facts_at, Keeping.Fits, Keeping.facts-fit, Keeping.each-stays, Keeping.all-stand, Keeping.own-changed, Steps.Observers.exchanged, Steps.Observers.exchanged-entry, Steps.Observers.exchanged-raises, Steps.Observers.exchanged-live, Phases.none-of, Phases.IsHere, Phases.makes-same, Phases.by-leg, Phases.by-giving, Phases.Judged, Phases.Leads, Legs.late-last, Legs.late-more, Legs.control-parts, Steps.See.word-shows, Steps.See.table-fits, Steps.Look.writes-shown}
 
 -- each number of the entry that is published fits its type
 abbrev pub FitsChange : Change → Type 0
@@ -105,25 +105,16 @@ pub word-below : (s : Setting) (h : History) (xs : List State) (d : DomId) (r : 
     → RestsOnWord (known_at s h d) way d r shown gref word change → gref.0 < TABLE_ENTRIES
 word-below s h xs d r way shown gref word (Publish entry) st none rests = table-below s h xs d gref st (opens (known_at s h d) d (Grant gref entry) (none-of (known_at s h d) d r (Grant gref entry) rests.0 none)).in_table
 word-below s h xs d r way shown gref word ToInvalid st none rests = table-below s h xs d gref st (opens (known_at s h d) d (Revoke gref) (subst (λ (z : Asked). begun (known_at s h d) d z ≡ None) rests.0 none)).in_table
+word-below s h xs d r way shown gref word ToWithdrawn st none rests = table-below s h xs d gref st (opens (known_at s h d) d (Withdraw gref) (subst (λ (z : Asked). begun (known_at s h d) d z ≡ None) rests.0 none)).in_table
 word-below s h xs d r way shown gref word ToReadOnly st none rests = table-below s h xs d gref st (opens (known_at s h d) d (Demote gref) (subst (λ (z : Asked). begun (known_at s h d) d z ≡ None) rests.0 none)).in_table
 word-below s h xs d r way shown gref word ToWritable st none rests = table-below s h xs d gref st (opens (known_at s h d) d (Promote gref) (subst (λ (z : Asked). begun (known_at s h d) d z ≡ None) rests.0 none)).in_table
 
 pub turn-below : (s : Setting) (h : History) (xs : List State) (d : DomId) (r : Asked) (gref : GrantRef) (change : Change) → DomainsStand s h xs → begun (known_at s h d) d r ≡ None
     → IsTurn r gref change → gref.0 < TABLE_ENTRIES
+turn-below s h xs d r gref ToWithdrawn st none is = table-below s h xs d gref st (opens (known_at s h d) d (Withdraw gref) (subst (λ (z : Asked). begun (known_at s h d) d z ≡ None) is none)).in_table
 turn-below s h xs d r gref ToReadOnly st none is = table-below s h xs d gref st (opens (known_at s h d) d (Demote gref) (subst (λ (z : Asked). begun (known_at s h d) d z ≡ None) is none)).in_table
 turn-below s h xs d r gref ToWritable st none is = table-below s h xs d gref st (opens (known_at s h d) d (Promote gref) (subst (λ (z : Asked). begun (known_at s h d) d z ≡ None) is none)).in_table
 turn-below s h xs d r gref change st none is = absurd is
-
--- a publication is never missed
-
--- a publication is of the word that its entry has
-pub publish-here : (s : Setting) (h : History) (d : DomId) (r : Asked) (shown : List Seen) (gref : GrantRef) (looked : ℕ) (change : Change) → IsLegalHistory s h → begun (known_at s h d) d r ≡ None
-    → RestsOnWord (known_at s h d) (path (known_at s h d) d r) d r shown gref looked change → IsPublished s h d (Exchange gref looked change)
-publish-here s h d r shown gref looked (Publish entry) legal none rests =
-    let is = (grant-invalid s h d gref entry (subst (λ (z : Asked). begun (known_at s h d) d z ≡ None) rests.0 none)) in
-    let a : reads_at h d.0 gref.0 ≡ 0 = free s h d.0 gref.0 Read legal is in let b : writes_at h d.0 gref.0 ≡ 0 = free s h d.0 gref.0 Write legal is in
-    idle-here s h d gref (omega arith) ∙ sym rests.1
-publish-here s h d r shown gref looked change legal none rests = tt
 
 -- what an exchange that is taken rests on
 
@@ -167,14 +158,16 @@ can-change s h xs d r shown so_far phase gref looked change i same = by change i
   fits-now = generation-fits s h xs d.0 gref.0 i.st below
 
   by : (z : Change) → RestsOnWord k (path k d r) d r shown gref looked z → action_at d phase ≡ Makes (Exchange gref looked z) → CanChange s h d gref z
-  by (Publish entry) rests acts = let none = none-of k d r (Grant gref entry) rests.0 i.rests.0 in record {
+  by (Publish entry) rests acts = let none = none-of k d r (Grant gref entry) rests.0 i.rests.0 in
+      let free : reads_at h d.0 gref.0 + writes_at h d.0 gref.0 ≡ 0 = idle-pins (entry_at h d.0 gref.0) (generation_at s h d.0 gref.0) (reads_at h d.0 gref.0) (writes_at h d.0 gref.0) (same ∙ rests.1) in record {
     within = below;
-    safe = (grant-invalid s h d gref entry none, publish-spelled s h d r (path k d r) shown so_far phase gref looked entry i.at.has_shown i.place acts);
+    safe = (grant-invalid s h d gref entry none, publish-spelled s h d r (path k d r) shown so_far phase gref looked entry i.at.has_shown i.place acts, omega arith, omega arith);
     fits = subst FitsAsked rests.0 i.fits;
     room = not-last (generation_at s h d.0 gref.0) fits-now (opens k d (Grant gref entry) none).not_worn;
   }
   by ToInvalid rests acts = let free : reads_at h d.0 gref.0 + writes_at h d.0 gref.0 ≡ 0 = idle-pins (entry_at h d.0 gref.0) (generation_at s h d.0 gref.0) (reads_at h d.0 gref.0) (writes_at h d.0 gref.0) (same ∙ rests.1) in let room = fits-now in
       record { within = below; safe = (omega arith, omega arith); fits = tt; room = (omega arith) }
+  by ToWithdrawn rests acts = let room = fits-now in record { within = below; safe = tt; fits = tt; room = (omega arith) }
   by ToReadOnly rests acts = record {
     within = below;
     safe = sym (writes-shown s h d.0 gref.0 (word-shows s h xs d.0 gref.0 i.st below)) ∙ ap (λ (n : ℕ). (control_of n).writes) same ∙ (let le = ltb-false 0 (control_of looked).writes rests.2 in omega arith);
@@ -186,21 +179,25 @@ can-change s h xs d r shown so_far phase gref looked change i same = by change i
 
 -- the rule at an exchange, and where it leads
 
-revoke-refusal : (k : CallerKnowledge) (d : DomId) (gref : GrantRef) (looked w pins : ℕ) (b : Bool) → (b ≡ true → pins ≡ 0) → (b ≡ false → pins ≡ 0 → ⊥)
-    → at_entry d gref w (stands (nat_lt 0 pins) N19) ≡ phase_refusal (phase_after k d (Exchanging gref looked ToInvalid) (cond b Taken (Missed w)))
-revoke-refusal k d gref looked w pins true free held = ap (λ (n : ℕ). at_entry d gref w (stands (nat_lt 0 n) N19)) (free refl)
-revoke-refusal k d gref looked w zero false free held = absurd (held refl refl)
-revoke-refusal k d gref looked w (suc pins) false free held = ap (λ (b : Bool). at_entry d gref w (stands b N19)) (lt-ltb 0 (suc pins) (omega arith))
+busy-refusal : (k : CallerKnowledge) (d : DomId) (gref : GrantRef) (looked w : ℕ) (change : Change) (pins : ℕ) (b : Bool) → (b ≡ true → pins ≡ 0) → (b ≡ false → pins ≡ 0 → ⊥)
+    → at_entry d gref w (stands (nat_lt 0 pins) N19) ≡ phase_refusal (phase_after k d (Exchanging gref looked change) (cond b Taken (Missed w)))
+busy-refusal k d gref looked w change pins true free held = ap (λ (n : ℕ). at_entry d gref w (stands (nat_lt 0 n) N19)) (free refl)
+busy-refusal k d gref looked w change zero false free held = absurd (held refl refl)
+busy-refusal k d gref looked w change (suc pins) false free held = ap (λ (b : Bool). at_entry d gref w (stands b N19)) (lt-ltb 0 (suc pins) (omega arith))
 
-pub once-judged : (s : Setting) (h : History) (d : DomId) (r : Asked) (way : Continuation) (shown : List Seen) (so_far : StepsSoFar) (gref : GrantRef) (looked : ℕ) (change : Change) → IsPublished s h d (Exchange gref looked change)
+-- an exchange from the owner's word without pins is refused exactly where its entry has pins
+idle-judged : (s : Setting) (h : History) (d : DomId) (gref : GrantRef) (looked : ℕ) (change : Change) → looked ≡ idle_word (known_at s h d) gref → let w = word_at s h d.0 gref.0 in
+    at_entry d gref w (stands (nat_lt 0 (reads_at h d.0 gref.0 + writes_at h d.0 gref.0)) N19) ≡ phase_refusal (phase_after (known_at s h d) d (Exchanging gref looked change) (cond (w == looked) Taken (Missed w)))
+idle-judged s h d gref looked change is = let w = word_at s h d.0 gref.0 in
+    busy-refusal (known_at s h d) d gref looked w change (reads_at h d.0 gref.0 + writes_at h d.0 gref.0) (w == looked)
+    (λ b. idle-pins (entry_at h d.0 gref.0) (generation_at s h d.0 gref.0) (reads_at h d.0 gref.0) (writes_at h d.0 gref.0) (eqb-true w looked b ∙ is))
+    (λ b none. false≢true (sym b ∙ eq-eqb w looked (idle-here s h d gref none ∙ sym is)))
+
+pub once-judged : (s : Setting) (h : History) (d : DomId) (r : Asked) (way : Continuation) (shown : List Seen) (so_far : StepsSoFar) (gref : GrantRef) (looked : ℕ) (change : Change)
     → RestsOnWord (known_at s h d) way d r shown gref looked change → PhaseStands s h d r so_far (Exchanging gref looked change) → Judged s h d r so_far (Exchanging gref looked change) (Exchange gref looked change)
-once-judged s h d r way shown so_far gref looked (Publish entry) published rests place = let w = word_at s h d.0 gref.0 in
-    ap (λ (b : Bool). phase_refusal (phase_after (known_at s h d) d (Exchanging gref looked (Publish entry)) (cond b Taken (Missed w)))) (sym (eq-eqb w looked published))
-once-judged s h d r way shown so_far gref looked ToInvalid published rests place = let w = word_at s h d.0 gref.0 in
-    revoke-refusal (known_at s h d) d gref looked w (reads_at h d.0 gref.0 + writes_at h d.0 gref.0) (w == looked)
-    (λ b. idle-pins (entry_at h d.0 gref.0) (generation_at s h d.0 gref.0) (reads_at h d.0 gref.0) (writes_at h d.0 gref.0) (eqb-true w looked b ∙ rests.1))
-    (λ b none. false≢true (sym b ∙ eq-eqb w looked (idle-here s h d gref none ∙ sym rests.1)))
-once-judged s h d r way shown so_far gref looked change published rests place = absurd place
+once-judged s h d r way shown so_far gref looked (Publish entry) rests place = idle-judged s h d gref looked (Publish entry) rests.1
+once-judged s h d r way shown so_far gref looked ToInvalid rests place = idle-judged s h d gref looked ToInvalid rests.1
+once-judged s h d r way shown so_far gref looked change rests place = absurd place
 
 change-leads : (s : Setting) (h : History) (d : DomId) (r : Asked) (gref : GrantRef) (change : Change) (more looked w : ℕ) (so_far : StepsSoFar) (b : Bool) → misses so_far + more ≡ MORE_TRIES
     → Leads s h d r ((Exchange gref looked change, cond b Taken (Missed w)) ∷ so_far) (at_entry d gref w (stands (nat_le MAX_TRIES (misses ((Exchange gref looked change, cond b Taken (Missed w)) ∷ so_far))) N18))
@@ -212,12 +209,12 @@ change-leads s h d r gref change more looked w so_far false turn = let now : Ste
     (λ t. let some : 0 < more = ltb-true 0 more t in (ap (λ (x : Bool). at_entry d gref w (stands x N18)) (late-more (misses so_far) more turn some), (omega arith, refl)))
     (λ f. (ap (λ (x : Bool). at_entry d gref w (stands x N18)) (late-last (misses so_far) more turn (ltb-false 0 more f)), inl refl))
 
--- an exchange that ends a turn is no publication
+-- an exchange that ends a turn
 pub turn-leads : (s : Setting) (h : History) (d : DomId) (r : Asked) (so_far : StepsSoFar) (gref : GrantRef) (change : Change) (more looked : ℕ) → IsTurn r gref change → misses so_far + more ≡ MORE_TRIES → let v = seen_by s h d (Exchange gref looked change) in
-    IsPublished s h d (Exchange gref looked change) × Leads s h d r ((Exchange gref looked change, v) ∷ so_far) (first_at s h d r so_far (Exchange gref looked change)) (phase_after (known_at s h d) d (Changing gref change more looked) v)
+    Leads s h d r ((Exchange gref looked change, v) ∷ so_far) (first_at s h d r so_far (Exchange gref looked change)) (phase_after (known_at s h d) d (Changing gref change more looked) v)
 turn-leads s h d r so_far gref (Publish entry) more looked is turn = absurd is
 turn-leads s h d r so_far gref ToInvalid more looked is turn = absurd is
-turn-leads s h d r so_far gref change more looked is turn = (tt, change-leads s h d r gref change more looked (word_at s h d.0 gref.0) so_far (word_at s h d.0 gref.0 == looked) turn)
+turn-leads s h d r so_far gref change more looked is turn = change-leads s h d r gref change more looked (word_at s h d.0 gref.0) so_far (word_at s h d.0 gref.0 == looked) turn
 
 -- it ends its call
 pub taken-ends : (k : CallerKnowledge) (way : Continuation) (d : DomId) (r : Asked) (shown : List Seen) (phase : Phase) (gref : GrantRef) (looked : ℕ) (change : Change) → HasShown k way d r shown phase → action_at d phase ≡ Makes (Exchange gref looked change)

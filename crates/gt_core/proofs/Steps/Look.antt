@@ -1,6 +1,6 @@
 -- A look at a header, a control word or a body word: the refusal that it leads to is the first rule that stands, and
 -- where the call stands next. What it sees is in See.
-use Rattle.gt_core.proofs.Words.{ℕ, Bool, List, None, Option, Some, [], ap, arith, cond, false, inl, refl, subst, sym, true, ◌+◌, ◌<◌, ◌∙◌, ◌∷◌, ◌≡◌, ◌≢◌, ◌≤◌, eqb-true, ltb-true, true≢false, nat_le, nat_lt, not, ◌&&◌, ◌==◌, denial_of, domain_of, DomId, GrantRef, Denial, HeaderFacts, Rule, N18, N19, N9, MAX_TRIES, TABLE_ENTRIES, IsEntry, entry-read, entry_of, first_body, control_of, header_of, header_word, Change, ToReadOnly, ToWritable, Half, FirstHalf, SecondHalf, Control, KindSub, Entry, Invalid, Sub, Header, after_look, after_miss, after_words, leg_after, leg_step, refused_as, opens, entry_refusal, rule_of_try, begun, control_with, first, first_look, is_kind, size_of, stands, IsTurn, Seen, Word, LookBody, LookControl, LookHeader, Asking, Changing, Looking, Question, AsksSize, AsksVersion, Leg, Going, LegRefused, LegPhase, Body, AtHeader, Look, Pinning, Relook, Second, MORE_TRIES, Asked, GetVersion, QuerySize, History, Setting, control_at, generation_at, known_at, reads_at, seen_by, word_at, writes_at, IsSpelled, LegNow, StepsSoFar, at_entry, first_at, is_demote, is_in_body, is_other, leg_at, rule_at_header, rule_at_look, rule_before_pin, Asks, HasLooked, HasRead, IsShown, LegStands, PhaseStands, WhileSame, phase_refusal, State, state_of, body_at, entry_at, table_at, looked_at, misses}
+use Rattle.gt_core.proofs.Words.{ℕ, Bool, List, None, Option, Some, [], ap, arith, cond, false, inl, refl, subst, sym, true, ◌+◌, ◌<◌, ◌∙◌, ◌∷◌, ◌≡◌, ◌≢◌, ◌≤◌, eqb-true, ltb-true, true≢false, nat_le, nat_lt, not, ◌&&◌, ◌==◌, denial_of, domain_of, DomId, GrantRef, Denial, HeaderFacts, Rule, N18, N19, N9, MAX_TRIES, TABLE_ENTRIES, IsEntry, entry-read, entry_of, first_body, control_of, header_of, header_word, Change, ToReadOnly, ToWritable, ToWithdrawn, Half, FirstHalf, SecondHalf, Control, KindSub, Entry, Invalid, Sub, Header, after_look, after_miss, after_words, leg_after, leg_step, refused_as, opens, entry_refusal, rule_of_try, begun, control_with, first, first_look, is_kind, size_of, stands, IsTurn, Seen, Word, LookBody, LookControl, LookHeader, Asking, Changing, Looking, Question, AsksSize, AsksVersion, Leg, Going, LegRefused, LegPhase, Body, AtHeader, Look, Pinning, Relook, Second, MORE_TRIES, Asked, GetVersion, QuerySize, History, Setting, control_at, generation_at, known_at, reads_at, seen_by, word_at, writes_at, IsSpelled, LegNow, StepsSoFar, at_entry, first_at, is_demote, is_in_body, is_other, leg_at, rule_at_header, rule_at_look, rule_before_pin, Asks, HasLooked, HasRead, IsShown, LegStands, PhaseStands, WhileSame, phase_refusal, State, state_of, body_at, entry_at, table_at, looked_at, misses}
 use Rattle.gt_core.proofs.{Phases.none-of, Phases.of-run, Phases.Judged, Legs.misses-look, Legs.misses-relook, Legs.few, Legs.first-alone, Legs.alone, Legs.control-parts, Legs.Words, Legs.as-tried, Legs.still-judged, Legs.IsLegOf, Legs.ComesTo, Legs.miss-comes, Steps.See.IsWithin}
 
 -- a phase of a leg that looks
@@ -156,6 +156,9 @@ look-judged s h d r so_far gref ToReadOnly more round is place = let w = word_at
 look-judged s h d r so_far gref ToWritable more round is place = let w = word_at s h d.0 gref.0 in
     subst (λ (z : Asked). Judged s h d z so_far (Looking gref ToWritable more) (LookControl d gref)) (sym is)
     (look-refusal d gref ToWritable more w false _ (ap (nat_le MAX_TRIES) (misses-look d gref w so_far place.1) ∙ few (misses so_far) more place.0))
+look-judged s h d r so_far gref ToWithdrawn more round is place = let w = word_at s h d.0 gref.0 in
+    subst (λ (z : Asked). Judged s h d z so_far (Looking gref ToWithdrawn more) (LookControl d gref)) (sym is)
+    (look-refusal d gref ToWithdrawn more w false _ (ap (nat_le MAX_TRIES) (misses-look d gref w so_far place.1) ∙ few (misses so_far) more place.0))
 look-judged s h d r so_far gref change more round is place = absurd is
 
 pub look-placed : (s : Setting) (h : History) (d : DomId) (r : Asked) (gref : GrantRef) (change : Change) (more w : ℕ) (so_far : StepsSoFar) (b : Bool) → (misses so_far + more ≡ MORE_TRIES) × (is_in_body so_far ≡ false)

@@ -33,6 +33,17 @@ returns-in-Revoke-clause-asked g c =
       ),
     )
 
+pub returns-in-Withdraw-clause-asked : goal.returns-in-Withdraw-clause-asked
+returns-in-Withdraw-clause-asked g c =
+    rw (← c.self.view_is, c.in-Withdraw.is) (
+      c.withdraw.ensures.seat.dom,
+      (
+        c.withdraw.result,
+        c.done-in-Withdraw.ensures,
+        (c.withdraw.ensures.answered, c.withdraw.ensures.kept, c.withdraw.ensures.silent),
+      ),
+    )
+
 pub returns-in-Demote-clause-asked : goal.returns-in-Demote-clause-asked
 returns-in-Demote-clause-asked g c =
     rw (← c.self.view_is, c.in-Demote.is) (

@@ -23,10 +23,10 @@ exchange_word-found-requires-clause-allowed c = let b = c.args.self.now.table.sh
 
 pub returns-then-found-word-clause-step : goal.returns-then-found-word-clause-step
 returns-then-found-word-clause-step c = let k = layout_of c.args.self.now.table.shared.key in let v = c.args.seat.now.me.0 in let w = c.exchange_word-found.new.seat.me.0 in let n : ℕ = c.exchange_word-found.result in let e = c.exchange_word-found.ensures.2 in
-    let z = exchange_taken k c.args.at c.args.gref v (purpose.Change change.Demote) c.args.word c.turned_over-new.result n w c.if-found-word.true e.1 e.2 in
+    let z = exchange_taken k c.args.at c.args.gref v (purpose.Change change.Demote) c.args.word c.turned_over-new.result n w c.if-found-word.true e.1.0 e.1.1 e.1.2 in
     demotes k c.args.at c.args.gref c.args.word v w c.requires.entry.0 c.requires.entry.1 c.requires.mine.1 c.turned_over-new.result c.turned_over-new.ensures c.requires.can.1 z
 
 pub returns-else-found-word-clause-step : goal.returns-else-found-word-clause-step
 returns-else-found-word-clause-step c = let k = layout_of c.args.self.now.table.shared.key in let v = c.args.seat.now.me.0 in let w = c.exchange_word-found.new.seat.me.0 in let n : ℕ = c.exchange_word-found.result in let e = c.exchange_word-found.ensures.2 in
-    let z = exchange_missed k c.args.at c.args.gref v (purpose.Change change.Demote) c.args.word c.turned_over-new.result n w c.if-found-word.false e.1 e.2 in
+    let z = exchange_missed k c.args.at c.args.gref v (purpose.Change change.Demote) c.args.word c.turned_over-new.result n w c.if-found-word.false e.1.0 e.1.1 e.1.2 in
     finds_another k c.args.at c.args.gref c.args.word v w c.requires.entry.0 c.requires.entry.1 c.requires.mine.1 change.Demote c.turned_over-new.result n c.turned_over-new.ensures c.if-found-word.false z

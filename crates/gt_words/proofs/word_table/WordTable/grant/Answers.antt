@@ -8,12 +8,11 @@ use Rattle.gt_entry.specs.declared.control.Control.{Control}
 use Rattle.gt_entry.specs.declared.entry.Entry.{Entry}
 use Rattle.gt_entry.specs.declared.entry.Entry.TheVariants.{Invalid}
 use Rattle.gt_words.proofs.Owed.{grant_owes}
-use Rattle.gt_words.proofs.Told.{exchange_missed, exchange_taken, finds_pins, still_idle, takes_change}
+use Rattle.gt_words.proofs.Told.{exchange_missed, exchange_taken, finds_pins, publishes}
 use Rattle.gt_words.specs.Conditions.{IsIdleOf}
 use Rattle.gt_words.specs.Rule.{layout_of}
 use Rattle.gt_words.specs.Steps.{changed_word}
 use Rattle.gt_words.specs.Views.{last_of, own_body, steps_on, stored_body}
-use Rattle.gt_words.specs.declared.view.EntryStep.TheVariants.{ChangeMissed}
 use Rattle.gt_words.specs.declared.view.EntryRecord.{EntryRecord}
 use Rattle.gt_entry.specs.declared.change.Change.TheVariants as change
 use Rattle.gt_words.specs.declared.view.Purpose.TheVariants as purpose
@@ -37,15 +36,10 @@ exchange_word-found-requires-clause-allowed c = let b = c.args.self.now.table.sh
 
 pub returns-then-found-word-clause-step : goal.returns-then-found-word-clause-step
 returns-then-found-word-clause-step c = let k = layout_of c.args.self.now.table.shared.key in let v = c.args.seat.now.me.0 in let w = c.exchange_word-found.new.seat.me.0 in let n : ℕ = c.exchange_word-found.result in let e = c.exchange_word-found.ensures.2 in
-    let z = exchange_taken k c.args.at c.args.gref v (purpose.Change (change.Publish c.args.entry)) c.args.word c.idle_word-new.result n w c.if-found-word.true e.1 e.2 in
-    takes_change k c.args.at c.args.gref c.args.word v w c.requires.entry.0 c.requires.entry.1 c.requires.mine.1 (change.Publish c.args.entry) c.idle_word-new.result (stored _ (last_of c.args.gref v) c.args.word c.args.entry c.unpack.ensures.holds c.requires.can.idle c.requires.can.none_yet _ c.idle_word-new.ensures) z
+    let z = exchange_taken k c.args.at c.args.gref v (purpose.Change (change.Publish c.args.entry)) c.args.word c.idle_word-new.result n w c.if-found-word.true e.1.0 e.1.1 e.1.2 in
+    publishes k c.args.at c.args.gref c.args.word v w c.requires.entry.0 c.requires.entry.1 c.requires.mine.1 c.args.entry c.idle_word-new.result (stored _ (last_of c.args.gref v) c.args.word c.args.entry c.unpack.ensures.holds c.requires.can.idle c.requires.can.none_yet _ c.idle_word-new.ensures) c.requires.can.idle z
 
 pub returns-else-found-word-clause-step : goal.returns-else-found-word-clause-step
 returns-else-found-word-clause-step c = let k = layout_of c.args.self.now.table.shared.key in let v = c.args.seat.now.me.0 in let w = c.exchange_word-found.new.seat.me.0 in let n : ℕ = c.exchange_word-found.result in let e = c.exchange_word-found.ensures.2 in
-    let z = exchange_missed k c.args.at c.args.gref v (purpose.Change (change.Publish c.args.entry)) c.args.word c.idle_word-new.result n w c.if-found-word.false e.1 e.2 in
+    let z = exchange_missed k c.args.at c.args.gref v (purpose.Change (change.Publish c.args.entry)) c.args.word c.idle_word-new.result n w c.if-found-word.false e.1.0 e.1.1 e.1.2 in
     finds_pins k c.args.at c.args.gref c.args.word v w c.requires.entry.0 c.requires.entry.1 c.requires.mine.1 (change.Publish c.args.entry) c.idle_word-new.result n (stored _ (last_of c.args.gref v) c.args.word c.args.entry c.unpack.ensures.holds c.requires.can.idle c.requires.can.none_yet _ c.idle_word-new.ensures) c.requires.can.idle c.if-found-word.false z
-
-pub returns-else-found-word-clause-taken : goal.returns-else-found-word-clause-taken
-returns-else-found-word-clause-taken c = let k = layout_of c.args.self.now.table.shared.key in let v = c.args.seat.now.me.0 in let w = c.exchange_word-found.new.seat.me.0 in let n : ℕ = c.exchange_word-found.result in let e = c.exchange_word-found.ensures.2 in
-    let z = exchange_missed k c.args.at c.args.gref v (purpose.Change (change.Publish c.args.entry)) c.args.word c.idle_word-new.result n w c.if-found-word.false e.1 e.2 in
-    absurd (c.if-found-word.false (still_idle k c.args.at c.args.gref (ChangeMissed (change.Publish c.args.entry) c.args.word c.idle_word-new.result n) n n v w c.requires.entry.0 c.requires.entry.1 z c.requires.mine.1 c.args.word c.requires.can.idle c.requires.can.none_yet))

@@ -20,10 +20,10 @@ exchange_word-found-requires-clause-allowed c = let b = c.args.self.now.table.sh
 
 pub returns-then-found-word-clause-step : goal.returns-then-found-word-clause-step
 returns-then-found-word-clause-step c = let k = layout_of c.args.self.now.table.shared.key in let v = c.args.seat.now.me.0 in let w = c.exchange_word-found.new.seat.me.0 in let n : ℕ = c.exchange_word-found.result in let e = c.exchange_word-found.ensures.2 in
-    let z = exchange_taken k c.args.at c.args.gref v (purpose.Change change.Revoke) c.args.word _ n w c.if-found-word.true e.1 e.2 in
+    let z = exchange_taken k c.args.at c.args.gref v (purpose.Change change.Revoke) c.args.word _ n w c.if-found-word.true e.1.0 e.1.1 e.1.2 in
     revokes k c.args.at c.args.gref c.args.word v w c.requires.entry.0 c.requires.entry.1 c.requires.mine.1 _ (new_word _ c.args.word _ c.unpack.ensures.holds c.idle_word-new.ensures) c.requires.can.idle z
 
 pub returns-else-found-word-clause-step : goal.returns-else-found-word-clause-step
 returns-else-found-word-clause-step c = let k = layout_of c.args.self.now.table.shared.key in let v = c.args.seat.now.me.0 in let w = c.exchange_word-found.new.seat.me.0 in let n : ℕ = c.exchange_word-found.result in let e = c.exchange_word-found.ensures.2 in
-    let z = exchange_missed k c.args.at c.args.gref v (purpose.Change change.Revoke) c.args.word _ n w c.if-found-word.false e.1 e.2 in
+    let z = exchange_missed k c.args.at c.args.gref v (purpose.Change change.Revoke) c.args.word _ n w c.if-found-word.false e.1.0 e.1.1 e.1.2 in
     finds_pins k c.args.at c.args.gref c.args.word v w c.requires.entry.0 c.requires.entry.1 c.requires.mine.1 change.Revoke _ n (new_word _ c.args.word _ c.unpack.ensures.holds c.idle_word-new.ensures) c.requires.can.idle c.if-found-word.false z

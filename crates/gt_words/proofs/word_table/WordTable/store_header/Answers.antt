@@ -11,4 +11,4 @@ store_header_word-requires-clause-allowed c = let b = c.args.self.now.table.shar
 
 pub returns-clause-step : goal.returns-clause-step
 returns-clause-step c = let e = c.store_header_word.ensures.2 in let v = c.args.seat.now.me.0 in let w = c.store_header_word.new.seat.me.0 in
-    stores_header (layout_of c.args.self.now.table.shared.key) c.args.at c.pack.result c.args.header e.0 v w c.requires.mine.1 c.pack.ensures.word (record { adds = adds_to_header c.args.at (header.Stored c.pack.result) v w e.1.1; step = e.1.2 })
+    stores_header (layout_of c.args.self.now.table.shared.key) c.args.at c.pack.result c.args.header e.0 v w c.requires.mine.1 c.pack.ensures.word (record { past = e.1.1.0; adds = adds_to_header e.1.1.0 c.args.at (header.Stored c.pack.result) v w e.1.1.1; step = e.1.1.2 })

@@ -9,4 +9,4 @@ subtract_from_word-requires-clause-allowed c = let b = c.args.self.now.table.sha
 
 pub returns-clause-step : goal.returns-clause-step
 returns-clause-step c = let k = layout_of c.args.self.now.table.shared.key in let n : ℕ = c.subtract_from_word.result in let e = c.subtract_from_word.ensures.2 in
-    unpins k c.args.at c.args.gref c.args.dir c.args.generation c.args.seat.now.me.0 n c.subtract_from_word.new.seat.me.0 c.requires.entry.0 c.requires.entry.1 c.requires.held (omega arith) e.1 e.2
+    unpins k c.args.at c.args.gref c.args.dir c.args.generation c.args.seat.now.me.0 n c.subtract_from_word.new.seat.me.0 c.requires.entry.0 c.requires.entry.1 c.requires.held (omega arith) e.1.0 e.1.1 e.1.2

@@ -1,0 +1,147 @@
+-- The one order of all steps of all seats, and the words that it makes. Lists begin with what came last.
+use Rattle.std.specs.Prelude.{◌≡◌, ◌≢◌, ℕ, ◌+◌, ◌-◌, ◌*◌, ◌/◌, ◌%◌, ◌^◌, ◌<◌, ◌≤◌, cond, ◌==◌, List, [], ◌∷◌, length}
+use Rattle.std.specs.Prelude.{slice_index}
+use mathlib.Core.Option.{some}
+use lib.ListN.{get_elem?}
+use Rattle.atomic_table.specs.Table.{State}
+use Rattle.gt_entry.specs.Words.{unit_of}
+use Rattle.gt_entry.specs.declared.change.Half.{Half}
+use Rattle.gt_entry.specs.declared.change.Half.TheVariants.{First, Second}
+use Rattle.gt_types.specs.declared.DomId.{DomId}
+use Rattle.gt_words.specs.declared.view.EntryStep.{EntryStep}
+use Rattle.gt_words.specs.declared.view.EntryStep.TheVariants.{Looked, ReadBody, Pinned, PinMissed, Unpinned}
+use Rattle.gt_words.specs.declared.view.EntryStep.TheVariants.{StoredBody, Changed, ChangeMissed}
+use Rattle.gt_words.specs.declared.view.HeaderStep.{HeaderStep}
+use Rattle.gt_words.specs.declared.view.HeaderStep.TheVariants as header
+use Rattle.gt_words.specs.declared.view.SeatStep.{SeatStep}
+use Rattle.gt_words.specs.declared.view.SeatStep.TheVariants.{Entry, Header}
+use Rattle.gt_words.specs.declared.view.View.{View}
+use Rattle.gt_words.specs.declared.word_table.TheConstants.{DOMAIN_WORDS, ENTRY_WORDS}
+
+-- the run as the words need it: the domains in order, their number, the first
+-- generation of all entries, and the first header of each domain (own)
+pub record Layout : Type 0 where
+  pub ids : List DomId
+  pub domains : ℕ
+  pub first : ℕ
+  pub headers : List ℕ
+
+-- the place of the word j of the entry r of the domain t: after the header
+-- of its domain, each entry at a stride of its own (own)
+abbrev pub place : ℕ → ℕ → ℕ → ℕ
+place t r j = t * DOMAIN_WORDS + (ENTRY_WORDS * r + (ENTRY_WORDS + j))
+
+-- the place of the header word of a domain: first of its words (own)
+abbrev pub header_place : ℕ → ℕ
+header_place t = t * DOMAIN_WORDS
+
+-- the words at the start: the first header of each domain, the invalid word
+-- of the first generation for each entry, and zeros (own)
+abbrev pub initial : Layout → ℕ → ℕ
+initial k i =
+    cond (i % DOMAIN_WORDS == 0) (slice_index k.headers (i / DOMAIN_WORDS))
+    (cond (i % DOMAIN_WORDS % ENTRY_WORDS == 0) (17592186044416 * k.first) 0)
+
+-- the index of a body word among the words of an entry (own)
+abbrev pub half_index : Half → ℕ
+half_index First = 1
+half_index Second = 2
+
+-- the steps of all seats in their one order, each with the position of its seat (own)
+abbrev pub History : Type 0
+History = List (ℕ × SeatStep)
+
+-- a step, after the steps of all seats before it: its moment (own)
+abbrev pub Moment : Type 0
+Moment = History × SeatStep
+
+-- out of a history, the steps of the seat at a position (own)
+abbrev pub part_of : ℕ → History → List SeatStep
+part_of i [] = []
+part_of i (p ∷ h) = cond (p.0 == i) (p.1 ∷ part_of i h) (part_of i h)
+
+-- a history up to the last step of the seat at a position (own)
+abbrev pub up_to : ℕ → History → History
+up_to i [] = []
+up_to i (p ∷ h) = cond (p.0 == i) (p ∷ h) (up_to i h)
+
+-- the word of its entry that a step is on: the control word, or a body word (own)
+abbrev pub word_on : EntryStep → ℕ
+word_on (ReadBody h n) = half_index h
+word_on (StoredBody h n) = half_index h
+word_on _ = 0
+
+-- the place of the word that a step is on (own)
+abbrev pub place_of : SeatStep → ℕ
+place_of (Entry t r m) = place t r (word_on m)
+place_of (Header t m) = header_place t
+
+-- what a step on an entry leaves of the number that it finds: a pin adds one, an unpin takes one away, a store
+-- and a taken exchange set it, and all else leaves it (C11 atomics)
+abbrev pub left_on_entry : EntryStep → ℕ → ℕ
+left_on_entry (Looked w) n = n
+left_on_entry (ReadBody h w) n = n
+left_on_entry (PinMissed d e f w) n = n
+left_on_entry (ChangeMissed c e f w) n = n
+left_on_entry (Pinned d e y) n = n + unit_of d
+left_on_entry (Unpinned d g) n = (n + (2 ^ 64 - unit_of d)) % 2 ^ 64
+left_on_entry (StoredBody h w) n = w
+left_on_entry (Changed c e w y) n = w
+
+-- what a step leaves of the number that it finds (own)
+abbrev pub left_by : SeatStep → ℕ → ℕ
+left_by (Entry t r m) n = left_on_entry m n
+left_by (Header t (header.Looked w)) n = n
+left_by (Header t (header.Stored w)) n = w
+
+-- the word at a place that a history makes (own)
+abbrev pub word_after : Layout → History → ℕ → ℕ
+word_after k [] i = initial k i
+word_after k (p ∷ h) i = cond (place_of p.1 == i) (left_by p.1 (word_after k h i)) (word_after k h i)
+
+-- the step on an entry says that it found this number: a taken exchange the one expected, a missed one another (own)
+abbrev pub SaysFound : EntryStep → ℕ → Type 0
+SaysFound (Looked w) n = w ≡ n
+SaysFound (ReadBody h w) n = w ≡ n
+SaysFound (Pinned d e y) n = e ≡ n
+SaysFound (PinMissed d e f w) n = (w ≡ n) × (w ≢ e)
+SaysFound (Changed c e f y) n = e ≡ n
+SaysFound (ChangeMissed c e f w) n = (w ≡ n) × (w ≢ e)
+SaysFound (Unpinned d g) n = Unit {0}
+SaysFound (StoredBody h w) n = Unit {0}
+
+-- the step says that it found this number (own)
+abbrev pub Says : SeatStep → ℕ → Type 0
+Says (Entry t r m) n = SaysFound m n
+Says (Header t (header.Looked w)) n = w ≡ n
+Says (Header t (header.Stored w)) n = Unit {0}
+
+-- a step of the domain i on an entry of the domain t stores or changes only if i is t (own)
+abbrev pub IsByOwner : ℕ → ℕ → EntryStep → Type 0
+IsByOwner i t (StoredBody h n) = i ≡ t
+IsByOwner i t (Changed c e n y) = i ≡ t
+IsByOwner i t _ = Unit {0}
+
+-- a step of the domain i on the header of the domain t stores only if i is t (own)
+abbrev pub HeaderByOwner : ℕ → ℕ → HeaderStep → Type 0
+HeaderByOwner i t (header.Stored n) = i ≡ t
+HeaderByOwner i t (header.Looked n) = Unit {0}
+
+-- a step of the domain i stores or changes only what is its own (own)
+abbrev pub IsOwners : ℕ → SeatStep → Type 0
+IsOwners i (Entry t r m) = IsByOwner i t m
+IsOwners i (Header t m) = HeaderByOwner i t m
+
+-- each step of the history found the word that the steps before it make, and
+-- stored or changed only what is its seat's own (own)
+abbrev pub IsTrue : Layout → History → Type 0
+IsTrue k [] = Unit {0}
+IsTrue k (p ∷ h) = Says p.1 (word_after k h (place_of p.1)) × IsOwners p.0 p.1 × IsTrue k h
+
+-- the history h has led to words and views: each seat has its part of it and knows it up to its
+-- own last step, no other has one, and the words are those that it makes (own)
+pub record HasLedTo {S : Type 0} (k : Layout) (h : History) (s : State S View) : Type 0 where
+  pub parts : (j : ℕ) (v : View) → get_elem? s.views j ≡ some v → (v.steps ≡ part_of j h) × (v.past ≡ up_to j h)
+  pub no_other : (j : ℕ) → length s.views ≤ j → part_of j h ≡ []
+  pub words : (i : ℕ) → i < k.domains * DOMAIN_WORDS → slice_index s.words i ≡ word_after k h i
+  pub true_steps : IsTrue k h
