@@ -16,10 +16,10 @@ use crate::limits::{
 
 /// The limits of a run, by number.
 pub fn the_limits()
-    ensures domains { (DOMID_SELF ≡ 32752) × (MAX_DOMAINS ≡ 16) }
+    ensures domains { (DOMID_SELF ≡ 32752) × (MAX_DOMAINS ≡ 64) }
     ensures frames { (MAX_FRAMES ≡ 64) × (FRAME_SIZE ≡ 4096) }
-    ensures tables { (MAX_TABLE_FRAMES ≡ 4) × (LAST_VERSION ≡ 2) }
-    ensures entries { (ENTRIES_V1 ≡ 512) × (ENTRIES_V2 ≡ 256) × (TABLE_ENTRIES ≡ 2048) }
+    ensures tables { (MAX_TABLE_FRAMES ≡ 16) × (LAST_VERSION ≡ 2) }
+    ensures entries { (ENTRIES_V1 ≡ 512) × (ENTRIES_V2 ≡ 256) × (TABLE_ENTRIES ≡ 8192) }
     ensures pins { (MAX_PINS ≡ 4095) × (MAX_MAPPINGS ≡ 8192) }
     ensures generations { (LAST_GENERATION ≡ 1048575) × (MAX_TRIES ≡ 4) }
     ensures texts { LONGEST_TEXT ≡ 1048576 }

@@ -5,7 +5,7 @@
 pub const DOMID_SELF: u16 = 0x7FF0;
 
 /// The most domains of a run.
-pub const MAX_DOMAINS: usize = 16;
+pub const MAX_DOMAINS: usize = 64;
 
 /// The most frames of a domain.
 pub const MAX_FRAMES: u32 = 64;
@@ -14,7 +14,7 @@ pub const MAX_FRAMES: u32 = 64;
 pub const FRAME_SIZE: u16 = 4_096;
 
 /// The most frames of a grant table.
-pub const MAX_TABLE_FRAMES: u32 = 4;
+pub const MAX_TABLE_FRAMES: u32 = 16;
 
 /// The entries of a table frame in version 1, of 8 bytes each.
 pub const ENTRIES_V1: u32 = 512;
@@ -24,7 +24,7 @@ pub const ENTRIES_V2: u32 = 256;
 
 /// The most entries of a grant table: those of [`MAX_TABLE_FRAMES`] frames in version 1.
 /// A domain has words for so many entries, whatever the present size of its table.
-pub const TABLE_ENTRIES: u32 = 2_048;
+pub const TABLE_ENTRIES: u32 = 8_192;
 
 /// The last version of grant tables that a domain may have; the first is 1.
 pub const LAST_VERSION: u32 = 2;
