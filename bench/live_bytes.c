@@ -14,7 +14,7 @@
 #include <stdlib.h>
 #include <string.h>
 
-enum { DOMAINS = 6, ENTRIES = 2048, FRAMES = 8, FRAME_SIZE = 4096, HANDLES = 8192, MOST_PINS = 4095, MOST_THREADS = 4 };
+enum { DOMAINS = 6, ENTRIES = 8192, FRAMES = 8, FRAME_SIZE = 4096, HANDLES = 8192, MOST_PINS = 4095, MOST_THREADS = 4 };
 
 // Numbers of domains, and the domain that stands for the caller.
 enum { OWNER = 1, FIRST_MAPPER = 3, SELF = 32752 };

@@ -105,7 +105,7 @@ static bool make_entries(void) {
     domains = aligned_alloc(64, DOMAINS * sizeof *domains);
     if (domains == NULL) return false;
     memset(domains, 0, DOMAINS * sizeof *domains);
-    for (uint32_t position = 0; position < DOMAINS; position++) atomic_store(&domains[position].header, 1 + 4 * 4);
+    for (uint32_t position = 0; position < DOMAINS; position++) atomic_store(&domains[position].header, 1 + 4 * TABLE_FRAMES);
     allowed[0][0] = 255;
     return true;
 }

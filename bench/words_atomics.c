@@ -27,7 +27,7 @@ static _Atomic uint64_t *entry_of(uint32_t position, uint32_t reference) {
 static bool make_entries(void) {
     words = calloc(DOMAINS * WORDS_A_DOMAIN, sizeof *words);
     if (words == NULL) return false;
-    for (uint32_t position = 0; position < DOMAINS; position++) atomic_store(header_of(position), 1 + 4 * 4);
+    for (uint32_t position = 0; position < DOMAINS; position++) atomic_store(header_of(position), 1 + 4 * TABLE_FRAMES);
     return true;
 }
 

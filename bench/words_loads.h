@@ -12,7 +12,7 @@
 #include <stdlib.h>
 #include <string.h>
 
-enum { DOMAINS = 6, ENTRIES = 2048, MOST_PINS = 4095, LAST_GENERATION = 1048575, MOST_THREADS = 4 };
+enum { DOMAINS = 6, TABLE_FRAMES = 16, ENTRIES = 512 * TABLE_FRAMES, MOST_PINS = 4095, LAST_GENERATION = 1048575, MOST_THREADS = 4 };
 
 // Numbers of domains. The first one that maps a load's own entry has the number FIRST_MAPPER.
 enum { OWNER = 1, MIDDLE = 2, FIRST_MAPPER = 3 };
@@ -64,7 +64,7 @@ static inline uint32_t position_of(struct seat *seat, uint32_t domain) {
     return seat->found_position;
 }
 
-// Makes all entries invalid, at generation 0, in tables of four frames in version 1.
+// Makes all entries invalid, at generation 0, in tables of TABLE_FRAMES frames in version 1.
 static bool make_entries(void);
 
 // Publishes a page in place of the owner's invalid entry.

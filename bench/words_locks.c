@@ -42,7 +42,7 @@ static void unlock(struct entry *entry) {
 static bool make_entries(void) {
     domains = calloc(DOMAINS, sizeof *domains);
     if (domains == NULL) return false;
-    for (uint32_t position = 0; position < DOMAINS; position++) atomic_store(&domains[position].header, 1 + 4 * 4);
+    for (uint32_t position = 0; position < DOMAINS; position++) atomic_store(&domains[position].header, 1 + 4 * TABLE_FRAMES);
     return true;
 }
 

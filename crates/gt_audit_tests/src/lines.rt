@@ -166,8 +166,8 @@ const CALLS: [(u16, Hypercall, Said, &str); 17] = [
     (
         2,
         Hypercall::QuerySize { dom: DomId(1) },
-        Said::With(Reply::Size(Size { frames: 2, max: 4 })),
-        "audit 2 size 1 : ok frames=2 max=4\n",
+        Said::With(Reply::Size(Size { frames: 2, max: 16 })),
+        "audit 2 size 1 : ok frames=2 max=16\n",
     ),
     (
         2,

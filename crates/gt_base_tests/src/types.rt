@@ -32,7 +32,7 @@ const CONFIGS: [(&[DomainConfig], u32, Result<(), ConfigFault>); 11] = [
             DomainConfig {
                 id: DomId(0x7FEF),
                 frames: 64,
-                table_frames: 4,
+                table_frames: 16,
                 ..ONE
             },
         ],
@@ -64,7 +64,7 @@ const CONFIGS: [(&[DomainConfig], u32, Result<(), ConfigFault>); 11] = [
             ONE,
             DomainConfig {
                 frames: 65,
-                table_frames: 5,
+                table_frames: 17,
                 ..TWO
             },
             ONE,
@@ -88,7 +88,7 @@ const CONFIGS: [(&[DomainConfig], u32, Result<(), ConfigFault>); 11] = [
         &[
             ONE,
             DomainConfig {
-                table_frames: 5,
+                table_frames: 17,
                 version: 3,
                 ..TWO
             },
@@ -122,14 +122,14 @@ fn names_the_fault_of_a_configuration(rt: HostRuntime) -> Result<(), Fail> {
 }
 
 #[test]
-fn takes_sixteen_domains(rt: HostRuntime) -> Result<(), Fail> {
+fn takes_as_many_domains_as_the_limit(rt: HostRuntime) -> Result<(), Fail> {
     for (count, first_gen, told) in [
-        (16, 0, Ok(())),
-        (17, 1_048_576, Err(ConfigFault::TooMany(DomId(1)))),
+        (64, 0, Ok(())),
+        (65, 1_048_576, Err(ConfigFault::TooMany(DomId(1)))),
     ] {
         let mut domains = Vec::new(rt.alloc());
         for at in 0..count {
-            let id = DomId(at % 16 + 1);
+            let id = DomId(at % 64 + 1);
             domains.push(DomainConfig { id, ..ONE })?;
         }
         let config = Config { domains, first_gen };

@@ -67,11 +67,11 @@ pub const SIZES: [(Doing, &str); 7] = [
     (Do(OWNER, Request::SetupTable { frames: 2 }), "ok frames=2"),
     (
         Do(PEER, Request::QuerySize { dom: OWNER }),
-        "ok frames=2 max=4",
+        "ok frames=2 max=16",
     ),
     (Do(PEER, MAP_256), "N10 0"),
     (Do(OWNER, Request::SetupTable { frames: 0 }), "ok frames=2"),
-    (Do(OWNER, Request::SetupTable { frames: 5 }), "N23"),
+    (Do(OWNER, Request::SetupTable { frames: 17 }), "N23"),
     (Do(PEER, Request::QuerySize { dom: DomId(9) }), "N1"),
 ];
 
@@ -106,7 +106,7 @@ pub const SUB_PAGE_BEHIND_AN_OLDER_HEADER: [(Doing, &str); 5] = [
 pub const STEPS_ON_HEADERS: [(Doing, &str); 10] = [
     (
         Steps(PEER, Request::QuerySize { dom: OWNER }),
-        "LookHeader { dom: DomId(1) } 5\nok frames=1 max=4",
+        "LookHeader { dom: DomId(1) } 5\nok frames=1 max=16",
     ),
     (
         Steps(OWNER, Request::SetVersion { version: 2 }),
@@ -122,7 +122,7 @@ pub const STEPS_ON_HEADERS: [(Doing, &str); 10] = [
     ),
     (
         Steps(PEER, Request::QuerySize { dom: OWNER }),
-        "LookHeader { dom: DomId(1) } e\nok frames=3 max=4",
+        "LookHeader { dom: DomId(1) } e\nok frames=3 max=16",
     ),
     (
         Steps(OWNER, Request::SetVersion { version: 1 }),

@@ -3,6 +3,7 @@ use Rattle.std.proofs.Common.{◌≡◌, ◌≢◌, ◌⊎◌, ℕ, ◌+◌, ◌
 use Rattle.std.specs.Prelude.{unwrap_or, ◌^◌}
 use Rattle.std.specs.List.{position_or_len}
 use Rattle.std.proofs.lemmas.Bool.{eq-eqb, lt-ltb, ltb-false, not-false}
+use Rattle.gt_types.specs.declared.limits.TheConstants.{TABLE_ENTRIES}
 use Rattle.gt_types.specs.declared.DomId.{DomId}
 use Rattle.gt_types.specs.declared.GrantRef.{GrantRef}
 use Rattle.gt_types.specs.declared.Dir.{Dir}
@@ -111,7 +112,7 @@ pub record Tried (c : CallerKnowledge) (k : Layout) (caller : DomId) (request : 
   pub owner : p.dom ≡ resolved caller dom
   pub dir : p.dir ≡ map_dir flags
   pub run : HasDomain k p.dom
-  pub inside : p.gref.0 < 2048
+  pub inside : p.gref.0 < TABLE_ENTRIES
   pub saw : seen (steps_on (position_in k.ids p.dom) p.gref.0 w) ≡ Some (last_seen (position_in k.ids p.dom) p.gref.0 w)
   pub word : (last_seen (position_in k.ids p.dom) p.gref.0 w).word ≡ p.word
   pub body : HasBody (last_seen (position_in k.ids p.dom) p.gref.0 w)
@@ -125,10 +126,10 @@ module _ (c : CallerKnowledge) (k : Layout) (caller : DomId) (v : View) (knows :
   pub named-run : (d : DomId) → IsNamed c d → HasDomain k d
   named-run d is = let there = is-there (domain_of c.domains d) is in knows.run d there.0 there.1
 
-  pub in-own : (q : ℕ) → q < size_of c.header → q < 2048
+  pub in-own : (q : ℕ) → q < size_of c.header → q < TABLE_ENTRIES
   in-own q lt = let fe = few-entries (c.header.version == 2) c.header.frames knows.header.few in omega (arith, fe, lt)
 
-  row : (w : View) → IsSame v w → (q : ℕ) → q < 2048 → last_of q w ≡ record { generation = c.generation q; entry = c.entry q }
+  row : (w : View) → IsSame v w → (q : ℕ) → q < TABLE_ENTRIES → last_of q w ≡ record { generation = c.generation q; entry = c.entry q }
   row w same q lt = same.records q ∙ knows.rows q lt
 
   tried : (request : Asked) (held : HeldPins) (steps : List Moment) (way : Continuation) (p : Held) → WaitsForNobody request → IsWalk k way v steps → RestsOnTry c caller request held way (shown steps) p → Tried c k caller request p (after steps v)
@@ -181,15 +182,15 @@ module _ (c : CallerKnowledge) (k : Layout) (caller : DomId) (v : View) (knows :
   grant-opens : (request : Asked) (q : GrantRef) (e : Entry) → begun c caller request ≡ None → request ≡ asks.Grant q e → OpensGrant c q e
   grant-opens request q e none is = opens c caller (asks.Grant q e) (subst (λ (x : Asked). begun c caller x ≡ None) is none)
 
-  can-store : (request : Asked) (q : GrantRef) (half : Half) (word : ℕ) (w : View) → IsSame v w → begun c caller request ≡ None → RestsOnGrant request q half word → (q.0 < 2048) × ((last_of q.0 w).entry ≡ Invalid)
+  can-store : (request : Asked) (q : GrantRef) (half : Half) (word : ℕ) (w : View) → IsSame v w → begun c caller request ≡ None → RestsOnGrant request q half word → (q.0 < TABLE_ENTRIES) × ((last_of q.0 w).entry ≡ Invalid)
   can-store request q half word w same none r = by half r
     where
-      here : (e : Entry) → request ≡ asks.Grant q e → (q.0 < 2048) × ((last_of q.0 w).entry ≡ Invalid)
+      here : (e : Entry) → request ≡ asks.Grant q e → (q.0 < TABLE_ENTRIES) × ((last_of q.0 w).entry ≡ Invalid)
       here e is =
           let o = grant-opens request q e none is in let lt = in-own q.0 o.in_table in
           (lt, ap (λ (x : EntryRecord). x.entry) (row w same q.0 lt) ∙ which-invalid (c.entry q.0) o.free)
 
-      by : (h : Half) → RestsOnGrant request q h word → (q.0 < 2048) × ((last_of q.0 w).entry ≡ Invalid)
+      by : (h : Half) → RestsOnGrant request q h word → (q.0 < TABLE_ENTRIES) × ((last_of q.0 w).entry ≡ Invalid)
       by FirstHalf x = here x.0 x.1
       by SecondHalf x = here x.0 x.1
 
@@ -206,7 +207,7 @@ module _ (c : CallerKnowledge) (k : Layout) (caller : DomId) (v : View) (knows :
       (first ∙ one.made.stored, two.made.stored)
 
   -- an owner's exchange that is tried once
-  once : (w : View) → IsSame v w → (q : GrantRef) → q.0 < 2048 → IsIdleOf (last_of q.0 w) (idle_word c q)
+  once : (w : View) → IsSame v w → (q : GrantRef) → q.0 < TABLE_ENTRIES → IsIdleOf (last_of q.0 w) (idle_word c q)
   once w same q lt = idle-is (c.entry q.0) (c.generation q.0) ∙ ap (λ (y : EntryRecord). idle_word_of y.entry y.generation) (sym (row w same q.0 lt))
 
   can-publish : (request : Asked) (steps : List Moment) (way : Continuation) (q : GrantRef) (looked : ℕ) (e : Entry) → IsWalk k way v steps → IsSame v (after steps v) → begun c caller request ≡ None
@@ -226,7 +227,7 @@ module _ (c : CallerKnowledge) (k : Layout) (caller : DomId) (v : View) (knows :
       )
 
   -- an entry of the caller's own that is valid
-  own-valid : (w : View) (q : GrantRef) → IsSame v w → q.0 < 2048 → is_invalid (c.entry q.0) ≡ false → (last_of q.0 w).entry ≢ Invalid
+  own-valid : (w : View) (q : GrantRef) → IsSame v w → q.0 < TABLE_ENTRIES → is_invalid (c.entry q.0) ≡ false → (last_of q.0 w).entry ≢ Invalid
   own-valid w q same lt valid gone = valid-entry (c.entry q.0) valid (ap (λ (x : EntryRecord). x.entry) (sym (row w same q.0 lt)) ∙ gone)
 
   can-revoke : (request : Asked) (w : View) (q : GrantRef) (looked : ℕ) → IsSame v w → begun c caller request ≡ None → (request ≡ asks.Revoke q) × (looked ≡ idle_word c q) → CanMake k w (Exchange q looked ToInvalid)
@@ -246,7 +247,7 @@ module _ (c : CallerKnowledge) (k : Layout) (caller : DomId) (v : View) (knows :
       (lt, record { word_is = own-look steps way q looked walk r.1; some = own-valid (after steps v) q same lt o.valid })
 
   can-turn : (ro : Bool) (change : Change) (steps : List Moment) (way : Continuation) (q : GrantRef) (looked : ℕ) → IsWalk k way v steps → IsSame v (after steps v) → OpensTurn c change q → is_read_only (c.entry q.0) ≡ ro
-      → LookedLast way caller q looked [] (shown steps) → (q.0 < 2048) × CanTurn ro q.0 looked (after steps v)
+      → LookedLast way caller q looked [] (shown steps) → (q.0 < TABLE_ENTRIES) × CanTurn ro q.0 looked (after steps v)
   can-turn ro change steps way q looked walk same o now r =
       let w = after steps v in let lt = in-own q.0 o.in_table in let here = row w same q.0 lt in
       let few = knows.generations q.0 lt in let worn = o.not_worn in (
@@ -289,7 +290,7 @@ module _ (c : CallerKnowledge) (k : Layout) (caller : DomId) (v : View) (knows :
   can-make request held steps (LookHeader d) waits walk same free r = named-run d r.1
   can-make request held steps (LookControl d q) waits walk same free r = by r.1
     where
-      by : (IsNamed c d × HasSeenTable (path c caller request) d q (shown steps)) ⊎ ((d ≡ caller) × (q.0 < size_of c.header)) → HasDomain k d × (q.0 < 2048)
+      by : (IsNamed c d × HasSeenTable (path c caller request) d q (shown steps)) ⊎ ((d ≡ caller) × (q.0 < size_of c.header)) → HasDomain k d × (q.0 < TABLE_ENTRIES)
       by (inl x) = (named-run d x.0, in-seen-table k (path c caller request) v steps d q walk x.1)
       by (inr x) = (own-of-run k v caller d knows.named knows.inside x.0, in-own q.0 x.1)
   can-make request held steps (LookBody d q half) waits walk same free r = (named-run d r.1.0, in-seen-table k (path c caller request) v steps d q walk r.1.1)
@@ -364,11 +365,11 @@ module _ (c : CallerKnowledge) (k : Layout) (caller : DomId) (v : View) (knows :
         serial = may.1;
       }
 
-  left-changed : (q : GrantRef) (change : Change) (w w' : View) → q.0 < 2048 → c.generation q.0 + raise_of change < 1048576 → IsSame v w → (looked : ℕ) → Changes k q.0 change looked w w' → (request : Asked) → IsOwnChange request → ChangesBy c k request q.0 change v w'
+  left-changed : (q : GrantRef) (change : Change) (w w' : View) → q.0 < TABLE_ENTRIES → c.generation q.0 + raise_of change < 1048576 → IsSame v w → (looked : ℕ) → Changes k q.0 change looked w w' → (request : Asked) → IsOwnChange request → ChangesBy c k request q.0 change v w'
   left-changed q change w w' lt few same looked m request is = record { asked = is; before = w; same = same; inside = lt; word = looked; changes = m; fresh = few }
 
   -- what the owner's exchange was asked of
-  own-change : (request : Asked) (held : HeldPins) (shown_so : List Seen) (q : GrantRef) (looked : ℕ) (change : Change) → Rests c caller request held shown_so (Makes (Exchange q looked change)) → (q.0 < 2048) × (c.generation q.0 + raise_of change < 1048576) × IsOwnChange request
+  own-change : (request : Asked) (held : HeldPins) (shown_so : List Seen) (q : GrantRef) (looked : ℕ) (change : Change) → Rests c caller request held shown_so (Makes (Exchange q looked change)) → (q.0 < TABLE_ENTRIES) × (c.generation q.0 + raise_of change < 1048576) × IsOwnChange request
   own-change request held shown_so q looked (Publish e) r =
       let o = grant-opens request q e r.0 r.1.0 in let lt = in-own q.0 o.in_table in let few = knows.generations q.0 lt in let worn = o.not_worn in (lt, omega (arith, few, worn), subst (λ (x : Asked). IsOwnChange x) (sym r.1.0) tt)
   own-change request held shown_so q looked ToInvalid r =

@@ -3,6 +3,7 @@ use Rattle.std.proofs.Common.{◌≡◌, ℕ, ◌+◌, ◌<◌, ◌==◌, ◌&&�
 use Rattle.std.specs.List.{count_by}
 use Rattle.std.specs.Prelude.{slice_index_or}
 use Rattle.std.proofs.lemmas.Bool.{eq-eqb, cases_eq, cases_lt}
+use Rattle.gt_types.specs.declared.limits.TheConstants.{TABLE_ENTRIES}
 use lib.ListN.{get_or-eq_default}
 use Rattle.gt_types.specs.declared.DomId.{DomId}
 use Rattle.gt_types.specs.declared.Dir.{Dir}
@@ -123,7 +124,7 @@ pub changed : (b : Board) (c : Config) (may : AllowRelation) (d e : Domain) (req
 changed b c may d e request q ch is seat slots own x =
     let u = x.before in let w = e.seat.view in let os = row_changed d.own.items q ch in
     let same : KeepsPins d.seat.view w = λ t r. x.changes.pins t r ∙ x.same.pins t r in
-    let row : (r : ℕ) → r < 2048 → (last_of r w ≡ record { generation = generation_in c.first_gen os r; entry = entry_in os r }) × (generation_in c.first_gen os r < 1048576) =
+    let row : (r : ℕ) → r < TABLE_ENTRIES → (last_of r w ≡ record { generation = generation_in c.first_gen os r; entry = entry_in os r }) × (generation_in c.first_gen os r < 1048576) =
     λ r lt. elim (cases_eq q r) [
       | inl e1 ↦
           let all = is.all_rows in let low = x.inside in let fresh = x.fresh in

@@ -2,6 +2,7 @@
 use Rattle.std.proofs.Common.{◌≡◌, ℕ, ◌<◌, refl, sym, ap, ◌∙◌, List, [], length, get_or, zero, suc, Option, Some, None, arith}
 use Rattle.std.specs.List.{count_by}
 use Rattle.std.specs.Prelude.{replicate, slice_get}
+use Rattle.gt_types.specs.declared.limits.TheConstants.{TABLE_ENTRIES}
 use Rattle.gt_types.specs.Config.{IsWithinLimits}
 use Rattle.gt_types.specs.declared.config.Config.{Config}
 use Rattle.gt_entry.specs.declared.entry.Entry.TheVariants.{Invalid}
@@ -31,13 +32,13 @@ same-length : (n : ℕ) (x : Own) → length (replicate n x) ≡ n
 same-length zero x = refl
 same-length (suc n) x = ap (λ (m : ℕ). suc m) (same-length n x)
 
-row-at : (first r : ℕ) → r < 2048 → slice_get (first_rows first) r ≡ Some (record { entry = Invalid; generation = first })
+row-at : (first r : ℕ) → r < TABLE_ENTRIES → slice_get (first_rows first) r ≡ Some (record { entry = Invalid; generation = first })
 unfolding first_rows
-row-at first r lt = same-row 2048 r (record { entry = Invalid; generation = first }) lt
+row-at first r lt = same-row TABLE_ENTRIES r (record { entry = Invalid; generation = first }) lt
 
-rows-length : (first : ℕ) → length (first_rows first) ≡ 2048
+rows-length : (first : ℕ) → length (first_rows first) ≡ TABLE_ENTRIES
 unfolding first_rows
-rows-length first = same-length 2048 (record { entry = Invalid; generation = first })
+rows-length first = same-length TABLE_ENTRIES (record { entry = Invalid; generation = first })
 
 nothing-there : (s : HandleMap Held) (h : Handle) (m : Held) → s.slots ≡ [] → value_of s h ≡ Some m → ⊥
 nothing-there s h m e there = let none : value_of s h ≡ None = ap (λ (xs : List (Option (Slot Held))). under h.serial (get_or xs h.key None)) e in cc

@@ -1,6 +1,7 @@
 -- The pins that a copy takes and gives back, the last one first.
 use Rattle.std.proofs.Common.{◌≡◌, ℕ, ◌<◌, ◌==◌, ◌&&◌, Bool, true, false, cond, refl, sym, ap, ◌∙◌, subst, List, [], ◌∷◌, ◌++◌, inl, inr, arith}
 use Rattle.std.proofs.lemmas.Bool.{eq-eqb, eqb-true, eqb-false}
+use Rattle.gt_types.specs.declared.limits.TheConstants.{TABLE_ENTRIES}
 use Rattle.gt_words.specs.Controls.{generation_of}
 use Rattle.gt_words.specs.Conditions.{HasDomain, Holds, Pins, Unpins}
 use Rattle.gt_words.specs.Rule.{Layout, position_in}
@@ -43,9 +44,9 @@ module _ (k : Layout) where
       let t = position_in k.ids p.dom in let r = p.gref.0 in
       subst (λ (ps : List LivePin). IsIn (p.dir, record_of p) ps) (sym (x.pins t r)) (in-append (p.dir, record_of p) (live_of k t r taken) (pins (steps_on t r v)) (in-live taken p is))
 
-  pub of-run : (taken : List Held) (p : Held) → AreOfRun k taken → IsIn p taken → HasDomain k p.dom × (p.gref.0 < 2048)
+  pub of-run : (taken : List Held) (p : Held) → AreOfRun k taken → IsIn p taken → HasDomain k p.dom × (p.gref.0 < TABLE_ENTRIES)
   of-run [] p all is = absurd is
-  of-run (q ∷ qs) p all (inl e) = subst (λ (x : Held). HasDomain k x.dom × (x.gref.0 < 2048)) (sym e) all.0
+  of-run (q ∷ qs) p all (inl e) = subst (λ (x : Held). HasDomain k x.dom × (x.gref.0 < TABLE_ENTRIES)) (sym e) all.0
   of-run (q ∷ qs) p all (inr more) = of-run qs p all.1 more
 
   pub has-pin : (taken : List Held) (v w : View) (p : Held) → HasTaken k taken v w → AreOfRun k taken → IsIn p taken → HasPin k w p

@@ -1,5 +1,6 @@
 -- What the steps of a call showed, found again among the steps of its seat.
 use Rattle.std.proofs.Common.{◌≡◌, ℕ, ◌*◌, ◌<◌, ◌≤◌, Bool, true, false, cond, refl, sym, ap, ◌∙◌, subst, List, [], ◌∷◌, ◌++◌, Option, Some, None, arith, append_assoc}
+use Rattle.gt_types.specs.declared.limits.TheConstants.{ENTRIES_V1, ENTRIES_V2, MAX_TABLE_FRAMES, TABLE_ENTRIES}
 use Rattle.gt_types.specs.declared.DomId.{DomId}
 use Rattle.gt_types.specs.declared.GrantRef.{GrantRef}
 use Rattle.gt_entry.specs.declared.control.Kind.TheVariants.{Sub as KindSub}
@@ -61,7 +62,7 @@ made-last k way v (y ∷ rest) before x s walk e f =
 
 -- a header that was shown has no larger table than there is room for
 shown-header : (k : Layout) (way : Continuation) (v : View) (steps : List Moment) (before : List Seen) (word : ℕ) (later : List Seen) (dom : DomId) → IsWalk k way v steps → shown steps ≡ before ++ Word word ∷ later
-    → way before ≡ Some (Makes (LookHeader dom)) → size_of (header_of word) ≤ 2048
+    → way before ≡ Some (Makes (LookHeader dom)) → size_of (header_of word) ≤ TABLE_ENTRIES
 shown-header k way v [] before word later dom walk e f = absurd (never before (Word word) later e)
 shown-header k way v (y ∷ rest) before word [] dom walk e f = (made-last k way v (y ∷ rest) before (Word word) (LookHeader dom) walk e f).made.size
 shown-header k way v (y ∷ rest) before word (a ∷ bs) dom walk e f =
@@ -70,13 +71,13 @@ shown-header k way v (y ∷ rest) before word (a ∷ bs) dom walk e f =
     ap (λ (zs : List Seen). before ++ Word word ∷ zs) u.2 ∙ sym (append_assoc before (Word word ∷ u.0) (u.1 ∷ [])) in
     shown-header k way v rest before word u.0 dom walk.1 (snoc-inj (shown rest) (before ++ Word word ∷ u.0) (shown_by y) u.1 (e ∙ split)).0 f
 
--- a reference within a table of 2,048 entries at most
-pub few-entries : (b : Bool) (f : ℕ) → f ≤ 4 → f * cond b 256 512 ≤ 2048
+-- a table within the limit of frames has no more entries than there is room for
+pub few-entries : (b : Bool) (f : ℕ) → f ≤ MAX_TABLE_FRAMES → f * cond b ENTRIES_V2 ENTRIES_V1 ≤ TABLE_ENTRIES
 few-entries true f h = omega arith
 few-entries false f h = omega arith
 
 -- a reference in a table seen is one that there is room for
-pub in-seen-table : (k : Layout) (way : Continuation) (v : View) (steps : List Moment) (dom : DomId) (gref : GrantRef) → IsWalk k way v steps → HasSeenTable way dom gref (shown steps) → gref.0 < 2048
+pub in-seen-table : (k : Layout) (way : Continuation) (v : View) (steps : List Moment) (dom : DomId) (gref : GrantRef) → IsWalk k way v steps → HasSeenTable way dom gref (shown steps) → gref.0 < TABLE_ENTRIES
 in-seen-table k way v steps dom gref walk t =
     let size = shown-header k way v steps t.before t.word t.after dom walk t.shown_is t.looked in let lt = t.inside in omega (arith, size, lt)
 

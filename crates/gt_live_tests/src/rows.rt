@@ -180,9 +180,9 @@ const A_TABLE_GROWS_AND_CHANGES_ITS_VERSION: [Line; 14] = [
     (TWO, GetVersion(1), "ok version=2"),
     (TWO, Map(1, 256, READ_ONLY), "N9 -3 domain 1 6"),
     (ONE, Setup(2), "ok frames=2"),
-    (TWO, Size(1), "ok frames=2 max=4"),
+    (TWO, Size(1), "ok frames=2 max=16"),
     (TWO, Map(1, 256, READ_ONLY), "N10 -1 entry 1 256 0"),
-    (ONE, Setup(5), "N23 -1"),
+    (ONE, Setup(5), "ok frames=5"),
     (ONE, Version(3), "N2 -1"),
 ];
 

@@ -22,9 +22,9 @@ const QUIET: Row = Row {
 };
 
 #[test]
-fn sixteen_domains_start(rt: HostRuntime) {
-    let one_more = StartFault::Config(ConfigFault::TooMany(DomId(17)));
-    let counts = [(1, Ok(1)), (16, Ok(16)), (17, Err(one_more))];
+fn one_to_sixty_four_domains_start(rt: HostRuntime) {
+    let one_more = StartFault::Config(ConfigFault::TooMany(DomId(65)));
+    let counts = [(1, Ok(1)), (64, Ok(64)), (65, Err(one_more))];
     for (count, answer) in counts {
         let row = Row { count, ..QUIET };
         assert_eq!(rt; play_row(&rt, rt.alloc(), &row), answer);

@@ -34,8 +34,15 @@ pub struct Invocation<'a> {
 
 const VERSION: &str = "1.0.0
 for rattle-kit-13b logic dac8208d650f15bf
-A run has 1 to 16 domains, each with 1 to 64 frames of 4096 bytes and a table of 1 to 4 frames.
-A policy has at most 1048576 bytes, 256 types, 256 attributes and 65536 allow statements; a script has at most 1048576 bytes.";
+What a script may say:
+  domains of a run          1 to 64
+  ID of a domain            0 to 32751, each once
+  frames of a domain        1 to 64, of 4096 bytes each
+  table frames of a domain  1 to 16, of 512 entries each in version 1, 256 in version 2
+  version of a table        1 or 2
+  first generation          0 to 1048575
+  bytes of a script         at most 1048576
+A policy has at most 1048576 bytes, 256 types, 256 attributes and 65536 allow statements.";
 
 const MORE: &str =
     "A script says what the policy allows, which domains there are and what they call.

@@ -11,7 +11,7 @@
 //! - `--told` and `--awaited`: at a gate that looks for both records of domain 2. A line says whether it found them
 //!   where a flag was raised, or where one was awaited.
 //!
-//! After `--many` comes no name: sixteen domains with long lists, which are made here, meet at a gate.
+//! After `--many` comes no name: as many domains as a run may have, with long lists that are made here, meet at a gate.
 #![tactic(auto)]
 
 mod failing;

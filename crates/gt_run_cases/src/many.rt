@@ -1,17 +1,18 @@
 //! Many domains with long lists.
 use crate::gates::Turns;
 use crate::running::run_text;
+use gt_types::MAX_DOMAINS;
 use std::alloc::{AllocError, Global};
 use std::fmt::Write;
 use std::sync::Wait;
 use std::thread::Threads;
 
-const DOMAINS: u16 = 16;
+const DOMAINS: u16 = MAX_DOMAINS as u16;
 
-const ROUNDS: u16 = 250;
+const ROUNDS: u16 = 100;
 
-// The script, whose body begins at line 18: all domains meet, and then each does what no other sees, four calls a
-// round.
+// The script, whose body begins behind a line for each domain and one more: all domains meet, and then each does what
+// no other sees, four calls a round.
 fn script(alloc: Global) -> Result<String, AllocError> {
     let mut text = String::new(alloc);
     let _ = writeln!(text, "triple a_t a_t map_read");
@@ -34,7 +35,7 @@ fn script(alloc: Global) -> Result<String, AllocError> {
 // What it prints.
 fn answers(alloc: Global) -> Result<String, AllocError> {
     let mut text = String::new(alloc);
-    let mut line: u32 = 17;
+    let mut line = u32::from(DOMAINS) + 1;
     for id in 1..DOMAINS + 1 {
         line = line.wrapping_add(2);
         for _ in 0..ROUNDS {
@@ -48,7 +49,7 @@ fn answers(alloc: Global) -> Result<String, AllocError> {
     Ok(text)
 }
 
-/// Whether sixteen domains print the same in each of two runs.
+/// Whether as many domains as a run may have print the same in each of two runs.
 pub fn many_said<R: Threads + Wait + Sync>(rt: &R, alloc: Global) -> anyhow::Result<String> {
     let script = script(alloc)?;
     let wanted = answers(alloc)?;

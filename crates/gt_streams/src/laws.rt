@@ -1,7 +1,14 @@
-//! What writes come to, one after the other.
-ghost use Rattle.std.specs.Prelude.{ℕ, List, [], ◌++◌, Option};
+//! What writes come to, one after the other, and the limit of a read by number.
+ghost use Rattle.std.specs.Prelude.{◌≡◌, ℕ, List, [], ◌++◌, Option};
 ghost use Rattle.std.specs.Io.KnownBytes.{Appends, Keeps};
 ghost use Rattle.gt_streams.specs.Streams.{AppendsBeginning};
+
+use crate::streams::READ_LIMIT;
+
+/// The most bytes that a read takes, by number.
+pub fn the_read_limit()
+    ensures { READ_LIMIT ≡ 1048577 }
+{}
 
 /// A law: where nothing goes out, the writer holds what it held.
 pub fn every_writer_keeps_what_it_has()

@@ -20,6 +20,6 @@ mod streams;
 mod text;
 
 pub use fault::{ReadFault, WriteFault};
-pub use laws::{every_text_goes_on, every_writer_keeps_what_it_has};
+pub use laws::{every_text_goes_on, every_writer_keeps_what_it_has, the_read_limit};
 pub use streams::{CHUNK, READ_LIMIT, finish, read_text, send, write_text};
 pub use text::{push_text, text_of};

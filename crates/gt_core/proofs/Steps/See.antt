@@ -4,7 +4,7 @@ use Rattle.gt_core.proofs.Words.{◌≡◌, ◌<◌, ◌≤◌, ◌+◌, ◌%◌
 pub word-shows : (s : Setting) (h : History) (xs : List State) (t r : ℕ) → DomainsStand s h xs → r < TABLE_ENTRIES → control_of (word_at s h t r) ≡ control_at s h t r
 word-shows s h xs t r st within = control-round (control_at s h t r) (st.words t r within).in_range (st.words t r within).domain
 
--- a header within the limits has room in its word, and its table has at most 2,048 entries
+-- a header within the limits has room in its word, and its table no more entries than there is room for
 pub table-fits : (x : Header) → FitsTable x → (size_of x ≤ TABLE_ENTRIES) × (header_of (header_word x) ≡ x)
 table-fits x f = let v = f.version in let few = f.frames in
     let version : (x.version + x.frames * 4) % 4 ≡ x.version = omega arith in let frames : (x.version + x.frames * 4) / 4 % 256 ≡ x.frames = omega arith in
