@@ -61,7 +61,11 @@ fn spells_every_kind(rt: HostRuntime) {
 
 #[test]
 fn packs_headers(rt: HostRuntime) {
-    for (version, frames, word, entries) in [(2, 16, 66, 4_096), (1, 16, 65, 8_192), (1, 1, 5, 512)] {
+    for (version, frames, word, entries) in [
+        (2, 16, 66, 4_096),
+        (1, 16, 65, 8_192),
+        (1, 1, 5, 512),
+    ] {
         let header = Header { version, frames };
         let told = (header.pack(), Header::unpack(word), header.entries());
         assert_eq!(rt; told, (word, header, entries));
