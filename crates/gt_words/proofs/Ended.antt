@@ -53,9 +53,11 @@ module _ (k : Layout) (r word : ℕ) (c : Change) (v w : View) (z : Changes k r 
   counted : (d : Dir) → (pins_in d word ≡ 0) × (generation_of word ≡ (last_of r v).generation)
   counted d = let x : EntryRecord = last_of r v in
       let f = owners_entry k v.position r (Changed c word (changed_word c x word) (changed c x)) word (changed_word c x word) v w vn rn z.steps refl in
-      let parts = spelled_parts x.entry x.generation (total_pins Read all) (total_pins Write all) (legal_record x (earlier_records v.first (steps_on v.position r v)) f.lawful).0 f.in_range in
-      (by d (ap (pins_in Read) f.spelled ∙ (parts.reads ∙ none_held Read v.position r z.steps.step.before.views none))
-      (ap (pins_in Write) f.spelled ∙ (parts.writes ∙ none_held Write v.position r z.steps.step.before.views none)), ap generation_of f.spelled ∙ parts.generation)
+      let parts = spelled_parts x.entry x.generation (total_pins Read all) (total_pins Write all) (legal_record x (earlier_records v.first (steps_on v.position r v)) f.lawful).0 f.in_range in (
+        by d (ap (pins_in Read) f.spelled ∙ (parts.reads ∙ none_held Read v.position r z.steps.step.before.views none))
+            (ap (pins_in Write) f.spelled ∙ (parts.writes ∙ none_held Write v.position r z.steps.step.before.views none)),
+        ap generation_of f.spelled ∙ parts.generation,
+      )
     where
       by : (d : Dir) → pins_in Read word ≡ 0 → pins_in Write word ≡ 0 → pins_in d word ≡ 0
       by Read a b = a
