@@ -41,8 +41,8 @@ pub fn every_known_handle_has_one_subject()
         subject_at s g dom a ≡ subject_at s h dom b }
 {}
 
-/// Once a revocation of an entry stood, or a publication (after a withdrawal too), each live pin on that entry was taken
-/// since. So no access is justified by a pin of an earlier record of that entry.
+/// Once a revocation of an entry stood, or a publication (after a withdrawal too), each live pin on that entry was
+/// taken since. So no access is justified by a pin of an earlier record of that entry.
 pub fn no_pin_outlives_its_record()
     ensures { PinsAreTakenSince }
 {}

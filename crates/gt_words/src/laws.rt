@@ -36,8 +36,8 @@ pub fn every_pin_left_is_counted()
     ensures { PinsLeftAreCounted }
 {}
 
-/// A law: once an owner revoked its entry, or published it (after a withdrawal too), no view has a pin of the record that
-/// was there, or of an earlier one. So a page that an owner takes back is not readable by anybody from then on.
+/// A law: once an owner revoked its entry, or published it (after a withdrawal too), no view has a pin of the record
+/// that was there, or of an earlier one. So a page that an owner takes back is not readable by anybody from then on.
 pub fn no_pin_outlives_its_record()
     ensures { NoPinOutlivesItsRecord }
 {}
