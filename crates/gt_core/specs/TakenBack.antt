@@ -6,11 +6,19 @@ use Rattle.gt_entry.specs.declared.change.Change.TheVariants.{Publish, Revoke as
 use Rattle.gt_calls.specs.declared.action.Step.TheVariants.{Exchange}
 use Rattle.gt_calls.specs.declared.action.Step.TheVariants.{Read as ReadBytes, Write as WriteBytes, Copy as CopyBytes}
 use Rattle.gt_calls.specs.declared.action.Seen.TheVariants.{Taken}
+use Rattle.gt_core.specs.declared.trace.Element.{Element}
+use Rattle.gt_core.specs.declared.trace.Event.{Event}
 use Rattle.gt_core.specs.declared.trace.Item.{Item}
 use Rattle.gt_core.specs.declared.trace.Happened.{Happened}
 use Rattle.gt_core.specs.declared.trace.Happened.TheVariants.{Stepped}
 use Rattle.gt_core.specs.History.{History, Setting, Pin, entry_at, live, pinned_by, reads_at, writes_at}
-use Rattle.gt_core.specs.Legal.{IsLegalHistory}
+use Rattle.gt_core.specs.Legal.{IsLegalHistory, Legal, history_after}
+
+-- the items of a legal trace are a legal history: so what holds of each of those holds of each run that is played (own)
+abbrev pub LegalTracesAreHistories : Type 0
+LegalTracesAreHistories =
+    (s : Setting) (events : List Event) (trace : List Element) → Legal s events trace
+    → IsLegalHistory s (history_after [] trace)
 
 -- pins of an earlier record
 
