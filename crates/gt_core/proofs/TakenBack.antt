@@ -1,12 +1,12 @@
 -- What an owner has taken back is reached by no earlier pin.
-use Rattle.gt_core.proofs.Words.{Event, Begin, Tick, Element, Did, MayDo, LegalAfter, grown, history_after, slice_index_or, ◌≡◌, ◌≢◌, ◌+◌, ◌⊎◌, inl, inr, ℕ, refl, Bool, true, false, List, [], ◌∷◌, ◌++◌, Option, Some, None, cond, sym, ap, ◌∙◌, subst, arith, All, Any, count_by, sum_by-cons, eq-eqb, eqb-true, false≢true, ◌==◌, All-nil, All-cons, All-head, All-tail, DomId, GrantRef, Dir, Read, Write, Entry, Page, Sub, Invalid, Via, permits, frame_of, Change, Publish, ToInvalid, ToWithdrawn, Seen, Taken, Step, Exchange, PinStep, Unpin, Held, Holder, Place, ReadBytes, WriteBytes, CopyBytes, Asked, Copy, ForMap, ForCopy, Answer, Happened, Stepped, Item, History, Setting, Pin, entry_at, live, pinned_by, unpinned_by, is_pin_on, same_dir, reads_at, writes_at, IsRight, IsSafeChange, StepsRightIn, EndIsJustified, CopyIsJustified, Justified, Forwards, IsLegalHistory, open_call, Underway, entry_after, change_of}
+use Rattle.gt_core.proofs.Words.{Event, Element, LegalAfter, grown, history_after, slice_index_or, ◌≡◌, ◌≢◌, ◌+◌, ◌⊎◌, inl, inr, ℕ, refl, Bool, true, false, List, [], ◌∷◌, ◌++◌, Option, Some, None, cond, sym, ap, ◌∙◌, subst, arith, All, Any, count_by, sum_by-cons, eq-eqb, eqb-true, false≢true, ◌==◌, All-nil, All-cons, All-head, All-tail, DomId, GrantRef, Dir, Read, Write, Entry, Page, Sub, Invalid, Via, permits, frame_of, Change, Publish, ToInvalid, ToWithdrawn, Seen, Taken, Step, Exchange, PinStep, Unpin, Held, Holder, Place, ReadBytes, WriteBytes, CopyBytes, Asked, Copy, ForMap, ForCopy, Answer, Happened, Stepped, Item, History, Setting, Pin, entry_at, live, pinned_by, unpinned_by, is_pin_on, same_dir, reads_at, writes_at, IsRight, IsSafeChange, StepsRightIn, EndIsJustified, CopyIsJustified, Justified, Forwards, IsLegalHistory, open_call, Underway, entry_after, change_of}
 use Rattle.gt_types.specs.declared.Use.{Use}
 use Rattle.gt_entry.specs.Permits.{is_of_frame}
 use Rattle.gt_core.specs.History.{with_ro, changed_entry}
 use Rattle.gt_core.specs.Legal.{Reaches}
 use Rattle.gt_core.specs.TakenBack.{EndsPins, Grants, IsForeignAccess, IsPinOn, IsTakenBack}
 unfoldable use Rattle.gt_core.specs.TakenBack.{IsTakenSince}
-use Rattle.gt_core.proofs.{Steps.Observers.all-without, Steps.Observers.stepped, Steps.Observers.exchanged, Steps.Observers.exchanged-live, Steps.Observers.kept-entry, Entries.of-safe, Entries.at-change}
+use Rattle.gt_core.proofs.{Playing.legal-grows, Steps.Observers.all-without, Steps.Observers.stepped, Steps.Observers.exchanged, Steps.Observers.exchanged-live, Steps.Observers.kept-entry, Entries.of-safe, Entries.at-change}
 use Rattle.std.proofs.lemmas.List.Elements.{All-append, All-weaker}
 
 -- histories
@@ -24,17 +24,10 @@ legal-before : (s : Setting) (i : Item) (h : History) → IsLegalHistory s (i �
 unfolding IsLegalHistory
 legal-before s i h legal = legal.1
 
--- one element more
-grown-legal : (s : Setting) (h : History) (e : Event) (x : Element) → MayDo s h e x → IsLegalHistory s h → IsLegalHistory s (grown h x)
-unfolding IsLegalHistory
-grown-legal s h (Begin d request) (Did i) may legal = (may.2, legal)
-grown-legal s h (Tick d) (Did i) may legal = (may.2, legal)
-grown-legal s h e x may legal = legal
-
 -- the items of a legal trace, after those before it
 after-legal : (s : Setting) (h : History) (events : List Event) (trace : List Element) → IsLegalHistory s h → LegalAfter s h events trace → IsLegalHistory s (history_after h trace)
 after-legal s h [] [] was legal = was
-after-legal s h (e ∷ es) (x ∷ xs) was legal = after-legal s (grown h x) es xs (grown-legal s h e x legal.0 was) legal.1
+after-legal s h (e ∷ es) (x ∷ xs) was legal = after-legal s (grown h x) es xs (legal-grows s h e x legal.0 was) legal.1
 after-legal s h [] (x ∷ xs) was legal = absurd legal
 after-legal s h (e ∷ es) [] was legal = absurd legal
 
