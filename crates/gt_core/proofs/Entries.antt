@@ -5,12 +5,12 @@ use Rattle.gt_core.proofs.{Steps.Observers.pins_at, Steps.Observers.unstored, St
 
 -- what holds of a step that was right in its call
 
-of-safe : (s : Setting) (h : History) (i : Item) (step : Step) (seen : Seen) (o : Option Underway) → StepsRightIn s h i step seen o → IsSafe s h i
+pub of-safe : (s : Setting) (h : History) (i : Item) (step : Step) (seen : Seen) (o : Option Underway) → StepsRightIn s h i step seen o → IsSafe s h i
 of-safe s h i step seen None a = absurd a
 of-safe s h i step seen (Some c) a = a.safe
 
 -- what holds of each entry after a change of one
-at-change : (P : ℕ → ℕ → Option Change → Type 0) (u g : ℕ) (change : Change) (t r : ℕ) → P u g (Some change) → P t r None → P t r (cond (u == t) (cond (g == r) (Some change) None) None)
+pub at-change : (P : ℕ → ℕ → Option Change → Type 0) (u g : ℕ) (change : Change) (t r : ℕ) → P u g (Some change) → P t r None → P t r (cond (u == t) (cond (g == r) (Some change) None) None)
 at-change P u g change t r here other = grind (arith, eqb-true)
 
 -- body words

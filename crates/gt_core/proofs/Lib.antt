@@ -19,6 +19,7 @@ pub mod Starting
 pub mod Staying
 pub mod Stepping
 pub mod Steps
+pub mod TakenBack
 pub mod Ticking
 pub mod Together
 pub mod Values

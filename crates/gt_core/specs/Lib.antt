@@ -9,3 +9,4 @@ pub mod Sight
 pub mod Standing
 pub mod States
 pub mod Subject
+pub mod TakenBack

@@ -7,6 +7,7 @@ ghost use Rattle.gt_core.specs.History.{History, Setting};
 ghost use Rattle.gt_core.specs.Legal.{MayDo, grown};
 ghost use Rattle.gt_core.specs.Shown.{shown_at};
 ghost use Rattle.gt_core.specs.Subject.{subject_at};
+ghost use Rattle.gt_core.specs.TakenBack.{LegalTracesAreHistories, PagesTakenBackAreOutOfReach, PinsAreTakenSince};
 ghost use Rattle.gt_handles.specs.declared.handles.Handle.{Handle};
 ghost use Rattle.gt_core.specs.declared.trace.Event.{Event};
 ghost use Rattle.gt_core.specs.declared.trace.Element.{Element};
@@ -38,4 +39,21 @@ pub fn every_known_handle_has_one_subject()
     ensures { (s : Setting) (g h : History) (dom : DomId) (a b : Handle) →
         AreAlike s g h → bare_handle a ≡ bare_handle b → IsKnown g dom.0 a → IsKnown h dom.0 b →
         subject_at s g dom a ≡ subject_at s h dom b }
+{}
+
+/// The items of a legal trace are a legal history, so the laws over legal histories hold of each run that is played.
+pub fn every_legal_trace_is_a_legal_history()
+    ensures { LegalTracesAreHistories }
+{}
+
+/// Once a revocation of an entry stood, or a publication (after a withdrawal too), each live pin on that entry was
+/// taken since. So no access is justified by a pin of an earlier record of that entry.
+pub fn no_pin_outlives_its_record()
+    ensures { PinsAreTakenSince }
+{}
+
+/// A page that an owner takes back is not readable by anybody from then on, nor writable, until the owner grants it
+/// again. It is taken back where no entry of its owner is of the page, and none that is invalid has a live pin.
+pub fn every_page_taken_back_is_out_of_reach()
+    ensures { PagesTakenBackAreOutOfReach }
 {}

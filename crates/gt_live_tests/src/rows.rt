@@ -5,7 +5,7 @@ use gt_calls::{CopyArgs, End};
 use gt_entry::Entry;
 use gt_running::Asks::{
     self, Bytes, Copy, Demote, GetVersion, Grant, Load, Map, Peek, Poke, Promote, Revoke, Setup,
-    Size, Store, Unmap, Version,
+    Size, Store, Unmap, Version, Withdraw,
 };
 use gt_running::{READ_ONLY, WRITABLE, all_running, rights, start};
 use gt_types::{DOMID_SELF, DomId, GrantRef};
@@ -123,6 +123,22 @@ const A_MAPPING_IS_COUNTED_AND_GIVEN_UP: [Line; 13] = [
     (THREE, Map(1, 0, READ_ONLY), "N11 -1 entry 1 0 200020000001"),
     (TWO, Map(9, 0, READ_ONLY), "N1 -2"),
     (TWO, Map(1, 0, 3), "N2 -1"),
+];
+
+// A withdrawal closes the entry to new pins, and the mapping that is there goes on. Its pin holds back the next grant.
+const A_WITHDRAWAL_LEAVES_ITS_PINS: [Line; 12] = [
+    (ONE, Grant(0, PAGE), "ok"),
+    (TWO, Map(1, 0, WRITABLE), "ok"),
+    (ONE, Withdraw(0), "ok"),
+    (TWO, Map(1, 0, READ_ONLY), "N10 -1 entry 1 0 100000010000"),
+    (TWO, Store(0, &[0x77]), "ok"),
+    (ONE, Peek(5, 0, 2), "ok [119, 0]"),
+    (ONE, Revoke(0), "N10 -1"),
+    (ONE, Withdraw(0), "N10 -1"),
+    (ONE, Grant(0, PAGE_6), "N19 -1 entry 1 0 100000010000"),
+    (TWO, Unmap, "ok"),
+    (ONE, Grant(0, PAGE_6), "ok"),
+    (THREE, Map(1, 0, READ_ONLY), "N11 -1 entry 1 0 200020000001"),
 ];
 
 const THE_FIRST_RULE_REFUSES: [Line; 7] = [
@@ -291,12 +307,18 @@ const A_COPY_OVERLAPS_ITSELF: [Line; 3] = [
 ];
 
 // Each row with its name, the version of the tables and the first generation of their entries.
-const ROWS: [(&str, u32, u32, &[Line]); 13] = [
+const ROWS: [(&str, u32, u32, &[Line]); 14] = [
     (
         "a mapping is counted and given up",
         1,
         0,
         &A_MAPPING_IS_COUNTED_AND_GIVEN_UP,
+    ),
+    (
+        "a withdrawal leaves its pins",
+        1,
+        0,
+        &A_WITHDRAWAL_LEAVES_ITS_PINS,
     ),
     ("the first rule refuses", 1, 0, &THE_FIRST_RULE_REFUSES),
     (

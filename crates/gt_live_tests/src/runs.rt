@@ -148,7 +148,16 @@ const STORM: [(Part, u32); 4] = [
     (Part::Maps(1), 25_000),
 ];
 
-const ROWS: [Row; 8] = [
+// Each byte of frame 5 is 55, and each of frame 6 is 66.
+const FILLED: [Line; 2] = [
+    (ONE, Poke(5, 0, &[0x55; 4096]), "ok"),
+    (ONE, Poke(6, 0, &[0x66; 4096]), "ok"),
+];
+
+// An owner that withdraws the page which the other domain copies.
+const TORN: [(Part, u32); 2] = [(Part::Withdraws(UNUSED), 1_000), (Part::Takes, 1_000)];
+
+const ROWS: [Row; 9] = [
     Row {
         name: "a domain that leaves gives its pins back",
         stages: &[
@@ -186,6 +195,13 @@ const ROWS: [Row; 8] = [
     Row {
         name: "grants beside maps leave the word idle",
         parts: &[(Part::Toggles(UNUSED), 1_000), (Part::Churns, 1_000)],
+        behind: &[(ONE, TWO, 1, 0)],
+        ..QUIET
+    },
+    Row {
+        name: "no page is torn by a withdrawal",
+        stages: &[Stage::Asked(&FILLED)],
+        parts: &TORN,
         behind: &[(ONE, TWO, 1, 0)],
         ..QUIET
     },

@@ -1,13 +1,20 @@
 //! What domains do at once, each in a thread of its own.
+use gt_calls::{CopyArgs, End};
 use gt_entry::{Control, Entry, Kind};
 use gt_running::{Asks, READ_ONLY, Running, Said, WRITABLE};
-use gt_types::{Allows, Denial, DomId, Facts, Memory, Rule};
+use gt_types::{Allows, DOMID_SELF, Denial, DomId, Facts, Memory, Rule};
 use std::alloc::{AllocError, Global};
 use std::sync::Wait;
 use std::thread::{self, Threads};
 
 /// So many bytes go with one access.
 pub const LEN: u16 = 64;
+
+/// And so many are a page.
+pub const PAGE_LEN: u16 = 4096;
+
+// A copy of the whole page of entry 0 of domain 1.
+const TAKE: Asks<'static> = fetch!(1, 0, 0, 3, 0, PAGE_LEN);
 
 /// What an owner knows of its entry from its own calls.
 #[derive(Clone, Copy)]
@@ -46,6 +53,10 @@ pub enum Part {
     Toggles(Kept),
     /// Maps the entry 0 of domain 1 for reading and unmaps it.
     Churns,
+    /// Grants its entry 0 to domain 2, the frames 5 and 6 by turns, and withdraws it.
+    Withdraws(Kept),
+    /// Copies the page of entry 0 of domain 1, and looks at all that it took.
+    Takes,
     Accesses(Access),
 }
 
@@ -63,6 +74,15 @@ fn page(dom: u16, ro: bool) -> Entry {
         dom: DomId(dom),
         ro,
         frame: 5,
+    }
+}
+
+// The page of this frame, for domain 2 to read.
+fn page_of(frame: u64) -> Entry {
+    Entry::Page {
+        dom: DomId(2),
+        ro: true,
+        frame,
     }
 }
 
@@ -183,6 +203,77 @@ fn map_once<P: Allows>(domain: &mut Running<'_, P>, owner: u16, gref: u32, flags
     }
 }
 
+// Whether the refusal carries the word of a withdrawn entry that still has read pins.
+fn finds_old_pins(denial: Denial) -> bool {
+    match control_of(denial) {
+        Some(control) => control.kind == Kind::Invalid && control.reads > 0,
+        None => false,
+    }
+}
+
+// Grants the frame where the entry is not granted. It is refused over the pins that a withdrawal left.
+fn grant_frame<P: Allows>(domain: &mut Running<'_, P>, frame: u64, kept: &mut Kept) -> bool {
+    match domain.grant(0, &page_of(frame)) {
+        Ok(()) => {
+            let fair = !kept.valid;
+            *kept = Kept {
+                valid: true,
+                ro: true,
+                generation: kept.generation.saturating_add(1),
+            };
+            fair
+        }
+        Err(denial) => match denial.rule {
+            Rule::N19 => !kept.valid && finds_old_pins(denial),
+            Rule::N20 => kept.valid,
+            _ => false,
+        },
+    }
+}
+
+// Withdraws the entry. It is refused where it is not granted, or where four tries met other pins each.
+fn withdraw_once<P: Allows>(domain: &mut Running<'_, P>, kept: &mut Kept) -> bool {
+    match domain.withdraw(0) {
+        Ok(()) => {
+            let fair = kept.valid;
+            kept.valid = false;
+            fair
+        }
+        Err(denial) => match denial.rule {
+            Rule::N10 => !kept.valid,
+            Rule::N18 => kept.valid && stands(denial),
+            _ => false,
+        },
+    }
+}
+
+// Whether these are the bytes of a whole page as its owner wrote it: no page is torn.
+fn is_whole(said: &Said) -> bool {
+    let Said::Bytes(bytes) = said else {
+        return false;
+    };
+    let Some(first) = bytes.first() else {
+        return false;
+    };
+    'bytes: for byte in bytes.iter() {
+        if byte != first {
+            return false;
+        }
+    }
+    bytes.len() == usize::from(PAGE_LEN) && (*first == 0x55 || *first == 0x66)
+}
+
+// One round of a domain that copies a page which its owner may withdraw.
+fn take_once<R: Wait, P: Allows>(rt: &R, domain: &mut Running<'_, P>) -> bool {
+    match domain.ask(rt, TAKE) {
+        Said::Done => is_whole(&domain.ask(rt, Asks::Peek(3, 0, PAGE_LEN))),
+        Said::Denied(denial) => {
+            (denial.rule == Rule::N10 || denial.rule == Rule::N18) && stands(denial)
+        }
+        _ => false,
+    }
+}
+
 // Whether so many bytes were read, all alike: so no write came in between.
 fn is_even(said: &Said) -> bool {
     let Said::Bytes(bytes) = said else {
@@ -226,6 +317,11 @@ fn round_of<R: Wait, P: Allows>(
             revoke_once(domain, 0, kept) && granted
         }
         Part::Churns => map_once(domain, 1, 0, READ_ONLY),
+        Part::Withdraws(kept) => {
+            let granted = grant_frame(domain, if odd { 6 } else { 5 }, kept);
+            withdraw_once(domain, kept) && granted
+        }
+        Part::Takes => take_once(rt, domain),
         Part::Accesses(access) => access_once(rt, domain, *access),
     }
 }
@@ -260,7 +356,7 @@ fn at_once<'m, P: Allows + Sync, R: Threads + Wait + Sync>(
 fn kept_of(part: Part, gref: u32) -> Kept {
     match part {
         Part::Owns { first, second } => { if gref == 0 { first } else { second } }
-        Part::Toggles(kept) => kept,
+        Part::Toggles(kept) | Part::Withdraws(kept) => kept,
         _ => UNUSED,
     }
 }
@@ -290,18 +386,27 @@ fn finds_idle<P: Allows>(
 /// reference.
 pub type Behind = (usize, usize, u16, u32);
 
-// Whether the entry is idle at the generation that its owner counts, once the owner has revoked it.
+// Whether the entry is idle at the generation that its owner counts, once the owner has taken it back, and then free
+// to be granted again.
 fn is_idle<P: Allows>(workers: &mut [Worker<'_, P>], behind: Behind) -> bool {
     let (owner, mapper, dom, gref) = behind;
     let Some(one) = workers.get_mut(owner) else {
         return false;
     };
     let kept = kept_of(one.part, gref);
-    if one.domain.revoke(gref).is_ok() != kept.valid {
+    let taken_back = match one.part {
+        Part::Withdraws(_) => one.domain.withdraw(gref),
+        _ => one.domain.revoke(gref),
+    };
+    if taken_back.is_ok() != kept.valid {
         return false;
     }
-    match workers.get_mut(mapper) {
+    let idle = match workers.get_mut(mapper) {
         Some(other) => finds_idle(&mut other.domain, dom, gref, kept.generation),
+        None => false,
+    };
+    match workers.get_mut(owner) {
+        Some(one) => one.domain.grant(gref, &page_of(5)).is_ok() && idle,
         None => false,
     }
 }

@@ -72,8 +72,10 @@ fn reason(rule: Rule) -> &'static str {
         Rule::N15 => "a transitive entry leads to another one",
         Rule::N16 => "the frame number is not one of its owner's frames",
         Rule::N17 => "4095 pins of that kind are live on the entry",
-        Rule::N18 => "four tries met another change of the entry each",
-        Rule::N19 => "the entry has live pins, for a demotion live write pins",
+        Rule::N18 =>
+            "four tries of a pin, demotion, promotion or withdrawal met another change of the entry each",
+        Rule::N19 =>
+            "the entry to be revoked or granted has live pins, or the one to be demoted live write pins",
         Rule::N20 => "the entry is not invalid",
         Rule::N21 => "the entry given is invalid, or needs a table of version 2",
         Rule::N22 => "the entry has had its last generation",
@@ -105,12 +107,12 @@ fn remedy(rule: Rule) -> &'static str {
         Rule::N16 => "name a frame that the owner has",
         Rule::N17 => "try again once others unmapped",
         Rule::N18 => "try again",
-        Rule::N19 => "try again once the other domains unmapped",
+        Rule::N19 => "withdraw it to close it now, or try again once the other domains unmapped",
         Rule::N20 => "revoke it first, or use another reference",
         Rule::N21 => "set version 2, or grant a whole page",
         Rule::N22 => "use another reference",
         Rule::N23 => "ask for at most 16",
-        Rule::N24 => "revoke all entries first",
+        Rule::N24 => "revoke or withdraw all entries first",
         Rule::N25 => "mend the field named",
         Rule::N26 => "try again once memory is there",
     }

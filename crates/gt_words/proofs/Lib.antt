@@ -9,6 +9,7 @@ pub mod Kept
 pub mod Owed
 pub mod Headers
 pub mod Told
+pub mod Ended
 pub mod Opens
 pub mod Dealt
 pub mod Past

@@ -1,5 +1,5 @@
 -- What follows from the definitions, for callers.
-use Rattle.std.specs.Prelude.{◌≡◌, ◌≢◌, ℕ, ◌+◌, ◌*◌, ◌<◌, ◌≤◌, AllPairs, ◌==◌, not, cond, Bool, true, false, List, [], ◌∷◌, ◌++◌}
+use Rattle.std.specs.Prelude.{◌≡◌, ◌≢◌, ◌⊎◌, ℕ, ◌+◌, ◌*◌, ◌<◌, ◌≤◌, AllPairs, ◌==◌, not, cond, Bool, true, false, List, [], ◌∷◌, ◌++◌}
 use Rattle.std.specs.Prelude.{map, length, zero, suc, Option, Some, None, position, unwrap_or, nat_lt, IsSome}
 use Rattle.std.specs.Prelude.{slice_index}
 use Rattle.std.proofs.Common.{arith, inl, inr, ⊎_elim, get_or, eq-eqb, ne_eqb, refl, sym, ap, ◌∙◌, subst}
@@ -11,6 +11,7 @@ use mathlib.Core.Option.{some}
 use lib.ListN.{get_elem?}
 use Rattle.atomic_table.specs.Table.{Allows, Me, State, keeps, stepped}
 use Rattle.atomic_table.proofs.Lists.{at_map}
+use Rattle.gt_entry.specs.declared.entry.Entry.{Entry}
 use Rattle.gt_entry.specs.declared.entry.Entry.TheVariants.{Invalid}
 use Rattle.gt_types.specs.Config.{IsWithinLimits}
 use Rattle.gt_types.specs.Names.{domain_of}
@@ -18,14 +19,14 @@ use Rattle.gt_types.specs.declared.DomId.{DomId}
 use Rattle.gt_types.specs.declared.config.Config.{Config}
 use Rattle.gt_types.specs.declared.config.DomainConfig.{DomainConfig}
 use Rattle.gt_types.specs.declared.limits.TheConstants.{TABLE_ENTRIES}
-use Rattle.gt_words.specs.Conditions.{Board, HasDomain, IsSeatOf, SeatOf, position_at}
+use Rattle.gt_words.specs.Conditions.{Board, HasDomain, IsSeatOf, Publishes, Revokes, SeatOf, position_at}
 use Rattle.gt_words.specs.Controls.{generation_of, pins_in}
 use Rattle.gt_words.specs.Events.{entry_made, event_on_entry, event_on_header, header_made}
 use Rattle.gt_words.specs.History.{History, IsOwners, Says, place_of, word_after}
 use Rattle.gt_words.specs.Rule.{IsLawful, IsNextEntry, IsRevocation, Layout, Shows, Stands, header_place, id_at, layout_of}
 use Rattle.gt_words.specs.Rule.{owner_steps, place, position_in, total_until}
 use Rattle.gt_words.specs.Steps.{on_entry}
-use Rattle.gt_words.specs.Views.{IsIn, LivePin, exchanged, pins, steps_on, with_step}
+use Rattle.gt_words.specs.Views.{IsIn, LivePin, exchanged, last_of, pins, steps_on, with_step}
 use Rattle.gt_types.specs.declared.Dir.{Dir}
 use Rattle.gt_words.specs.declared.view.EntryRecord.{EntryRecord}
 use Rattle.gt_words.specs.declared.view.EntryStep.TheVariants.{Pinned}
@@ -71,6 +72,20 @@ PinsLeftAreCounted =
     → get_elem? s.views i ≡ some v → t < k.domains → r < TABLE_ENTRIES
     → IsIn p (pins (steps_on t r v)) → IsIn e (exchanged (owner_steps t (map (steps_on t r) s.views)))
     → p.1.generation ≤ generation_of e → 0 < pins_in p.0 e
+
+-- the owner with the view v revoked its entry r, or published it: in a state in which no view had a pin of it (own)
+abbrev pub EndsPins : Layout → ℕ → ℕ → View → View → Type 0
+EndsPins k r word v w = Revokes k r word v w ⊎ ((e : Entry) × Publishes k r e word v w)
+
+-- once an entry was revoked, or published, each pin that a view has of it is of a later generation than the record that
+-- was there: in each state shown in which the owner has its steps of then, and whichever later (own)
+abbrev pub NoPinOutlivesItsRecord : Type 0
+NoPinOutlivesItsRecord =
+    (k : Layout) (s : State (Unit {0}) View) (r word i : ℕ) (v w u x : View) (later : List SeatStep) (p : LivePin)
+    → EndsPins k r word v w → v.position < k.domains → r < TABLE_ENTRIES
+    → Shows k s → get_elem? s.views v.position ≡ some u → u.steps ≡ later ++ w.steps
+    → get_elem? s.views i ≡ some x → IsIn p (pins (steps_on v.position r x))
+    → (last_of r v).generation < p.1.generation
 
 -- where the owner exchanged from the word e, and no pin of its record or of an earlier one was given back
 -- since, no step that takes such a pin leads to a state that words and views show (own)

@@ -1,7 +1,7 @@
 //! What follows from the definitions, for callers.
 ghost use Rattle.gt_words.specs.Laws.{DomainsAreOfRun, DomainsStandThere, PastPinsAreRefused, PinsAreOfEntries};
 ghost use Rattle.gt_words.specs.Laws.{AllowedStepsSayWhatIsThere, EachStepHappened, HistoryIsOne};
-ghost use Rattle.gt_words.specs.Laws.{PinsHaveOneRecord};
+ghost use Rattle.gt_words.specs.Laws.{NoPinOutlivesItsRecord, PinsHaveOneRecord};
 ghost use Rattle.gt_words.specs.Laws.{PinsLeftAreCounted, SeatsStandThere};
 ghost use Rattle.gt_words.specs.Laws.{StepsAreTakenThen, WordsFollowViews};
 
@@ -34,6 +34,12 @@ pub fn every_pin_is_of_an_entry()
 /// exchanged from. So no view has a pin of a record that was revoked.
 pub fn every_pin_left_is_counted()
     ensures { PinsLeftAreCounted }
+{}
+
+/// A law: once an owner revoked its entry, or published it (after a withdrawal too), no view has a pin of the record
+/// that was there, or of an earlier one. So a page that an owner takes back is not readable by anybody from then on.
+pub fn no_pin_outlives_its_record()
+    ensures { NoPinOutlivesItsRecord }
 {}
 
 /// A law: no pin is taken of a record that the owner's list has gone on from. A step that took one

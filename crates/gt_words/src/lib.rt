@@ -23,7 +23,8 @@ pub use laws::{
     every_domain_is_of_the_run, every_history_follows_from_the_views, every_pin_is_of_an_entry,
     every_pin_left_is_counted, every_seat_has_its_position, every_step_is_taken_then,
     every_step_of_a_history_happened, every_word_follows_from_the_views,
-    no_pin_is_taken_of_a_past_record, pins_of_one_generation_have_one_record,
+    no_pin_is_taken_of_a_past_record, no_pin_outlives_its_record,
+    pins_of_one_generation_have_one_record,
 };
 pub use view::{EntryRecord, EntryStep, HeaderStep, Purpose, SeatStep, View};
 pub use words::{Pin, Seat, Words};

@@ -160,11 +160,11 @@ can-change s h xs d r shown so_far phase gref looked change i same = by change i
   by : (z : Change) → RestsOnWord k (path k d r) d r shown gref looked z → action_at d phase ≡ Makes (Exchange gref looked z) → CanChange s h d gref z
   by (Publish entry) rests acts = let none = none-of k d r (Grant gref entry) rests.0 i.rests.0 in
       let free : reads_at h d.0 gref.0 + writes_at h d.0 gref.0 ≡ 0 = idle-pins (entry_at h d.0 gref.0) (generation_at s h d.0 gref.0) (reads_at h d.0 gref.0) (writes_at h d.0 gref.0) (same ∙ rests.1) in record {
-    within = below;
-    safe = (grant-invalid s h d gref entry none, publish-spelled s h d r (path k d r) shown so_far phase gref looked entry i.at.has_shown i.place acts, omega arith, omega arith);
-    fits = subst FitsAsked rests.0 i.fits;
-    room = not-last (generation_at s h d.0 gref.0) fits-now (opens k d (Grant gref entry) none).not_worn;
-  }
+        within = below;
+        safe = (grant-invalid s h d gref entry none, publish-spelled s h d r (path k d r) shown so_far phase gref looked entry i.at.has_shown i.place acts, omega arith, omega arith);
+        fits = subst FitsAsked rests.0 i.fits;
+        room = not-last (generation_at s h d.0 gref.0) fits-now (opens k d (Grant gref entry) none).not_worn;
+      }
   by ToInvalid rests acts = let free : reads_at h d.0 gref.0 + writes_at h d.0 gref.0 ≡ 0 = idle-pins (entry_at h d.0 gref.0) (generation_at s h d.0 gref.0) (reads_at h d.0 gref.0) (writes_at h d.0 gref.0) (same ∙ rests.1) in let room = fits-now in
       record { within = below; safe = (omega arith, omega arith); fits = tt; room = (omega arith) }
   by ToWithdrawn rests acts = let room = fits-now in record { within = below; safe = tt; fits = tt; room = (omega arith) }

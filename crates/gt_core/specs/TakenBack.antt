@@ -1,0 +1,82 @@
+-- What an owner has taken back: nobody reaches it by an earlier pin, and a page not at all.
+use Rattle.std.specs.Prelude.{◌≡◌, ◌≢◌, ◌⊎◌, ℕ, Bool, true, false, List, [], ◌∷◌, ◌++◌, All}
+use Rattle.gt_entry.specs.declared.entry.Entry.TheVariants.{Invalid}
+use Rattle.gt_entry.specs.Permits.{is_of_frame}
+use Rattle.gt_entry.specs.declared.change.Change.TheVariants.{Publish, Revoke as ToInvalid}
+use Rattle.gt_calls.specs.declared.action.Step.TheVariants.{Exchange}
+use Rattle.gt_calls.specs.declared.action.Step.TheVariants.{Read as ReadBytes, Write as WriteBytes, Copy as CopyBytes}
+use Rattle.gt_calls.specs.declared.action.Seen.TheVariants.{Taken}
+use Rattle.gt_core.specs.declared.trace.Element.{Element}
+use Rattle.gt_core.specs.declared.trace.Event.{Event}
+use Rattle.gt_core.specs.declared.trace.Item.{Item}
+use Rattle.gt_core.specs.declared.trace.Happened.{Happened}
+use Rattle.gt_core.specs.declared.trace.Happened.TheVariants.{Stepped}
+use Rattle.gt_core.specs.History.{History, Setting, Pin, entry_at, live, pinned_by, reads_at, writes_at}
+use Rattle.gt_core.specs.Legal.{IsLegalHistory, Legal, history_after}
+
+-- the items of a legal trace are a legal history: so what holds of each of those holds of each run that is played (own)
+abbrev pub LegalTracesAreHistories : Type 0
+LegalTracesAreHistories =
+    (s : Setting) (events : List Event) (trace : List Element) → Legal s events trace
+    → IsLegalHistory s (history_after [] trace)
+
+-- pins of an earlier record
+
+-- the item revokes entry r of domain t, or publishes it (own)
+abbrev pub EndsPins : ℕ → ℕ → Item → Type 0
+EndsPins t r i = (i.actor.0 ≡ t) × ends i.happened
+  where
+    ends : Happened → Type 0
+    ends (Stepped (Exchange gref looked ToInvalid) Taken) = gref.0 ≡ r
+    ends (Stepped (Exchange gref looked (Publish entry)) Taken) = gref.0 ≡ r
+    ends _ = ⊥
+
+-- the pin is on entry r of domain t (own)
+abbrev pub IsPinOn : ℕ → ℕ → Pin → Type 0
+IsPinOn t r p = (p.held.dom.0 ≡ t) × (p.held.gref.0 ≡ r)
+
+-- one of the later items took the pin, after the items base: of the entry as it was just before it (own)
+unfoldable pub IsTakenSince : History → History → Pin → Type 0
+IsTakenSince [] base p = ⊥
+IsTakenSince (i ∷ later) base p =
+    (pinned_by i.actor i.happened i.answer (later ++ base) (live (later ++ base)) ≡ p ∷ []) ⊎ IsTakenSince later base p
+
+-- once a revocation of an entry stood, or a publication, each live pin on that entry was taken since: so no access is
+-- justified by a pin of an earlier record of that entry (own)
+abbrev pub PinsAreTakenSince : Type 0
+PinsAreTakenSince =
+    (s : Setting) (later before : History) (i : Item) (t r : ℕ) → IsLegalHistory s (later ++ i ∷ before)
+    → EndsPins t r i → All (λ p. IsPinOn t r p → IsTakenSince later (i ∷ before) p) (live (later ++ i ∷ before))
+
+-- pages
+
+-- domain t has taken its frame f back: no entry of it is of that frame, and none that is invalid has a live pin (own)
+abbrev pub IsTakenBack : History → ℕ → ℕ → Type 0
+IsTakenBack h t f =
+    (r : ℕ) → (is_of_frame (entry_at h t r) f ≡ false)
+    × (entry_at h t r ≡ Invalid → (reads_at h t r ≡ 0) × (writes_at h t r ≡ 0))
+
+-- the item publishes an entry of frame f of domain t (own)
+abbrev pub Grants : ℕ → ℕ → Item → Type 0
+Grants t f i = (i.actor.0 ≡ t) × grants i.happened
+  where
+    grants : Happened → Type 0
+    grants (Stepped (Exchange gref looked (Publish entry)) Taken) = is_of_frame entry f ≡ true
+    grants _ = ⊥
+
+-- the item is an access of another domain to frame f of domain t: it reads or writes some of its bytes (own)
+abbrev pub IsForeignAccess : ℕ → ℕ → Item → Type 0
+IsForeignAccess t f i = (i.actor.0 ≢ t) × touches i.happened
+  where
+    touches : Happened → Type 0
+    touches (Stepped (ReadBytes dom frame off len) seen) = (dom.0 ≡ t) × (frame ≡ f)
+    touches (Stepped (WriteBytes dom frame off len) seen) = (dom.0 ≡ t) × (frame ≡ f)
+    touches (Stepped (CopyBytes from to len) seen) =
+        ((from.owner.0 ≡ t) × (from.frame ≡ f)) ⊎ ((to.owner.0 ≡ t) × (to.frame ≡ f))
+    touches _ = ⊥
+
+-- a page that an owner takes back is not readable by anybody from then on, nor writable, until it grants it again (own)
+abbrev pub PagesTakenBackAreOutOfReach : Type 0
+PagesTakenBackAreOutOfReach =
+    (s : Setting) (later before : History) (i : Item) (t f : ℕ) → IsLegalHistory s (i ∷ (later ++ before))
+    → IsTakenBack before t f → All (λ j. ¬ Grants t f j) later → ¬ IsForeignAccess t f i

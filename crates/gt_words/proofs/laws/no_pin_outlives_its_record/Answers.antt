@@ -1,0 +1,5 @@
+use Rattle.gt_words.proofs.Ended.{none_outlives}
+use Rattle.gt_words.proofs.laws.no_pin_outlives_its_record.Goals as goal
+
+pub returns : goal.returns
+returns c = none_outlives
