@@ -16,7 +16,7 @@ use Rattle.gt_entry.specs.Words.{header_of, header_word, size_of}
 use Rattle.gt_entry.specs.declared.header.Header.{Header}
 use Rattle.gt_types.specs.declared.limits.TheConstants.{ENTRIES_V1, ENTRIES_V2, TABLE_ENTRIES}
 use Rattle.gt_words.specs.Conditions.{AddsToHeader, LooksAtHeader, StepsOnHeader, StoresHeader}
-use Rattle.gt_words.specs.Events.{Happens, HeaderByOwner, entry_by, event_on_header, header_after, shown_header}
+use Rattle.gt_words.specs.Events.{Happens, HeaderByOwner, entry_by, event_on_header, header_after}
 use Rattle.gt_words.proofs.Order.{leads_on}
 use Rattle.gt_words.specs.History.{HasLedTo, History, Says, left_by}
 use Rattle.gt_words.specs.Rule.{IsHeader, IsKeptHeader, Layout, SawHeaders, Shows, HasStood, Stands, ShowsEntry, header_now, header_place, headers_of, place}
@@ -89,26 +89,8 @@ module _ {S : Type 0} (past : History) (k : Layout) (s : State S View) (id : ℕ
   map_entry : (u r : ℕ) → map (steps_on u r) (set s.views id w) ≡ map (steps_on u r) s.views
   map_entry u r = map-set (steps_on u r) s.views id w ∙ set_again (map (steps_on u r) s.views) id (steps_on u r v) (at_map (steps_on u r) s.views id v at)
 
-  header_happens : (word y : ℕ) → HeaderByOwner id t m → Happens k id (on_header t m) s (stepped s word y id [] w keeps)
-  header_happens word y own = record {
-    entries = λ u r. ap (entry_by k.first u) (map_entry u r);
-    headers = λ u. dite (ℕ_discrete t u) (same u) (other u);
-  }
-    where
-      here : header_now k t (map (steps_on_header t) (set s.views id w)) ≡ header_after m (shown_header k t s)
-      here = ap (header_now k t) map_header ∙ header_now-set k t (map (steps_on_header t) s.views) id (steps_on_header t v) m (at_map (steps_on_header t) s.views id v at) own
-
-      chosen : (u : ℕ) (b c : Bool) → b ≡ c → cond b (header_after m (shown_header k u s)) (shown_header k u s) ≡ cond c (header_after m (shown_header k u s)) (shown_header k u s)
-      chosen u b c e = ap (λ (z : Bool). cond z (header_after m (shown_header k u s)) (shown_header k u s)) e
-
-      same : (u : ℕ) → t ≡ u → header_now k u (map (steps_on_header u) (set s.views id w)) ≡ event_on_header (on_header t m) u (shown_header k u s)
-      same u e = subst (λ (z : ℕ). header_now k z (map (steps_on_header z) (set s.views id w)) ≡ header_after m (shown_header k z s)) e here ∙ chosen u true (t == u) (sym (eq-eqb t u e))
-
-      other : (u : ℕ) → t ≢ u → header_now k u (map (steps_on_header u) (set s.views id w)) ≡ event_on_header (on_header t m) u (shown_header k u s)
-      other u n = ap (header_now k u) (map_header_else u n) ∙ chosen u false (t == u) (sym (ne_eqb t u n))
-
   module _ (shown : Shows k s) (led : shown.history ≡ past) where
-    shows_header : (y : ℕ) → t < k.domains → v.position ≡ id → HeaderByOwner id t m → Finds m (shown_header k t s) → y ≡ header_after m (shown_header k t s) → IsHeader y → Shows k (stepped s (header_place t) y id [] w keeps)
+    shows_header : (y : ℕ) → t < k.domains → v.position ≡ id → HeaderByOwner id t m → Finds m (header_now k t (map (steps_on_header t) s.views)) → y ≡ header_after m (header_now k t (map (steps_on_header t) s.views)) → IsHeader y → Shows k (stepped s (header_place t) y id [] w keeps)
     shows_header y tn seat own finds is ok = record {
       history = (id, on_header t m) ∷ past;
       stood = ((s, now), subst (λ (h : History). HasStood S k h) led shown.stood);
@@ -135,11 +117,11 @@ module _ {S : Type 0} (past : History) (k : Layout) (s : State S View) (id : ℕ
         now : Stands k past s
         now = subst (λ (h : History). Stands k h s) led shown.now
 
-        left : (x : HeaderStep) → shown_header k t s ≡ get_or s.words (header_place t) 0 → header_after x (shown_header k t s) ≡ left_by (on_header t x) (get_or s.words (header_place t) 0)
+        left : (x : HeaderStep) → header_now k t (map (steps_on_header t) s.views) ≡ get_or s.words (header_place t) 0 → header_after x (header_now k t (map (steps_on_header t) s.views)) ≡ left_by (on_header t x) (get_or s.words (header_place t) 0)
         left (header.Looked n) e = e
         left (header.Stored n) e = refl
 
-        finds_there : (x : HeaderStep) → Finds x (shown_header k t s) → shown_header k t s ≡ get_or s.words (header_place t) 0 → Finds x (get_or s.words (header_place t) 0)
+        finds_there : (x : HeaderStep) → Finds x (header_now k t (map (steps_on_header t) s.views)) → header_now k t (map (steps_on_header t) s.views) ≡ get_or s.words (header_place t) 0 → Finds x (get_or s.words (header_place t) 0)
         finds_there x f e = subst (Finds x) e f
 
         says : (x : HeaderStep) → Finds x (get_or s.words (header_place t) 0) → Says (on_header t x) (get_or s.words (header_place t) 0)
@@ -151,10 +133,10 @@ module _ {S : Type 0} (k : Layout) (slots id : ℕ) (me : Me S View) (t : ℕ) (
   header_owes : (m : ℕ → HeaderStep) (f : ℕ → ℕ) (a : ℕ) → ((s : State S View) → Shows k s → get_elem? s.views id ≡ some me.0 → HeaderByOwner id t (m (get_or s.words (header_place t) 0)))
       → ((n : ℕ) → Finds (m n) n) → ((n : ℕ) → f n ≡ header_after (m n) n) → ((n : ℕ) → IsHeader n → IsHeader (f n))
       → Allows (Shows k) slots id me (header_place t) f (tells (record { layout = k; step = λ n. on_header t (m n); leaves = f }) (step slots (header_place t) a 0 none) me)
-  header_owes m f a own finds leaves ok = kind_owes (record { layout = k; step = λ n. on_header t (m n); leaves = f }) slots id me (header_place t) f (step slots (header_place t) a 0 none) refl (λ n. refl)
+  header_owes m f a own finds leaves ok = kind_owes (record { layout = k; step = λ n. on_header t (m n); leaves = f }) slots id me (header_place t) f (step slots (header_place t) a 0 none) refl (λ n. refl) (omega arith) (λ n. refl)
       (λ s shown at fits. let n : ℕ = get_or s.words (header_place t) 0 in let v : View = me.0 in let h = shown.now.headers t tn in let by = own s shown at in
       let z = shows_header shown.history k s id v t (m n) at shown refl (f n) tn (shown.now.seats id v at).0 by (subst (Finds (m n)) h.0 (finds n)) (leaves n ∙ ap (header_after (m n)) h.0) (ok n h.1) in
-      ((shown.now.seats id v at).0, z, header_happens shown.history k s id v t (m n) at (header_place t) (f n) by))
+      ((shown.now.seats id v at).0, z))
 
   pub look_header_owes : Allows (Shows k) slots id me (header_place t) (λ n. n) (tells (looking_at_header k t) (step slots (header_place t) 0 0 none) me)
   look_header_owes = header_owes (λ n. header.Looked n) (λ n. n) 0 (λ s shown at. tt) (λ n. refl) (λ n. refl) (λ n h. h)
@@ -192,7 +174,7 @@ table_fits h k = by (h.version == 2)
 -- a look at a header
 pub looks_at_header : (k : Layout) (t n : ℕ) (v w : View) → t < k.domains → (past : History) → w ≡ with_step past (on_header t (header.Looked n)) v → TakesStep (Unit {0}) k v past (on_header t (header.Looked n)) (header_place t) n n → LooksAtHeader k t n v w
 looks_at_header k t n v w tn past view step = let a = adds_to_header past t (header.Looked n) v w view in
-    let is : IsHeader n = subst IsHeader step.found_is (step.shown.now.headers t tn).1 in
+    let is : IsHeader n = subst IsHeader (step.stood.1.led_here.words (header_place t) (omega arith) ∙ step.found_is) (step.stood.1.headers t tn).1 in
     let read : header_of n ≡ is.0 = ap header_of is.2 ∙ kept_read is.0 is.1 in record {
       steps = record { past = past; adds = a; step = step };
       word = is.2 ∙ ap header_word (sym read);

@@ -14,7 +14,7 @@ use Rattle.gt_entry.specs.declared.entry.Entry.{Entry}
 use Rattle.gt_entry.specs.declared.entry.Entry.TheVariants.{Invalid, Page, Sub, Via}
 use Rattle.gt_types.specs.declared.Dir.{Dir}
 use Rattle.gt_types.specs.declared.Dir.TheVariants.{Read, Write}
-use Rattle.gt_words.proofs.Happening.{entry_happens}
+use Rattle.gt_words.proofs.Happened.{takes}
 use Rattle.gt_words.proofs.Kept.{there_is}
 use Rattle.gt_words.proofs.Lifts.{added, inside, shows_step}
 use Rattle.gt_words.proofs.OneEntry.{entry_grants, entry_looks, entry_misses_change, entry_misses_pin, entry_pins, entry_revokes, entry_saw, entry_stores_first, entry_stores_second, entry_turns, entry_unpins, entry_withdraws, mine, pin_counted, turned_domain, turned_low}
@@ -24,10 +24,10 @@ use Rattle.gt_entry.specs.Permits.{is_copying}
 use Rattle.gt_types.specs.declared.DomId.{DomId}
 use Rattle.std.proofs.lemmas.Bool.{and_parts}
 use Rattle.gt_words.specs.Controls.{ForwardsPin, IsValid, PermitsPin, demoted_word, generation_of, invalid_word, pins_in, promoted_word, withdrawn_word}
-use Rattle.gt_words.specs.Events.{Happens, IsByOwner}
-use Rattle.gt_words.specs.History.{SaysFound, left_on_entry, word_on}
+use Rattle.gt_words.specs.Events.{IsByOwner}
+use Rattle.gt_words.specs.History.{SaysFound, left_on_entry, place_of, word_on}
 use Rattle.gt_words.specs.Rule.{id_at, IsRecord, Layout, Shows, ShowsEntry, place, total_pins}
-use Rattle.gt_words.specs.Steps.{StepKind, changed, entry_kind, exchanging, half_index, half_of, looking, missed, on_entry, reading, storing, taken, tells, tells_stored, unpinning}
+use Rattle.gt_words.specs.Steps.{StepKind, TakesStep, changed, entry_kind, exchanging, half_index, half_of, looking, missed, on_entry, reading, storing, taken, tells, tells_stored, unpinning}
 use Rattle.gt_words.specs.Views.{earlier_records, invalid_at, last_of, last_record, last_seen, pins, record_seen, steps_on, stored_body, with_step}
 use Rattle.gt_entry.specs.declared.change.Change.{Change}
 use Rattle.gt_words.specs.declared.view.EntryStep.{EntryStep}
@@ -37,40 +37,21 @@ use Rattle.gt_entry.specs.declared.change.Half.TheVariants.{First, Second}
 use Rattle.gt_words.specs.declared.view.Purpose.{Purpose}
 use Rattle.gt_words.specs.declared.view.EntryRecord.{EntryRecord}
 use Rattle.gt_words.specs.declared.view.View.{View}
+use Rattle.gt_words.specs.declared.word_table.TheConstants.{DOMAIN_WORDS}
 use Rattle.gt_entry.specs.declared.change.Change.TheVariants as change
 use Rattle.gt_words.specs.declared.view.Purpose.TheVariants as purpose
 use Rattle.gt_types.specs.declared.limits.TheConstants.{LAST_GENERATION, MAX_PINS, TABLE_ENTRIES}
 
 -- a step is allowed that leaves words and views which show the state that its event makes
 module _ {S : Type 0} (d : StepKind) (slots id : ℕ) (me : Me S View) (i : ℕ) (f : ℕ → ℕ) (st : TableStep S) where
-  pub kind_owes : st.word ≡ i → ((n : ℕ) → f n ≡ d.leaves n)
+  pub kind_owes : st.word ≡ i → ((n : ℕ) → f n ≡ d.leaves n) → i < d.layout.domains * DOMAIN_WORDS → ((n : ℕ) → place_of (d.step n) ≡ i)
       → ((s : State S View) (shown : Shows d.layout s) → get_elem? s.views id ≡ some me.0 → let n : ℕ = get_or s.words i 0 in let x = d.step n in
       n < 18446744073709551616
-      → (me.0.position ≡ id) × Shows d.layout (stepped s i (f n) id [] (with_step shown.history x me.0) keeps) × Happens d.layout id x s (stepped s i (f n) id [] (with_step shown.history x me.0) keeps))
+      → (me.0.position ≡ id) × Shows d.layout (stepped s i (f n) id [] (with_step shown.history x me.0) keeps))
       → Allows (Shows d.layout) slots id me i f (tells d st me)
-  kind_owes is ok step s shown len at fits = let n : ℕ = get_or s.words i 0 in let x = d.step n in let w : View = with_step shown.history x me.0 in let after = step s shown at fits in
-      let at_word : ℕ × ℕ × ℕ → State S View = λ u. stepped s u.0 u.1 u.2 [] w keeps in let own = after.0 in let same : (i, f n, id) ≡ (st.word, d.leaves n, me.0.position) = λ j. (sym is j, ok n j, sym own j) in (
-        w,
-        keeps,
-        tt,
-        after.1,
-        (
-          refl,
-          (
-            shown.history,
-            refl,
-            record {
-              before = s;
-              shown = shown;
-              led_by = refl;
-              mine = subst (λ (j : ℕ). get_elem? s.views j ≡ some me.0) (sym own) at;
-              found_is = ap (λ (j : ℕ). get_or s.words j 0) is;
-              still_shown = subst (λ (u : ℕ × ℕ × ℕ). Shows d.layout (at_word u)) same after.1;
-              happens = subst (λ (u : ℕ × ℕ × ℕ). Happens d.layout u.2 x s (at_word u)) same after.2;
-            },
-          ),
-        ),
-      )
+  kind_owes is ok inside there step s shown len at fits = let n : ℕ = get_or s.words i 0 in let x = d.step n in let after = step s shown at fits in
+      (with_step shown.history x me.0, keeps, tt, after.1, (refl, (shown.history, refl,
+      subst (λ (u : ℕ × ℕ). TakesStep S d.layout me.0 shown.history x u.0 n u.1) (λ j. (sym is j, ok n j)) (takes d.layout s id me.0 x i (f n) shown at after.0 inside (there n) after.1))))
 
 -- what a step owes, by the word that it is on: what was found there, and the rule of the entry after it
 
@@ -91,8 +72,8 @@ module _ {S : Type 0} (k : Layout) (t r : ℕ) (m : ℕ → EntryStep) (leaves :
       → ((s : State S View) → Shows k s → get_elem? s.views id ≡ some me.0 → let n : ℕ = get_or s.words (place t r j) 0 in let ws : List ℕ = set s.words (place t r j) (f n) in
       n < 18446744073709551616 → After (get_or ws (place t r 0) 0) (get_or ws (place t r 1) 0) (get_or ws (place t r 2) 0) (map (steps_on t r) s.views) n)
       → Allows (Shows k) slots id me (place t r j) f (tells (entry_kind k t r m leaves) st me)
-  owes j jn is ok fit step = kind_owes (entry_kind k t r m leaves) slots id me (place t r j) f st is ok (λ s shown at fits. let n : ℕ = get_or s.words (place t r j) 0 in let after = step s shown at fits in
-      ((shown.now.seats id me.0 at).0, shows_step k s id me.0 t r (m n) shown at j (f n) tn rn jn (shown.now.seats id me.0 at).0 (fit n).0 (ok n ∙ (fit n).1) (fit n).2 after.1 after.0, entry_happens shown.history k s id me.0 at t r (m n) (place t r j) (f n) after.1))
+  owes j jn is ok fit step = kind_owes (entry_kind k t r m leaves) slots id me (place t r j) f st is ok (inside k.domains t r j tn rn jn) (λ n. ap (place t r) (fit n).0) (λ s shown at fits. let n : ℕ = get_or s.words (place t r j) 0 in let after = step s shown at fits in
+      ((shown.now.seats id me.0 at).0, shows_step k s id me.0 t r (m n) shown at j (f n) tn rn jn (shown.now.seats id me.0 at).0 (fit n).0 (ok n ∙ (fit n).1) (fit n).2 after.1 after.0))
 
   history_at : (s : State S View) → get_elem? s.views id ≡ some me.0 → get_elem? (map (steps_on t r) s.views) id ≡ some h
   history_at s at = at_map (steps_on t r) s.views id me.0 at

@@ -1,4 +1,4 @@
--- The state of the core that words and views show, and what each event of the core makes of it.
+-- The state of the core that a history of steps makes, and what each event of the core makes of it.
 use Rattle.std.specs.Prelude.{◌≡◌, ℕ, zero, suc, cond, ◌==◌, ◌&&◌, List, [], ◌∷◌, map, slice_index, slice_index_or, slice_set}
 use Rattle.atomic_table.specs.Table.{State}
 use Rattle.gt_entry.specs.declared.change.Half.TheVariants.{First, Second}
@@ -34,13 +34,18 @@ entry_by g t hs =
       live = map pins hs;
     }
 
--- the entry r of the domain t that the state shows (own)
-abbrev pub shown_entry : {S : Type 0} → Layout → ℕ → ℕ → State S View → EntryState
-shown_entry k t r s = entry_by k.first t (map (steps_on t r) s.views)
+-- out of a history, the steps of each seat on the entry r of the domain t, at n positions from i on (own)
+abbrev pub parts_on : ℕ → ℕ → History → ℕ → ℕ → List (List EntryStep)
+parts_on t r h i zero = []
+parts_on t r h i (suc n) = entry_steps t r (part_of i h) ∷ parts_on t r h (suc i) n
 
--- the header of the domain t that the state shows (own)
-abbrev pub shown_header : {S : Type 0} → Layout → ℕ → State S View → ℕ
-shown_header k t s = header_now k t (map (steps_on_header t) s.views)
+-- the entry r of the domain t that a history makes (own)
+abbrev pub entry_made : Layout → ℕ → ℕ → History → EntryState
+entry_made k t r h = entry_by k.first t (parts_on t r h 0 k.domains)
+
+-- the header of the domain t that a history makes (own)
+abbrev pub header_made : Layout → ℕ → History → ℕ
+header_made k t h = stored_header (slice_index k.headers t) (header_steps t (part_of t h))
 
 -- the live pins of the domain i (own)
 abbrev pub live_of : ℕ → EntryState → List LivePin
@@ -74,20 +79,8 @@ abbrev pub event_on_header : SeatStep → ℕ → ℕ → ℕ
 event_on_header (Header d m) t w = cond (d == t) (header_after m w) w
 event_on_header (Entry d q m) t w = w
 
--- the step x of the domain i takes the state shown before to the one that the event of the core gives (own)
-pub record Happens {S : Type 0} (k : Layout) (i : ℕ) (x : SeatStep) (before after : State S View) : Type 0 where
-  pub entries : (t r : ℕ) → shown_entry k t r after ≡ event_on_entry i x t r (shown_entry k t r before)
-  pub headers : (t : ℕ) → shown_header k t after ≡ event_on_header x t (shown_header k t before)
-
--- out of a history, the steps of each seat on the entry r of the domain t, at n positions from i on (own)
-abbrev pub parts_on : ℕ → ℕ → History → ℕ → ℕ → List (List EntryStep)
-parts_on t r h i zero = []
-parts_on t r h i (suc n) = entry_steps t r (part_of i h) ∷ parts_on t r h (suc i) n
-
--- the entry r of the domain t that a history makes (own)
-abbrev pub entry_made : Layout → ℕ → ℕ → History → EntryState
-entry_made k t r h = entry_by k.first t (parts_on t r h 0 k.domains)
-
--- the header of the domain t that a history makes (own)
-abbrev pub header_made : Layout → ℕ → History → ℕ
-header_made k t h = stored_header (slice_index k.headers t) (header_steps t (part_of t h))
+-- the step x of the domain i takes each entry and header that the steps before it make
+-- to what the event of the core gives (own)
+pub record Happens (k : Layout) (i : ℕ) (x : SeatStep) (past : History) : Type 0 where
+  pub entries : (t r : ℕ) → entry_made k t r ((i, x) ∷ past) ≡ event_on_entry i x t r (entry_made k t r past)
+  pub headers : (t : ℕ) → header_made k t ((i, x) ∷ past) ≡ event_on_header x t (header_made k t past)

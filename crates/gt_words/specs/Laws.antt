@@ -20,7 +20,7 @@ use Rattle.gt_types.specs.declared.config.DomainConfig.{DomainConfig}
 use Rattle.gt_types.specs.declared.limits.TheConstants.{TABLE_ENTRIES}
 use Rattle.gt_words.specs.Conditions.{Board, HasDomain, IsSeatOf, SeatOf, position_at}
 use Rattle.gt_words.specs.Controls.{generation_of, pins_in}
-use Rattle.gt_words.specs.Events.{entry_made, event_on_entry, event_on_header, header_made}
+use Rattle.gt_words.specs.Events.{Happens}
 use Rattle.gt_words.specs.History.{History, IsOwners, Says, place_of, word_after}
 use Rattle.gt_words.specs.Rule.{IsLawful, IsNextEntry, IsRevocation, Layout, Shows, Stands, header_place, id_at, layout_of}
 use Rattle.gt_words.specs.Rule.{owner_steps, place, position_in, total_until}
@@ -118,9 +118,7 @@ abbrev pub EachStepHappened : Type 0
 EachStepHappened =
     (k : Layout) (s : State (Unit {0}) View) (later h : History) (i : ℕ) (x : SeatStep) (shown : Shows k s)
     → shown.history ≡ later ++ (i, x) ∷ h
-    → ((z : State (Unit {0}) View) × Stands k h z) × Says x (word_after k h (place_of x))
-    × ((t r : ℕ) → entry_made k t r ((i, x) ∷ h) ≡ event_on_entry i x t r (entry_made k t r h))
-    × ((t : ℕ) → header_made k t ((i, x) ∷ h) ≡ event_on_header x t (header_made k t h))
+    → ((z : State (Unit {0}) View) × Stands k h z) × Says x (word_after k h (place_of x)) × Happens k i x h
 
 -- what words and views show has one history, by the views alone (own)
 abbrev pub HistoryIsOne : Type 0
