@@ -8,13 +8,13 @@ use Rattle.atomic_table.specs.Table.{State, keeps, stepped}
 use Rattle.atomic_table.proofs.Lists.{at_map, set_here}
 use Rattle.gt_types.specs.declared.Dir.{Dir}
 use Rattle.gt_words.proofs.Happening.{happens_here}
-use Rattle.gt_words.proofs.Lifts.{apart_test}
+use Rattle.gt_words.proofs.Lifts.{apart_test, parts_at}
 use Rattle.gt_words.proofs.Lists.{whose_at}
 use Rattle.gt_words.proofs.Moments.{beyond, goes_on}
 use Rattle.gt_words.proofs.OneEntry.{held_at}
 use Rattle.gt_words.proofs.Order.{part_else, part_here, within}
-use Rattle.gt_words.specs.Events.{Happens, entry_after, entry_by, entry_made, event_on_entry, event_on_header, header_made, parts_on}
-use Rattle.gt_words.specs.History.{HasLedTo, HeaderByOwner, History, IsByOwner, IsOwners, IsTrue, Layout, Says, part_of, place_of, word_after}
+use Rattle.gt_words.specs.Events.{Happens, entry_after, event_on_entry, event_on_header}
+use Rattle.gt_words.specs.History.{PinsLast, entry_by, entry_made, header_made, parts_on, HasLedTo, HeaderByOwner, History, IsByOwner, IsOwners, IsTrue, Layout, Says, part_of, place_of, word_after}
 use Rattle.gt_words.specs.Laws.{EachStepHappened}
 use Rattle.gt_words.specs.Rule.{HasStood, Shows, Stands, owner_steps, total_pins}
 use Rattle.gt_words.specs.Steps.{TakesStep}
@@ -27,9 +27,9 @@ use Rattle.gt_words.specs.declared.view.SeatStep.TheVariants.{Entry, Header}
 use Rattle.gt_words.specs.declared.view.View.{View}
 use Rattle.gt_words.specs.declared.word_table.TheConstants.{DOMAIN_WORDS}
 
-true_at : (k : Layout) (later h : History) (p : ℕ × SeatStep) → IsTrue k (later ++ p ∷ h) → Says p.1 (word_after k h (place_of p.1)) × IsOwners p.0 p.1
-true_at k [] h p is = (is.0, is.1)
-true_at k (q ∷ later) h p is = true_at k later h p is.2
+true_at : (k : Layout) (later h : History) (p : ℕ × SeatStep) → IsTrue k (later ++ p ∷ h) → Says p.1 (word_after k h (place_of p.1)) × IsOwners p.0 p.1 × PinsLast k h p.1
+true_at k [] h p is = (is.0, is.1, is.2)
+true_at k (q ∷ later) h p is = true_at k later h p is.3
 
 stood_at : (S : Type 0) (k : Layout) (later h : History) (p : ℕ × SeatStep) → HasStood S k (later ++ p ∷ h) → (z : State S View) × Stands k h z
 stood_at S k [] h p is = is.0
@@ -67,11 +67,6 @@ module _ (t r i : ℕ) (x : SeatStep) (h : History) where
       let here : entry_steps t r (part_of j ((i, x) ∷ h)) ≡ m ∷ entry_steps t r (part_of i h) = ap (λ (z : ℕ). entry_steps t r (part_of z ((i, x) ∷ h))) (let f : j ≡ i = omega arith in f) ∙ (ap (entry_steps t r) (part_here i x h) ∙ adds (part_of i h)) in
       λ z. here z ∷ rest z
   parts_set m adds (suc q) (suc n) j e l = let rest = parts_set m adds q n (suc j) (omega arith) (omega arith) in let f = part_else i x h j (λ g. omega arith) in λ z. entry_steps t r (f z) ∷ rest z
-
-parts_at : (t r : ℕ) (h : History) (q n j i : ℕ) → i ≡ q + j → q < n → get_elem? (parts_on t r h j n) q ≡ some (entry_steps t r (part_of i h))
-parts_at t r h q zero j i e l = absurd (omega arith)
-parts_at t r h zero (suc n) j i e l = ap (λ (z : ℕ). some (entry_steps t r (part_of z h))) (let f : j ≡ i = omega arith in f)
-parts_at t r h (suc q) (suc n) j i e l = parts_at t r h q n (suc j) i (omega arith) (omega arith)
 
 module _ (k : Layout) (i : ℕ) (h : History) (inside : i < k.domains) where
   on_entry : (d q : ℕ) (m : EntryStep) → IsByOwner i d m → (t r : ℕ) → entry_made k t r ((i, Entry d q m) ∷ h) ≡ event_on_entry i (Entry d q m) t r (entry_made k t r h)
@@ -130,22 +125,6 @@ module _ (k : Layout) (i : ℕ) (h : History) (inside : i < k.domains) where
 
 -- what a seat has of an entry is its part of the history
 module _ {S : Type 0} (k : Layout) (h : History) (s : State S View) (led : HasLedTo k h s) (t r i : ℕ) where
-  none_there : {A B : Type 0} (f : A → List B) (l : List A) (j : ℕ) → get_elem? l j ≡ none → get_or (map f l) j [] ≡ []
-  none_there f [] zero e = refl
-  none_there f [] (suc j) e = refl
-  none_there f (x ∷ xs) zero e = absurd (some-ne-none x e)
-  none_there f (x ∷ xs) (suc j) e = none_there f xs j e
-
-  pub part_there_is : get_or (map (steps_on t r) s.views) i [] ≡ entry_steps t r (part_of i h)
-  part_there_is = go (get_elem? s.views i) refl
-    where
-      go : (o : Maybe View) → get_elem? s.views i ≡ o → get_or (map (steps_on t r) s.views) i [] ≡ entry_steps t r (part_of i h)
-      go none e = none_there (steps_on t r) s.views i e ∙ sym (ap (entry_steps t r) (led.no_other i (beyond s.views i e)))
-      go (some v) e = whose_at (map (steps_on t r) s.views) i (steps_on t r v) (at_map (steps_on t r) s.views i v e) ∙ ap (entry_steps t r) (led.parts i v e).0
-
-  pub owner_made : i < k.domains → owner_steps i (parts_on t r h 0 k.domains) ≡ owner_steps i (map (steps_on t r) s.views)
-  owner_made inside = whose_at (parts_on t r h 0 k.domains) i (entry_steps t r (part_of i h)) (parts_at t r h i k.domains 0 i (omega arith) inside) ∙ sym part_there_is
-
   -- its pins are among all
   pub held_there : (d : Dir) → pin_count d (pins (entry_steps t r (part_of i h))) ≤ total_pins d (map (steps_on t r) s.views)
   held_there d = go (get_elem? s.views i) refl
@@ -169,6 +148,7 @@ takes {S} k s id v x at left shown here own inside there after = let h : History
       found_is = sym there_is;
       left_is = sym (next.led_here.words at inside) ∙ get_or-set_same s.words at left 0 (let wide = shown.now.wide in omega arith);
       says = subst (Says x) (ap (word_after k h) there ∙ sym there_is) is.0;
+      of_last = is.2;
       happens = subst (λ (i : ℕ). Happens k i x h) (sym own) (record { entries = entries k id h lt x is.1; headers = headers k id h lt x is.1 });
     }
 
@@ -179,4 +159,4 @@ each_happened k s later h i x shown is = let led = shown.now.led_here in
     let some_part : 0 < length (part_of i shown.history) = subst (λ (g : History). 0 < length (part_of i g)) (sym is) (part_there later h (i, x)) in
     let seat : i < length s.views = lt_of_not-le (λ l. let e : length (part_of i shown.history) ≡ 0 = ap length (led.no_other i l) in omega arith) in
     let few = shown.now.dealt.1 in let inside : i < k.domains = omega arith in
-    (stood_at (Unit {0}) k later h (i, x) (subst (HasStood (Unit {0}) k) is shown.stood), there.0, record { entries = entries k i h inside x there.1; headers = headers k i h inside x there.1 })
+    record { stood = stood_at (Unit {0}) k later h (i, x) (subst (HasStood (Unit {0}) k) is shown.stood); says = there.0; of_last = there.2; happens = record { entries = entries k i h inside x there.1; headers = headers k i h inside x there.1 } }

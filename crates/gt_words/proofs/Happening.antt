@@ -10,7 +10,8 @@ use Rattle.atomic_table.proofs.Lists.{at_map, set_again}
 use Rattle.gt_words.proofs.Lifts.{added, apart_test, map_else, map_here}
 use Rattle.gt_words.proofs.Lists.{whose_at, whose_here}
 use Rattle.gt_words.proofs.OneEntry.{same_owner}
-use Rattle.gt_words.specs.Events.{Happens, IsByOwner, entry_after, entry_by, event_on_entry}
+use Rattle.gt_words.specs.Events.{IsByOwner, entry_after}
+use Rattle.gt_words.specs.History.{entry_by}
 use Rattle.gt_words.specs.History.{History}
 use Rattle.gt_words.specs.Rule.{Layout, header_now, owner_steps}
 use Rattle.gt_words.specs.Steps.{on_entry}

@@ -16,12 +16,12 @@ use Rattle.gt_entry.specs.Words.{header_of, header_word, size_of}
 use Rattle.gt_entry.specs.declared.header.Header.{Header}
 use Rattle.gt_types.specs.declared.limits.TheConstants.{ENTRIES_V1, ENTRIES_V2, TABLE_ENTRIES}
 use Rattle.gt_words.specs.Conditions.{AddsToHeader, LooksAtHeader, StepsOnHeader, StoresHeader}
-use Rattle.gt_words.specs.Events.{Happens, HeaderByOwner, entry_by, event_on_header, header_after}
+use Rattle.gt_words.specs.Events.{HeaderByOwner, header_after}
 use Rattle.gt_words.proofs.Order.{leads_on}
 use Rattle.gt_words.specs.History.{HasLedTo, History, Says, left_by}
-use Rattle.gt_words.specs.Rule.{IsHeader, IsKeptHeader, Layout, SawHeaders, Shows, HasStood, Stands, ShowsEntry, header_now, header_place, headers_of, place}
+use Rattle.gt_words.specs.Rule.{IsHeader, IsKeptHeader, Layout, Shows, HasStood, Stands, ShowsEntry, header_now, header_place, place}
 use Rattle.gt_words.specs.Steps.{TakesStep, looking_at_header, on_header, storing_header, tells, tells_stored}
-use Rattle.gt_words.specs.Views.{IsIn, own, own_header, seen_header, steps_on, steps_on_header, stored_header, stored_headers, with_step}
+use Rattle.gt_words.specs.Views.{IsIn, own, own_header, steps_on, steps_on_header, stored_header, with_step}
 use Rattle.gt_words.specs.declared.view.EntryStep.{EntryStep}
 use Rattle.gt_words.specs.declared.view.HeaderStep.{HeaderStep}
 use Rattle.gt_words.specs.declared.view.View.{View}
@@ -41,40 +41,10 @@ header_now-set k t hs i h (header.Looked n) at own = let w : ℕ = get_or k.head
 header_now-set k t hs i h (header.Stored n) at own = let m : HeaderStep = header.Stored n in
     ap (stored_header (get_or k.headers t 0)) (subst (λ (z : ℕ). get_or (set hs i (m ∷ h)) z [] ≡ m ∷ h) own (whose_here hs i h (m ∷ h) at))
 
-stored_header-listed : (w : ℕ) (ms : List HeaderStep) → IsIn (stored_header w ms) (stored_headers w ms)
-stored_header-listed w [] = inl refl
-stored_header-listed w (header.Stored n ∷ ms) = inl refl
-stored_header-listed w (header.Looked n ∷ ms) = stored_header-listed w ms
-
-stored_headers-more : (w : ℕ) (m : HeaderStep) (ms : List HeaderStep) (n : ℕ) → IsIn n (stored_headers w ms) → IsIn n (stored_headers w (m ∷ ms))
-stored_headers-more w (header.Stored k) ms n h = inr h
-stored_headers-more w (header.Looked k) ms n h = h
-
--- the list of the owner keeps its headers
-headers_of-set : (k : Layout) (t : ℕ) (hs : List (List HeaderStep)) (i : ℕ) (h : List HeaderStep) (m : HeaderStep) → get_elem? hs i ≡ some h → (n : ℕ) → IsIn n (headers_of k t hs) → IsIn n (headers_of k t (set hs i (m ∷ h)))
-headers_of-set k t hs i h m at n here = let w : ℕ = get_or k.headers t 0 in dite (ℕ_discrete i t)
-    (λ e. subst (λ (l : List HeaderStep). IsIn n (stored_headers w l)) (sym (subst (λ (z : ℕ). get_or (set hs i (m ∷ h)) z [] ≡ m ∷ h) e (whose_here hs i h (m ∷ h) at)))
-    (stored_headers-more w m h n (subst (λ (l : List HeaderStep). IsIn n (stored_headers w l)) (subst (λ (z : ℕ). get_or hs z [] ≡ h) e (whose_at hs i h at)) here)))
-    (λ ne. subst (λ (l : List HeaderStep). IsIn n (stored_headers w l)) (sym (get_or-set_other hs i t (m ∷ h) [] (λ e. ne (sym e)))) here)
-
 -- a look finds this header
 abbrev Finds : HeaderStep → ℕ → Type 0
 Finds (header.Looked n) w = n ≡ w
 Finds (header.Stored n) w = Unit {0}
-
--- after a step of the seat i, whose steps on the header were h
-module _ (k : Layout) (t : ℕ) (hs : List (List HeaderStep)) (i : ℕ) (h : List HeaderStep) (at : get_elem? hs i ≡ some h) where
-  still_saw : (m : HeaderStep) (s : Option ℕ) → IfSome s (λ n. IsIn n (headers_of k t hs)) → IfSome s (λ n. IsIn n (headers_of k t (set hs i (m ∷ h))))
-  still_saw m None saw = tt
-  still_saw m (Some n) saw = headers_of-set k t hs i h m at n saw
-
-  saw_here : (m : HeaderStep) → Finds m (header_now k t hs) → IfSome (seen_header h) (λ n. IsIn n (headers_of k t hs)) → IfSome (seen_header (m ∷ h)) (λ n. IsIn n (headers_of k t (set hs i (m ∷ h))))
-  saw_here (header.Looked n) finds saw = headers_of-set k t hs i h (header.Looked n) at n (subst (λ (u : ℕ). IsIn u (headers_of k t hs)) (sym finds) (stored_header-listed (get_or k.headers t 0) (get_or hs t [])))
-  saw_here (header.Stored n) finds saw = still_saw (header.Stored n) (seen_header h) saw
-
-  saw_headers-set : (m : HeaderStep) → Finds m (header_now k t hs) → SawHeaders k t hs → SawHeaders k t (set hs i (m ∷ h))
-  saw_headers-set m finds saw j y e = ⊎_elim (λ (q : (j ≡ i) × ((m ∷ h) ≡ y)). subst (λ (z : List HeaderStep). IfSome (seen_header z) (λ n. IsIn n (headers_of k t (set hs i (m ∷ h))))) q.1 (saw_here m finds (saw i h at)))
-      (λ (q : (j ≢ i) × (get_elem? hs j ≡ some y)). still_saw m (seen_header y) (saw j y q.1)) (at_set hs i j (m ∷ h) y e)
 
 module _ {S : Type 0} (past : History) (k : Layout) (s : State S View) (id : ℕ) (v : View) (t : ℕ) (m : HeaderStep) (at : get_elem? s.views id ≡ some v) where
   abbrev w : View
@@ -107,10 +77,7 @@ module _ {S : Type 0} (past : History) (k : Layout) (s : State S View) (id : ℕ
             (p ∙ (is ∙ sym q), subst IsHeader (sym p) ok)))
             (λ n. let p : get_or (set s.words (header_place t) y) (header_place u) 0 ≡ get_or s.words (header_place u) 0 = get_or-set_other s.words (header_place t) (header_place u) y 0 (λ e. n (omega arith)) in
             let h = shown.now.headers u un in (p ∙ (h.0 ∙ ap (header_now k u) (sym (map_header_else u n))), subst IsHeader (sym p) h.1));
-        saw_headers = λ u un. dite (ℕ_discrete t u) (λ e. subst (λ (z : ℕ). SawHeaders k z (map (steps_on_header z) (set s.views id w))) e
-            (subst (SawHeaders k t) (sym map_header) (saw_headers-set k t (map (steps_on_header t) s.views) id (steps_on_header t v) (at_map (steps_on_header t) s.views id v at) m finds (shown.now.saw_headers t tn))))
-            (λ n. subst (SawHeaders k u) (sym (map_header_else u n)) (shown.now.saw_headers u un));
-        led_here = leads_on k s id v past (on_header t m) (header_place t) y at now.led_here seat shown.now.wide (omega arith) refl (is ∙ left m (sym (shown.now.headers t tn).0)) (says m (finds_there m finds (sym (shown.now.headers t tn).0))) own;
+        led_here = leads_on k s id v past (on_header t m) (header_place t) y at now.led_here seat shown.now.wide (omega arith) refl (is ∙ left m (sym (shown.now.headers t tn).0)) (says m (finds_there m finds (sym (shown.now.headers t tn).0))) own tt;
       };
     }
       where

@@ -104,7 +104,7 @@ module _ {S : Type 0} (k : Layout) (s : State S View) (i : ℕ) (v : View) (x : 
 pub taken_then : StepsAreTakenThen
 taken_then k s i v x past at left shown after here = let h : History = shown.history in
     let go = goes_on k s i v x past h after.history at left [] keeps shown.now.led_here after.now.led_here here in let is = subst (IsTrue k) go after.now.led_here.true_steps in
-    (knows_all k s i v x past h after.history at left [] keeps shown.now.led_here after.now.led_here here, go, is.1, λ l. subst (Says x) (sym (shown.now.led_here.words (place_of x) l)) is.0)
+    (knows_all k s i v x past h after.history at left [] keeps shown.now.led_here after.now.led_here here, go, is.1, is.2, λ l. subst (Says x) (sym (shown.now.led_here.words (place_of x) l)) is.0)
 
 -- a step that is allowed says what it finds
 pub allowed_says : AllowedStepsSayWhatIsThere

@@ -16,8 +16,8 @@ use Rattle.gt_entry.specs.declared.entry.Entry.TheVariants.{Invalid, Page, Sub, 
 use Rattle.gt_types.specs.declared.Dir.{Dir}
 use Rattle.gt_types.specs.declared.Dir.TheVariants.{Read, Write}
 use Rattle.gt_words.proofs.Kept.{AreAlike, body_generation, given_less, given_records, keeps, keeps_header, keeps_others, keeps_pins, keeps_rows, sees_no_earlier, some_more, taken_more, taken_records, there_is}
-use Rattle.gt_words.proofs.Happened.{held_there, owner_made}
-use Rattle.gt_words.proofs.Lifts.{inside, steps_on-added, steps_on-added-else}
+use Rattle.gt_words.proofs.Happened.{held_there}
+use Rattle.gt_words.proofs.Lifts.{inside, owner_made, steps_on-added, steps_on-added-else}
 use Rattle.gt_words.proofs.OneEntry.{count_in, held_at, idle_held, mine}
 use Rattle.gt_words.proofs.Owed.{spelled_generation}
 use Rattle.gt_words.specs.Keeping.{HoldsOneMore, generation_in}

@@ -20,10 +20,9 @@ use Rattle.gt_types.specs.declared.config.Config.{Config}
 use Rattle.gt_types.specs.declared.config.StartFault.{StartFault}
 use Rattle.gt_types.specs.declared.limits.TheConstants.{LAST_GENERATION, MAX_DOMAINS, MAX_PINS, TABLE_ENTRIES}
 use Rattle.gt_words.specs.Controls.{ForwardsPin, IsValid, LeadsTo, PermitsPin, generation_of, pins_in}
-use Rattle.gt_words.specs.Events.{entry_made}
 pub use Rattle.gt_words.specs.Keeping.{Holds, HoldsOneMore, Keeps, KeepsOtherRows, KeepsPins, KeepsRecords, KeepsRows}
 pub use Rattle.gt_words.specs.Keeping.{SeesNoEarlier, seen_generation}
-use Rattle.gt_words.specs.History.{History, part_of}
+use Rattle.gt_words.specs.History.{History, entry_made, part_of}
 use Rattle.gt_words.specs.Rule.{IsKeptHeader, Layout, Shows, header_place, id_at, place, position_in}
 pub use Rattle.gt_words.specs.Rule.{initial}
 use Rattle.gt_words.specs.Steps.{TakesStep, changed, changed_word, half_index, on_entry, on_header}

@@ -11,7 +11,7 @@ use Rattle.gt_entry.specs.declared.change.Change.{Change}
 use Rattle.gt_types.specs.declared.Dir.{Dir}
 use Rattle.gt_words.specs.Controls.{demoted_word, invalid_word, promoted_word, withdrawn_word}
 use Rattle.gt_words.specs.Events.{Happens}
-use Rattle.gt_words.specs.History.{History, Says, word_after}
+use Rattle.gt_words.specs.History.{History, PinsLast, Says, word_after}
 pub use Rattle.gt_words.specs.History.{half_index}
 use Rattle.gt_words.specs.Rule.{Layout, Stands}
 use Rattle.gt_words.specs.Views.{last_of, last_seen, record_seen, with_step}
@@ -36,7 +36,7 @@ StoodWith S k past v = (z : State S View) × Stands k past z × (get_elem? z.vie
 
 -- The seat with the view v takes the step x on this word, after the steps past of all seats. Words and views
 -- showed a state before it and after it. It finds the number that those steps make of the word, says so, and leaves
--- the other. It takes the state that they make to the one that the core's event gives (own)
+-- the other. A pin is of the last record then. It takes the state that they make to what the core's event gives (own)
 pub record TakesStep (S : Type 0) (k : Layout) (v : View) (past : History) (x : SeatStep)
     (word found left : ℕ) : Type 0 where
   pub stood : StoodWith S k past v
@@ -44,6 +44,7 @@ pub record TakesStep (S : Type 0) (k : Layout) (v : View) (past : History) (x : 
   pub found_is : word_after k past word ≡ found
   pub left_is : word_after k ((v.position, x) ∷ past) word ≡ left
   pub says : Says x found
+  pub of_last : PinsLast k past x
   pub happens : Happens k v.position x past
 
 -- a step on the entry r of the domain t (own)
