@@ -5,7 +5,7 @@ use mathlib.Core.Option.{some, some-injective, some-ne-none}
 use lib.ListN.{get_elem?}
 use Rattle.gt_types.specs.declared.Dir.{Dir}
 use Rattle.gt_types.specs.declared.Dir.TheVariants.{Read, Write}
-use Rattle.gt_words.proofs.Records.{legal_record, spelled_parts, total_taken-most, total_taken-set}
+use Rattle.gt_words.proofs.Records.{legal_record, spelled_parts}
 use Rattle.gt_words.specs.Controls.{generation_of, pins_in}
 use Rattle.gt_words.specs.Rule.{HasGoneOn, IsNextEntry, IsRevocation, MayFollow, ShowsRecord, total_pins, total_until}
 use Rattle.gt_words.specs.Views.{LivePin, is_same_dir, pin_count, pins, pins_until, weight, without_pin}
@@ -49,7 +49,6 @@ module _ (hs : List (List EntryStep)) (i : ℕ) (h : List EntryStep) (m : EntryS
     not_later = k.not_later;
     earlier = k.earlier;
     left = λ d. let l = k.left d in let s = until_set d (generation_of e) hs i at (fewer d) in omega arith;
-    taken = λ d. let l = k.taken d in let s = total_taken-set d hs i h m at in omega arith;
   }
     where
       until_set : (d : Dir) (g : ℕ) (hs : List (List EntryStep)) (i : ℕ) → get_elem? hs i ≡ some h → pins_until d g (pins (m ∷ h)) ≤ pins_until d g (pins h) → total_until d g (set hs i (m ∷ h)) ≤ total_until d g hs
@@ -63,7 +62,6 @@ goes_on x y hs e may k = let l = k.not_later in record {
   not_later = ⊎_elim (λ (t : IsRevocation y x). let g = t.1 in omega arith) (λ (t : IsNextEntry y x). let g = t.0 in omega arith) may;
   earlier = λ n. ⊎_elim (λ (t : IsRevocation y x). absurd (n t.0)) (λ (t : IsNextEntry y x). let g = t.0 in omega arith) may;
   left = k.left;
-  taken = k.taken;
 }
 
 -- it goes on from the word of x, which counts all pins
@@ -73,7 +71,6 @@ goes_on_here x xs y word a b hs may k = let p = spelled_parts x.entry x.generati
       not_later = ⊎_elim (λ (t : IsRevocation y x). let l = t.1 in omega arith) (λ (t : IsNextEntry y x). let l = t.0 in omega arith) may;
       earlier = λ n. ⊎_elim (λ (t : IsRevocation y x). absurd (n t.0)) (λ (t : IsNextEntry y x). let l = t.0 in omega arith) may;
       left = λ d. let c = counts d in let l = total_until-most d (generation_of word) hs in omega arith;
-      taken = λ d. let c = counts d in let l = total_taken-most d hs in omega arith;
     }
   where
     counts : (d : Dir) → pins_in d word ≡ total_pins d hs

@@ -1,28 +1,35 @@
 -- Each step of a history takes what the steps before it make to what its event gives.
-use Rattle.std.proofs.Common.{◌≡◌, ◌≢◌, ℕ, zero, suc, ◌+◌, ◌<◌, ◌≤◌, Bool, true, false, cond, ◌==◌, ◌&&◌, List, [], ◌∷◌, ◌++◌, length, get_or, set, sym, refl, ap, ◌∙◌, subst, arith, eq-eqb, ne_eqb, lt_of_not-le}
-use mathlib.Core.Option.{some}
+use Rattle.std.proofs.Common.{◌≡◌, ◌≢◌, ℕ, zero, suc, ◌+◌, ◌<◌, ◌≤◌, Bool, true, false, cond, ◌==◌, ◌&&◌, List, [], ◌∷◌, ◌++◌, ◌*◌, length, map, get_or, get_or-set_same, set, sym, refl, ap, ◌∙◌, subst, arith, eq-eqb, ne_eqb, lt_of_not-le}
+use mathlib.Core.Option.{Option as Maybe, none, some, some-ne-none}
 use mathlib.Core.Logic.{dite}
 use native.Mathlib.Decide.{ℕ_discrete}
 use lib.ListN.{get_elem?}
-use Rattle.atomic_table.specs.Table.{State}
+use Rattle.atomic_table.specs.Table.{State, keeps, stepped}
+use Rattle.atomic_table.proofs.Lists.{at_map, set_here}
+use Rattle.gt_types.specs.declared.Dir.{Dir}
 use Rattle.gt_words.proofs.Happening.{happens_here}
-use Rattle.gt_words.proofs.Lifts.{apart_test}
-use Rattle.gt_words.proofs.Order.{part_else, part_here}
-use Rattle.gt_words.specs.Events.{entry_after, entry_by, entry_made, event_on_entry, event_on_header, header_made, parts_on}
-use Rattle.gt_words.specs.History.{HeaderByOwner, History, IsByOwner, IsOwners, IsTrue, Layout, Says, part_of, place_of, word_after}
+use Rattle.gt_words.proofs.Lifts.{apart_test, parts_at}
+use Rattle.gt_words.proofs.Lists.{whose_at}
+use Rattle.gt_words.proofs.Moments.{beyond, goes_on}
+use Rattle.gt_words.proofs.OneEntry.{held_at}
+use Rattle.gt_words.proofs.Order.{part_else, part_here, within}
+use Rattle.gt_words.specs.Events.{Happens, entry_after, event_on_entry, event_on_header}
+use Rattle.gt_words.specs.History.{PinsLast, entry_by, entry_made, header_made, parts_on, HasLedTo, HeaderByOwner, History, IsByOwner, IsOwners, IsTrue, Layout, Says, part_of, place_of, word_after}
 use Rattle.gt_words.specs.Laws.{EachStepHappened}
-use Rattle.gt_words.specs.Rule.{HasStood, Stands}
-use Rattle.gt_words.specs.Views.{entry_steps, header_steps, stored_header}
+use Rattle.gt_words.specs.Rule.{HasStood, Shows, Stands, owner_steps, total_pins}
+use Rattle.gt_words.specs.Steps.{TakesStep}
+use Rattle.gt_words.specs.Views.{entry_steps, header_steps, pin_count, pins, steps_on, stored_header, with_step}
 use Rattle.gt_words.specs.declared.view.EntryStep.{EntryStep}
 use Rattle.gt_words.specs.declared.view.HeaderStep.{HeaderStep}
 use Rattle.gt_words.specs.declared.view.HeaderStep.TheVariants as header
 use Rattle.gt_words.specs.declared.view.SeatStep.{SeatStep}
 use Rattle.gt_words.specs.declared.view.SeatStep.TheVariants.{Entry, Header}
 use Rattle.gt_words.specs.declared.view.View.{View}
+use Rattle.gt_words.specs.declared.word_table.TheConstants.{DOMAIN_WORDS}
 
-true_at : (k : Layout) (later h : History) (p : ℕ × SeatStep) → IsTrue k (later ++ p ∷ h) → Says p.1 (word_after k h (place_of p.1)) × IsOwners p.0 p.1
-true_at k [] h p is = (is.0, is.1)
-true_at k (q ∷ later) h p is = true_at k later h p is.2
+true_at : (k : Layout) (later h : History) (p : ℕ × SeatStep) → IsTrue k (later ++ p ∷ h) → Says p.1 (word_after k h (place_of p.1)) × IsOwners p.0 p.1 × PinsLast k h p.1
+true_at k [] h p is = (is.0, is.1, is.2)
+true_at k (q ∷ later) h p is = true_at k later h p is.3
 
 stood_at : (S : Type 0) (k : Layout) (later h : History) (p : ℕ × SeatStep) → HasStood S k (later ++ p ∷ h) → (z : State S View) × Stands k h z
 stood_at S k [] h p is = is.0
@@ -39,15 +46,15 @@ part_there (q ∷ later) h p = longer (q.0 == p.0) q.1 (part_of p.0 (later ++ p 
 module _ (t r i : ℕ) (x : SeatStep) (h : History) where
   -- a step that is on no such entry
   same_part : ((l : List SeatStep) → entry_steps t r (x ∷ l) ≡ entry_steps t r l) → (j : ℕ) → entry_steps t r (part_of j ((i, x) ∷ h)) ≡ entry_steps t r (part_of j h)
-  same_part none j = by (i == j)
+  same_part off j = by (i == j)
     where
       by : (b : Bool) → entry_steps t r (cond b (x ∷ part_of j h) (part_of j h)) ≡ entry_steps t r (part_of j h)
-      by true = none (part_of j h)
+      by true = off (part_of j h)
       by false = refl
 
   same_parts : ((l : List SeatStep) → entry_steps t r (x ∷ l) ≡ entry_steps t r l) → (j n : ℕ) → parts_on t r ((i, x) ∷ h) j n ≡ parts_on t r h j n
-  same_parts none j zero = refl
-  same_parts none j (suc n) = λ z. same_part none j z ∷ same_parts none (suc j) n z
+  same_parts off j zero = refl
+  same_parts off j (suc n) = λ z. same_part off j z ∷ same_parts off (suc j) n z
 
   past_parts : (j n : ℕ) → i < j → parts_on t r ((i, x) ∷ h) j n ≡ parts_on t r h j n
   past_parts j zero l = refl
@@ -60,11 +67,6 @@ module _ (t r i : ℕ) (x : SeatStep) (h : History) where
       let here : entry_steps t r (part_of j ((i, x) ∷ h)) ≡ m ∷ entry_steps t r (part_of i h) = ap (λ (z : ℕ). entry_steps t r (part_of z ((i, x) ∷ h))) (let f : j ≡ i = omega arith in f) ∙ (ap (entry_steps t r) (part_here i x h) ∙ adds (part_of i h)) in
       λ z. here z ∷ rest z
   parts_set m adds (suc q) (suc n) j e l = let rest = parts_set m adds q n (suc j) (omega arith) (omega arith) in let f = part_else i x h j (λ g. omega arith) in λ z. entry_steps t r (f z) ∷ rest z
-
-parts_at : (t r : ℕ) (h : History) (q n j i : ℕ) → i ≡ q + j → q < n → get_elem? (parts_on t r h j n) q ≡ some (entry_steps t r (part_of i h))
-parts_at t r h q zero j i e l = absurd (omega arith)
-parts_at t r h zero (suc n) j i e l = ap (λ (z : ℕ). some (entry_steps t r (part_of z h))) (let f : j ≡ i = omega arith in f)
-parts_at t r h (suc q) (suc n) j i e l = parts_at t r h q n (suc j) i (omega arith) (omega arith)
 
 module _ (k : Layout) (i : ℕ) (h : History) (inside : i < k.domains) where
   on_entry : (d q : ℕ) (m : EntryStep) → IsByOwner i d m → (t r : ℕ) → entry_made k t r ((i, Entry d q m) ∷ h) ≡ event_on_entry i (Entry d q m) t r (entry_made k t r h)
@@ -121,6 +123,35 @@ module _ (k : Layout) (i : ℕ) (h : History) (inside : i < k.domains) where
       (λ ne. let f : (d == t) ≡ false = ne_eqb d t (λ z. ne (may ∙ z)) in
       ap (λ (l : List SeatStep). stored_header (get_or k.headers t 0) (header_steps t l)) (part_else i (Header d (header.Stored n)) h t ne) ∙ ap (λ (b : Bool). cond b n (header_made k t h)) (sym f))
 
+-- what a seat has of an entry is its part of the history
+module _ {S : Type 0} (k : Layout) (h : History) (s : State S View) (led : HasLedTo k h s) (t r i : ℕ) where
+  -- its pins are among all
+  pub held_there : (d : Dir) → pin_count d (pins (entry_steps t r (part_of i h))) ≤ total_pins d (map (steps_on t r) s.views)
+  held_there d = go (get_elem? s.views i) refl
+    where
+      go : (o : Maybe View) → get_elem? s.views i ≡ o → pin_count d (pins (entry_steps t r (part_of i h))) ≤ total_pins d (map (steps_on t r) s.views)
+      go none e = subst (λ (l : List SeatStep). pin_count d (pins (entry_steps t r l)) ≤ total_pins d (map (steps_on t r) s.views)) (sym (led.no_other i (beyond s.views i e))) (omega arith)
+      go (some v) e = subst (λ (l : List EntryStep). pin_count d (pins l) ≤ total_pins d (map (steps_on t r) s.views)) (ap (entry_steps t r) (led.parts i v e).0) (held_at d (map (steps_on t r) s.views) i (steps_on t r v) (at_map (steps_on t r) s.views i v e))
+
+seated : {S : Type 0} (k : Layout) (h : History) (s : State S View) (id : ℕ) (v : View) → Stands k h s → get_elem? s.views id ≡ some v → id < k.domains
+seated k h s id v stands here = let l = within s.views id v here in let few = stands.dealt.1 in omega arith
+
+-- a step from a state that is shown to another is taken then
+pub takes : {S : Type 0} (k : Layout) (s : State S View) (id : ℕ) (v : View) (x : SeatStep) (at left : ℕ) (shown : Shows k s) → get_elem? s.views id ≡ some v → v.position ≡ id → at < k.domains * DOMAIN_WORDS → place_of x ≡ at
+    → Shows k (stepped s at left id [] (with_step shown.history x v) keeps) → TakesStep S k v shown.history x at (get_or s.words at 0) left
+takes {S} k s id v x at left shown here own inside there after = let h : History = shown.history in let w : View = with_step h x v in let z : State S View = stepped s at left id [] w keeps in
+    let go = goes_on k s id v x h h after.history at left [] keeps shown.now.led_here after.now.led_here here in let is = subst (IsTrue k) go after.now.led_here.true_steps in
+    let next : Stands k ((v.position, x) ∷ h) z = subst (λ (i : ℕ). Stands k ((i, x) ∷ h) z) (sym own) (subst (λ (g : History). Stands k g z) go after.now) in
+    let lt = seated k h s id v shown.now here in let there_is = shown.now.led_here.words at inside in record {
+      stood = (s, shown.now, subst (λ (i : ℕ). get_elem? s.views i ≡ some v) (sym own) here);
+      still_stands = (z, next, subst (λ (i : ℕ). get_elem? z.views i ≡ some w) (sym own) (set_here s.views id w (within s.views id v here)));
+      found_is = sym there_is;
+      left_is = sym (next.led_here.words at inside) ∙ get_or-set_same s.words at left 0 (let wide = shown.now.wide in omega arith);
+      says = subst (Says x) (ap (word_after k h) there ∙ sym there_is) is.0;
+      of_last = is.2;
+      happens = subst (λ (i : ℕ). Happens k i x h) (sym own) (record { entries = entries k id h lt x is.1; headers = headers k id h lt x is.1 });
+    }
+
 -- each step of a history happened
 pub each_happened : EachStepHappened
 each_happened k s later h i x shown is = let led = shown.now.led_here in
@@ -128,4 +159,4 @@ each_happened k s later h i x shown is = let led = shown.now.led_here in
     let some_part : 0 < length (part_of i shown.history) = subst (λ (g : History). 0 < length (part_of i g)) (sym is) (part_there later h (i, x)) in
     let seat : i < length s.views = lt_of_not-le (λ l. let e : length (part_of i shown.history) ≡ 0 = ap length (led.no_other i l) in omega arith) in
     let few = shown.now.dealt.1 in let inside : i < k.domains = omega arith in
-    (stood_at (Unit {0}) k later h (i, x) (subst (HasStood (Unit {0}) k) is shown.stood), there.0, entries k i h inside x there.1, headers k i h inside x there.1)
+    record { stood = stood_at (Unit {0}) k later h (i, x) (subst (HasStood (Unit {0}) k) is shown.stood); says = there.0; of_last = there.2; happens = record { entries = entries k i h inside x there.1; headers = headers k i h inside x there.1 } }

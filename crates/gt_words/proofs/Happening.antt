@@ -10,7 +10,8 @@ use Rattle.atomic_table.proofs.Lists.{at_map, set_again}
 use Rattle.gt_words.proofs.Lifts.{added, apart_test, map_else, map_here}
 use Rattle.gt_words.proofs.Lists.{whose_at, whose_here}
 use Rattle.gt_words.proofs.OneEntry.{same_owner}
-use Rattle.gt_words.specs.Events.{Happens, IsByOwner, entry_after, entry_by, event_on_entry, shown_entry}
+use Rattle.gt_words.specs.Events.{IsByOwner, entry_after}
+use Rattle.gt_words.specs.History.{entry_by}
 use Rattle.gt_words.specs.History.{History}
 use Rattle.gt_words.specs.Rule.{Layout, header_now, owner_steps}
 use Rattle.gt_words.specs.Steps.{on_entry}
@@ -53,22 +54,3 @@ module _ (g t : ℕ) (hs : List (List EntryStep)) (i : ℕ) (h : List EntryStep)
   happens_here (StoredBody First n) may = owned (StoredBody First n) may refl ∙ (λ j. record { current = last_record g (mine_is may j); first = n; second = stored_body Second (mine_is may j); live = map pins hs })
   happens_here (StoredBody Second n) may = owned (StoredBody Second n) may refl ∙ (λ j. record { current = last_record g (mine_is may j); first = stored_body First (mine_is may j); second = n; live = map pins hs })
   happens_here (Changed c e n y) may = owned (Changed c e n y) may refl ∙ (λ j. record { current = y; first = stored_body First (mine_is may j); second = stored_body Second (mine_is may j); live = map pins hs })
-
-module _ {S : Type 0} (past : History) (k : Layout) (s : State S View) (id : ℕ) (v : View) (at : get_elem? s.views id ≡ some v) where
-  -- a step on an entry
-  pub entry_happens : (t r : ℕ) (m : EntryStep) (word y : ℕ) → IsByOwner id t m → Happens k id (on_entry t r m) s (stepped s word y id [] (added past t r m v) keeps)
-  entry_happens t r m word y may = record {
-    entries = λ t' r'. dite (ℕ_discrete t t') (λ e. dite (ℕ_discrete r r') (λ f. same t' r' e f) (λ f. else t' r' (λ _ g. f g))) (λ e. else t' r' (λ g _. e g));
-    headers = λ t'. ap (header_now k t') (map-set (steps_on_header t') s.views id (added past t r m v) ∙ set_again (map (steps_on_header t') s.views) id (steps_on_header t' v) (at_map (steps_on_header t') s.views id v at));
-  }
-    where
-      here : entry_by k.first t (map (steps_on t r) (set s.views id (added past t r m v))) ≡ entry_after id m (shown_entry k t r s)
-      here = ap (entry_by k.first t) (map_here past s id v t r m at) ∙ happens_here k.first t (map (steps_on t r) s.views) id (steps_on t r v) (at_map (steps_on t r) s.views id v at) m may
-
-      same : (t' r' : ℕ) → t ≡ t' → r ≡ r' → entry_by k.first t' (map (steps_on t' r') (set s.views id (added past t r m v))) ≡ event_on_entry id (on_entry t r m) t' r' (shown_entry k t' r' s)
-      same t' r' e f = subst (λ (z : ℕ × ℕ). entry_by k.first z.0 (map (steps_on z.0 z.1) (set s.views id (added past t r m v))) ≡ entry_after id m (shown_entry k z.0 z.1 s)) (λ i. (e i, f i)) here
-          ∙ ap (λ (b : Bool). cond b (entry_after id m (shown_entry k t' r' s)) (shown_entry k t' r' s)) (sym (let b : ((t == t') && (r == r')) ≡ true = λ i. eq-eqb t t' e i && eq-eqb r r' f i in b))
-
-      else : (t' r' : ℕ) → (t ≡ t' → r ≡ r' → ⊥) → entry_by k.first t' (map (steps_on t' r') (set s.views id (added past t r m v))) ≡ event_on_entry id (on_entry t r m) t' r' (shown_entry k t' r' s)
-      else t' r' n = ap (entry_by k.first t') (map_else past s id v t r m at t' r' n)
-          ∙ ap (λ (b : Bool). cond b (entry_after id m (shown_entry k t' r' s)) (shown_entry k t' r' s)) (sym (apart_test t r t' r' n))

@@ -16,12 +16,12 @@ use Rattle.gt_entry.specs.Words.{header_of, header_word, size_of}
 use Rattle.gt_entry.specs.declared.header.Header.{Header}
 use Rattle.gt_types.specs.declared.limits.TheConstants.{ENTRIES_V1, ENTRIES_V2, TABLE_ENTRIES}
 use Rattle.gt_words.specs.Conditions.{AddsToHeader, LooksAtHeader, StepsOnHeader, StoresHeader}
-use Rattle.gt_words.specs.Events.{Happens, HeaderByOwner, entry_by, event_on_header, header_after, shown_header}
+use Rattle.gt_words.specs.Events.{HeaderByOwner, header_after}
 use Rattle.gt_words.proofs.Order.{leads_on}
 use Rattle.gt_words.specs.History.{HasLedTo, History, Says, left_by}
-use Rattle.gt_words.specs.Rule.{IsHeader, IsKeptHeader, Layout, SawHeaders, Shows, HasStood, Stands, ShowsEntry, header_now, header_place, headers_of, place}
+use Rattle.gt_words.specs.Rule.{IsHeader, IsKeptHeader, Layout, Shows, HasStood, Stands, ShowsEntry, header_now, header_place, place}
 use Rattle.gt_words.specs.Steps.{TakesStep, looking_at_header, on_header, storing_header, tells, tells_stored}
-use Rattle.gt_words.specs.Views.{IsIn, own, own_header, seen_header, steps_on, steps_on_header, stored_header, stored_headers, with_step}
+use Rattle.gt_words.specs.Views.{IsIn, own, own_header, steps_on, steps_on_header, stored_header, with_step}
 use Rattle.gt_words.specs.declared.view.EntryStep.{EntryStep}
 use Rattle.gt_words.specs.declared.view.HeaderStep.{HeaderStep}
 use Rattle.gt_words.specs.declared.view.View.{View}
@@ -41,40 +41,10 @@ header_now-set k t hs i h (header.Looked n) at own = let w : ℕ = get_or k.head
 header_now-set k t hs i h (header.Stored n) at own = let m : HeaderStep = header.Stored n in
     ap (stored_header (get_or k.headers t 0)) (subst (λ (z : ℕ). get_or (set hs i (m ∷ h)) z [] ≡ m ∷ h) own (whose_here hs i h (m ∷ h) at))
 
-stored_header-listed : (w : ℕ) (ms : List HeaderStep) → IsIn (stored_header w ms) (stored_headers w ms)
-stored_header-listed w [] = inl refl
-stored_header-listed w (header.Stored n ∷ ms) = inl refl
-stored_header-listed w (header.Looked n ∷ ms) = stored_header-listed w ms
-
-stored_headers-more : (w : ℕ) (m : HeaderStep) (ms : List HeaderStep) (n : ℕ) → IsIn n (stored_headers w ms) → IsIn n (stored_headers w (m ∷ ms))
-stored_headers-more w (header.Stored k) ms n h = inr h
-stored_headers-more w (header.Looked k) ms n h = h
-
--- the list of the owner keeps its headers
-headers_of-set : (k : Layout) (t : ℕ) (hs : List (List HeaderStep)) (i : ℕ) (h : List HeaderStep) (m : HeaderStep) → get_elem? hs i ≡ some h → (n : ℕ) → IsIn n (headers_of k t hs) → IsIn n (headers_of k t (set hs i (m ∷ h)))
-headers_of-set k t hs i h m at n here = let w : ℕ = get_or k.headers t 0 in dite (ℕ_discrete i t)
-    (λ e. subst (λ (l : List HeaderStep). IsIn n (stored_headers w l)) (sym (subst (λ (z : ℕ). get_or (set hs i (m ∷ h)) z [] ≡ m ∷ h) e (whose_here hs i h (m ∷ h) at)))
-    (stored_headers-more w m h n (subst (λ (l : List HeaderStep). IsIn n (stored_headers w l)) (subst (λ (z : ℕ). get_or hs z [] ≡ h) e (whose_at hs i h at)) here)))
-    (λ ne. subst (λ (l : List HeaderStep). IsIn n (stored_headers w l)) (sym (get_or-set_other hs i t (m ∷ h) [] (λ e. ne (sym e)))) here)
-
 -- a look finds this header
 abbrev Finds : HeaderStep → ℕ → Type 0
 Finds (header.Looked n) w = n ≡ w
 Finds (header.Stored n) w = Unit {0}
-
--- after a step of the seat i, whose steps on the header were h
-module _ (k : Layout) (t : ℕ) (hs : List (List HeaderStep)) (i : ℕ) (h : List HeaderStep) (at : get_elem? hs i ≡ some h) where
-  still_saw : (m : HeaderStep) (s : Option ℕ) → IfSome s (λ n. IsIn n (headers_of k t hs)) → IfSome s (λ n. IsIn n (headers_of k t (set hs i (m ∷ h))))
-  still_saw m None saw = tt
-  still_saw m (Some n) saw = headers_of-set k t hs i h m at n saw
-
-  saw_here : (m : HeaderStep) → Finds m (header_now k t hs) → IfSome (seen_header h) (λ n. IsIn n (headers_of k t hs)) → IfSome (seen_header (m ∷ h)) (λ n. IsIn n (headers_of k t (set hs i (m ∷ h))))
-  saw_here (header.Looked n) finds saw = headers_of-set k t hs i h (header.Looked n) at n (subst (λ (u : ℕ). IsIn u (headers_of k t hs)) (sym finds) (stored_header-listed (get_or k.headers t 0) (get_or hs t [])))
-  saw_here (header.Stored n) finds saw = still_saw (header.Stored n) (seen_header h) saw
-
-  saw_headers-set : (m : HeaderStep) → Finds m (header_now k t hs) → SawHeaders k t hs → SawHeaders k t (set hs i (m ∷ h))
-  saw_headers-set m finds saw j y e = ⊎_elim (λ (q : (j ≡ i) × ((m ∷ h) ≡ y)). subst (λ (z : List HeaderStep). IfSome (seen_header z) (λ n. IsIn n (headers_of k t (set hs i (m ∷ h))))) q.1 (saw_here m finds (saw i h at)))
-      (λ (q : (j ≢ i) × (get_elem? hs j ≡ some y)). still_saw m (seen_header y) (saw j y q.1)) (at_set hs i j (m ∷ h) y e)
 
 module _ {S : Type 0} (past : History) (k : Layout) (s : State S View) (id : ℕ) (v : View) (t : ℕ) (m : HeaderStep) (at : get_elem? s.views id ≡ some v) where
   abbrev w : View
@@ -89,26 +59,8 @@ module _ {S : Type 0} (past : History) (k : Layout) (s : State S View) (id : ℕ
   map_entry : (u r : ℕ) → map (steps_on u r) (set s.views id w) ≡ map (steps_on u r) s.views
   map_entry u r = map-set (steps_on u r) s.views id w ∙ set_again (map (steps_on u r) s.views) id (steps_on u r v) (at_map (steps_on u r) s.views id v at)
 
-  header_happens : (word y : ℕ) → HeaderByOwner id t m → Happens k id (on_header t m) s (stepped s word y id [] w keeps)
-  header_happens word y own = record {
-    entries = λ u r. ap (entry_by k.first u) (map_entry u r);
-    headers = λ u. dite (ℕ_discrete t u) (same u) (other u);
-  }
-    where
-      here : header_now k t (map (steps_on_header t) (set s.views id w)) ≡ header_after m (shown_header k t s)
-      here = ap (header_now k t) map_header ∙ header_now-set k t (map (steps_on_header t) s.views) id (steps_on_header t v) m (at_map (steps_on_header t) s.views id v at) own
-
-      chosen : (u : ℕ) (b c : Bool) → b ≡ c → cond b (header_after m (shown_header k u s)) (shown_header k u s) ≡ cond c (header_after m (shown_header k u s)) (shown_header k u s)
-      chosen u b c e = ap (λ (z : Bool). cond z (header_after m (shown_header k u s)) (shown_header k u s)) e
-
-      same : (u : ℕ) → t ≡ u → header_now k u (map (steps_on_header u) (set s.views id w)) ≡ event_on_header (on_header t m) u (shown_header k u s)
-      same u e = subst (λ (z : ℕ). header_now k z (map (steps_on_header z) (set s.views id w)) ≡ header_after m (shown_header k z s)) e here ∙ chosen u true (t == u) (sym (eq-eqb t u e))
-
-      other : (u : ℕ) → t ≢ u → header_now k u (map (steps_on_header u) (set s.views id w)) ≡ event_on_header (on_header t m) u (shown_header k u s)
-      other u n = ap (header_now k u) (map_header_else u n) ∙ chosen u false (t == u) (sym (ne_eqb t u n))
-
   module _ (shown : Shows k s) (led : shown.history ≡ past) where
-    shows_header : (y : ℕ) → t < k.domains → v.position ≡ id → HeaderByOwner id t m → Finds m (shown_header k t s) → y ≡ header_after m (shown_header k t s) → IsHeader y → Shows k (stepped s (header_place t) y id [] w keeps)
+    shows_header : (y : ℕ) → t < k.domains → v.position ≡ id → HeaderByOwner id t m → Finds m (header_now k t (map (steps_on_header t) s.views)) → y ≡ header_after m (header_now k t (map (steps_on_header t) s.views)) → IsHeader y → Shows k (stepped s (header_place t) y id [] w keeps)
     shows_header y tn seat own finds is ok = record {
       history = (id, on_header t m) ∷ past;
       stood = ((s, now), subst (λ (h : History). HasStood S k h) led shown.stood);
@@ -125,21 +77,18 @@ module _ {S : Type 0} (past : History) (k : Layout) (s : State S View) (id : ℕ
             (p ∙ (is ∙ sym q), subst IsHeader (sym p) ok)))
             (λ n. let p : get_or (set s.words (header_place t) y) (header_place u) 0 ≡ get_or s.words (header_place u) 0 = get_or-set_other s.words (header_place t) (header_place u) y 0 (λ e. n (omega arith)) in
             let h = shown.now.headers u un in (p ∙ (h.0 ∙ ap (header_now k u) (sym (map_header_else u n))), subst IsHeader (sym p) h.1));
-        saw_headers = λ u un. dite (ℕ_discrete t u) (λ e. subst (λ (z : ℕ). SawHeaders k z (map (steps_on_header z) (set s.views id w))) e
-            (subst (SawHeaders k t) (sym map_header) (saw_headers-set k t (map (steps_on_header t) s.views) id (steps_on_header t v) (at_map (steps_on_header t) s.views id v at) m finds (shown.now.saw_headers t tn))))
-            (λ n. subst (SawHeaders k u) (sym (map_header_else u n)) (shown.now.saw_headers u un));
-        led_here = leads_on k s id v past (on_header t m) (header_place t) y at now.led_here seat shown.now.wide (omega arith) refl (is ∙ left m (sym (shown.now.headers t tn).0)) (says m (finds_there m finds (sym (shown.now.headers t tn).0))) own;
+        led_here = leads_on k s id v past (on_header t m) (header_place t) y at now.led_here seat shown.now.wide (omega arith) refl (is ∙ left m (sym (shown.now.headers t tn).0)) (says m (finds_there m finds (sym (shown.now.headers t tn).0))) own tt;
       };
     }
       where
         now : Stands k past s
         now = subst (λ (h : History). Stands k h s) led shown.now
 
-        left : (x : HeaderStep) → shown_header k t s ≡ get_or s.words (header_place t) 0 → header_after x (shown_header k t s) ≡ left_by (on_header t x) (get_or s.words (header_place t) 0)
+        left : (x : HeaderStep) → header_now k t (map (steps_on_header t) s.views) ≡ get_or s.words (header_place t) 0 → header_after x (header_now k t (map (steps_on_header t) s.views)) ≡ left_by (on_header t x) (get_or s.words (header_place t) 0)
         left (header.Looked n) e = e
         left (header.Stored n) e = refl
 
-        finds_there : (x : HeaderStep) → Finds x (shown_header k t s) → shown_header k t s ≡ get_or s.words (header_place t) 0 → Finds x (get_or s.words (header_place t) 0)
+        finds_there : (x : HeaderStep) → Finds x (header_now k t (map (steps_on_header t) s.views)) → header_now k t (map (steps_on_header t) s.views) ≡ get_or s.words (header_place t) 0 → Finds x (get_or s.words (header_place t) 0)
         finds_there x f e = subst (Finds x) e f
 
         says : (x : HeaderStep) → Finds x (get_or s.words (header_place t) 0) → Says (on_header t x) (get_or s.words (header_place t) 0)
@@ -151,10 +100,10 @@ module _ {S : Type 0} (k : Layout) (slots id : ℕ) (me : Me S View) (t : ℕ) (
   header_owes : (m : ℕ → HeaderStep) (f : ℕ → ℕ) (a : ℕ) → ((s : State S View) → Shows k s → get_elem? s.views id ≡ some me.0 → HeaderByOwner id t (m (get_or s.words (header_place t) 0)))
       → ((n : ℕ) → Finds (m n) n) → ((n : ℕ) → f n ≡ header_after (m n) n) → ((n : ℕ) → IsHeader n → IsHeader (f n))
       → Allows (Shows k) slots id me (header_place t) f (tells (record { layout = k; step = λ n. on_header t (m n); leaves = f }) (step slots (header_place t) a 0 none) me)
-  header_owes m f a own finds leaves ok = kind_owes (record { layout = k; step = λ n. on_header t (m n); leaves = f }) slots id me (header_place t) f (step slots (header_place t) a 0 none) refl (λ n. refl)
+  header_owes m f a own finds leaves ok = kind_owes (record { layout = k; step = λ n. on_header t (m n); leaves = f }) slots id me (header_place t) f (step slots (header_place t) a 0 none) refl (λ n. refl) (omega arith) (λ n. refl)
       (λ s shown at fits. let n : ℕ = get_or s.words (header_place t) 0 in let v : View = me.0 in let h = shown.now.headers t tn in let by = own s shown at in
       let z = shows_header shown.history k s id v t (m n) at shown refl (f n) tn (shown.now.seats id v at).0 by (subst (Finds (m n)) h.0 (finds n)) (leaves n ∙ ap (header_after (m n)) h.0) (ok n h.1) in
-      ((shown.now.seats id v at).0, z, header_happens shown.history k s id v t (m n) at (header_place t) (f n) by))
+      ((shown.now.seats id v at).0, z))
 
   pub look_header_owes : Allows (Shows k) slots id me (header_place t) (λ n. n) (tells (looking_at_header k t) (step slots (header_place t) 0 0 none) me)
   look_header_owes = header_owes (λ n. header.Looked n) (λ n. n) 0 (λ s shown at. tt) (λ n. refl) (λ n. refl) (λ n h. h)
@@ -192,7 +141,7 @@ table_fits h k = by (h.version == 2)
 -- a look at a header
 pub looks_at_header : (k : Layout) (t n : ℕ) (v w : View) → t < k.domains → (past : History) → w ≡ with_step past (on_header t (header.Looked n)) v → TakesStep (Unit {0}) k v past (on_header t (header.Looked n)) (header_place t) n n → LooksAtHeader k t n v w
 looks_at_header k t n v w tn past view step = let a = adds_to_header past t (header.Looked n) v w view in
-    let is : IsHeader n = subst IsHeader step.found_is (step.shown.now.headers t tn).1 in
+    let is : IsHeader n = subst IsHeader (step.stood.1.led_here.words (header_place t) (omega arith) ∙ step.found_is) (step.stood.1.headers t tn).1 in
     let read : header_of n ≡ is.0 = ap header_of is.2 ∙ kept_read is.0 is.1 in record {
       steps = record { past = past; adds = a; step = step };
       word = is.2 ∙ ap header_word (sym read);

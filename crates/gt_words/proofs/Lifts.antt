@@ -1,18 +1,20 @@
 -- A step on one entry keeps the rule of the table, where it keeps the rule of that entry.
 use Rattle.gt_words.specs.declared.word_table.TheConstants.{DOMAIN_WORDS}
-use Rattle.std.proofs.Common.{◌≡◌, ◌≢◌, ⊎_elim, ℕ, ◌*◌, ◌<◌, ◌≤◌, Bool, true, false, cond, ◌==◌, ◌&&◌, List, [], ◌∷◌, map, get_or, set, length, sym, refl, ap, ◌∙◌, subst, arith, length-set, get_or-set_other, eq-eqb, ne_eqb}
-use mathlib.Core.Option.{some}
+use Rattle.std.proofs.Common.{◌≡◌, ◌≢◌, ⊎_elim, ℕ, zero, suc, ◌+◌, ◌*◌, ◌<◌, ◌≤◌, Bool, true, false, cond, ◌==◌, ◌&&◌, List, [], ◌∷◌, map, get_or, set, length, sym, refl, ap, ◌∙◌, subst, arith, length-set, get_or-set_other, eq-eqb, ne_eqb}
+use mathlib.Core.Option.{Option as Maybe, none, some, some-ne-none}
 use mathlib.Core.Logic.{dite}
 use native.Mathlib.Decide.{ℕ_discrete}
 use lib.ListN.{get_elem?}
 use lib.Seq.{map-set}
 use Rattle.atomic_table.specs.Table.{State, stepped, keeps}
 use Rattle.atomic_table.proofs.Lists.{at_set, set_again, at_map}
+use Rattle.gt_words.proofs.Lists.{whose_at}
+use Rattle.gt_words.proofs.Moments.{beyond}
 use Rattle.gt_words.proofs.Order.{leads_on}
-use Rattle.gt_words.specs.History.{History, IsByOwner, SaysFound, left_on_entry, word_on}
-use Rattle.gt_words.specs.Rule.{IsHeader, Layout, SawHeaders, Shows, ShowsEntry, header_now, header_place, place}
+use Rattle.gt_words.specs.History.{HasLedTo, History, IsByOwner, IsOfRecord, SaysFound, left_on_entry, owner_steps, part_of, parts_on, word_on}
+use Rattle.gt_words.specs.Rule.{IsHeader, Layout, Shows, ShowsEntry, header_now, header_place, place}
 use Rattle.gt_words.specs.Steps.{on_entry}
-use Rattle.gt_words.specs.Views.{steps_on, steps_on_header, with_step}
+use Rattle.gt_words.specs.Views.{entry_steps, last_record, steps_on, steps_on_header, with_step}
 use Rattle.gt_words.specs.declared.view.EntryStep.{EntryStep}
 use Rattle.gt_words.specs.declared.view.SeatStep.{SeatStep}
 use Rattle.gt_words.specs.declared.view.View.{View}
@@ -46,6 +48,29 @@ module _ {S : Type 0} (past : History) (s : State S View) (id : ℕ) (v : View) 
   map_else t' r' n = map-set (steps_on t' r') s.views id (added past t r m v) ∙ (ap (set (map (steps_on t' r') s.views) id) (steps_on-added-else past t r m v t' r' n)
       ∙ set_again (map (steps_on t' r') s.views) id (steps_on t' r' v) (at_map (steps_on t' r') s.views id v at))
 
+pub parts_at : (t r : ℕ) (h : History) (q n j i : ℕ) → i ≡ q + j → q < n → get_elem? (parts_on t r h j n) q ≡ some (entry_steps t r (part_of i h))
+parts_at t r h q zero j i e l = absurd (omega arith)
+parts_at t r h zero (suc n) j i e l = ap (λ (z : ℕ). some (entry_steps t r (part_of z h))) (let f : j ≡ i = omega arith in f)
+parts_at t r h (suc q) (suc n) j i e l = parts_at t r h q n (suc j) i (omega arith) (omega arith)
+
+-- what each seat has of an entry is its part of the history
+module _ {S : Type 0} (k : Layout) (h : History) (s : State S View) (led : HasLedTo k h s) (t r i : ℕ) where
+  none_there : {A B : Type 0} (f : A → List B) (l : List A) (j : ℕ) → get_elem? l j ≡ none → get_or (map f l) j [] ≡ []
+  none_there f [] zero e = refl
+  none_there f [] (suc j) e = refl
+  none_there f (x ∷ xs) zero e = absurd (some-ne-none x e)
+  none_there f (x ∷ xs) (suc j) e = none_there f xs j e
+
+  pub part_there_is : get_or (map (steps_on t r) s.views) i [] ≡ entry_steps t r (part_of i h)
+  part_there_is = go (get_elem? s.views i) refl
+    where
+      go : (o : Maybe View) → get_elem? s.views i ≡ o → get_or (map (steps_on t r) s.views) i [] ≡ entry_steps t r (part_of i h)
+      go none e = none_there (steps_on t r) s.views i e ∙ sym (ap (entry_steps t r) (led.no_other i (beyond s.views i e)))
+      go (some v) e = whose_at (map (steps_on t r) s.views) i (steps_on t r v) (at_map (steps_on t r) s.views i v e) ∙ ap (entry_steps t r) (led.parts i v e).0
+
+  pub owner_made : i < k.domains → owner_steps i (parts_on t r h 0 k.domains) ≡ owner_steps i (map (steps_on t r) s.views)
+  owner_made inside = whose_at (parts_on t r h 0 k.domains) i (entry_steps t r (part_of i h)) (parts_at t r h i k.domains 0 i (omega arith) inside) ∙ sym part_there_is
+
 -- a seat that takes a step is still dealt by the first one, and stands where it stood
 module _ {S : Type 0} (past : History) (k : Layout) (s : State S View) (id : ℕ) (v : View) (m : SeatStep) (shown : Shows k s) (at : get_elem? s.views id ≡ some v) where
   pub still_dealt : ((u : View) → get_elem? (set s.views id (with_step past m v)) 0 ≡ some u → u.dealt ≡ length (set s.views id (with_step past m v)))
@@ -69,10 +94,10 @@ module _ {S : Type 0} (k : Layout) (s : State S View) (id : ℕ) (v : View) (t r
   stays : (j y t' r' j' : ℕ) → r < TABLE_ENTRIES → r' < TABLE_ENTRIES → j < 3 → j' < 3 → (t ≡ t' → r ≡ r' → ⊥) → get_or (set s.words (place t r j) y) (place t' r' j') 0 ≡ get_or s.words (place t' r' j') 0
   stays j y t' r' j' a b c d n = get_or-set_other s.words (place t r j) (place t' r' j') y 0 (λ e. let p = apart t r j t' r' j' a b c d (sym e) in n p.0 p.1)
 
-  pub shows_step : (j y : ℕ) → t < k.domains → r < TABLE_ENTRIES → j < 3 → v.position ≡ id → word_on m ≡ j → y ≡ left_on_entry m (get_or s.words (place t r j) 0) → SaysFound m (get_or s.words (place t r j) 0) → IsByOwner id t m
+  pub shows_step : (j y : ℕ) → t < k.domains → r < TABLE_ENTRIES → j < 3 → v.position ≡ id → word_on m ≡ j → y ≡ left_on_entry m (get_or s.words (place t r j) 0) → SaysFound m (get_or s.words (place t r j) 0) → IsByOwner id t m → IsOfRecord (last_record k.first (owner_steps t (map (steps_on t r) s.views))) m
       → (let ws : List ℕ = set s.words (place t r j) y in ShowsEntry k.first t (get_or ws (place t r 0) 0) (get_or ws (place t r 1) 0) (get_or ws (place t r 2) 0) (set (map (steps_on t r) s.views) id (m ∷ steps_on t r v)))
       → Shows k (stepped s (place t r j) y id [] (added past t r m v) keeps)
-  shows_step j y tn rn jn own on is says may entries = let w : View = added past t r m v in let ws : List ℕ = set s.words (place t r j) y in record {
+  shows_step j y tn rn jn own on is says may last entries = let w : View = added past t r m v in let ws : List ℕ = set s.words (place t r j) y in record {
     history = (id, on_entry t r m) ∷ past;
     stood = ((s, shown.now), shown.stood);
     now = record {
@@ -88,8 +113,7 @@ module _ {S : Type 0} (k : Layout) (s : State S View) (id : ℕ) (v : View) (t r
           let p : get_or (set s.words (place t r j) y) (header_place t') 0 ≡ get_or s.words (header_place t') 0 = get_or-set_other s.words (place t r j) (header_place t') y 0 (λ e. omega arith) in
           let q : map (steps_on_header t') (set s.views id (added past t r m v)) ≡ map (steps_on_header t') s.views = map-set (steps_on_header t') s.views id (added past t r m v) ∙ set_again (map (steps_on_header t') s.views) id (steps_on_header t' v) (at_map (steps_on_header t') s.views id v at) in
           (p ∙ (h.0 ∙ ap (header_now k t') (sym q)), subst IsHeader (sym p) h.1);
-      saw_headers = λ t' tn'. subst (SawHeaders k t') (sym (map-set (steps_on_header t') s.views id w ∙ set_again (map (steps_on_header t') s.views) id (steps_on_header t' v) (at_map (steps_on_header t') s.views id v at))) (shown.now.saw_headers t' tn');
-      led_here = leads_on k s id v past (on_entry t r m) (place t r j) y at shown.now.led_here own shown.now.wide (inside k.domains t r j tn rn jn) (ap (place t r) on) is says may;
+      led_here = leads_on k s id v past (on_entry t r m) (place t r j) y at shown.now.led_here own shown.now.wide (inside k.domains t r j tn rn jn) (ap (place t r) on) is says may (subst (λ (l : List EntryStep). IsOfRecord (last_record k.first l) m) (sym (owner_made k past s shown.now.led_here t r t tn)) last);
     };
   }
     where

@@ -67,7 +67,7 @@ one_order i (p ∷ h) (q ∷ g) same knows = dite (ℕ_discrete p.0 q.0) (alike 
         let few = fewer q.0 p.0 g in let one : length (part_of q.0 (p ∷ h)) ≡ length (part_of q.0 (up_to p.0 g)) = ap (λ (z : History). length (part_of q.0 z)) all in
         let two : length (part_of q.0 (p ∷ h)) ≡ suc (length (part_of q.0 g)) = ap length (same q.0) ∙ ap length (part_here q.0 q.1 g) in absurd (omega arith))
 
-beyond : {A : Type 0} (l : List A) (j : ℕ) → get_elem? l j ≡ none → length l ≤ j
+pub beyond : {A : Type 0} (l : List A) (j : ℕ) → get_elem? l j ≡ none → length l ≤ j
 beyond [] j e = omega arith
 beyond (x ∷ xs) zero e = absurd (some-ne-none x e)
 beyond (x ∷ xs) (suc j) e = let l = beyond xs j e in omega arith
@@ -95,7 +95,7 @@ module _ {S : Type 0} (k : Layout) (s : State S View) (i : ℕ) (v : View) (x : 
   other j n (some u) e = let a = led.parts j u e in let b = after.parts j u (set_else s.views i j w n ∙ e) in let d : i ≢ j = λ z. n (sym z) in
       (sym b.0 ∙ (a.0 ∙ sym (part_else i x h j d)), sym b.1 ∙ (a.1 ∙ sym (up_else i x h j d)))
 
-  goes_on : g ≡ (i, x) ∷ h
+  pub goes_on : g ≡ (i, x) ∷ h
   goes_on = one_order i g ((i, x) ∷ h) (λ j. dite (ℕ_discrete j i) (λ e. subst (λ (z : ℕ). part_of z g ≡ part_of z ((i, x) ∷ h)) (sym e) own_part.0) (λ n. (other j n (get_elem? s.views j) refl).0)) (λ j n. (other j n (get_elem? s.views j) refl).1)
 
   knows_all : past ≡ h
@@ -104,7 +104,7 @@ module _ {S : Type 0} (k : Layout) (s : State S View) (i : ℕ) (v : View) (x : 
 pub taken_then : StepsAreTakenThen
 taken_then k s i v x past at left shown after here = let h : History = shown.history in
     let go = goes_on k s i v x past h after.history at left [] keeps shown.now.led_here after.now.led_here here in let is = subst (IsTrue k) go after.now.led_here.true_steps in
-    (knows_all k s i v x past h after.history at left [] keeps shown.now.led_here after.now.led_here here, go, is.1, λ l. subst (Says x) (sym (shown.now.led_here.words (place_of x) l)) is.0)
+    (knows_all k s i v x past h after.history at left [] keeps shown.now.led_here after.now.led_here here, go, is.1, is.2, λ l. subst (Says x) (sym (shown.now.led_here.words (place_of x) l)) is.0)
 
 -- a step that is allowed says what it finds
 pub allowed_says : AllowedStepsSayWhatIsThere

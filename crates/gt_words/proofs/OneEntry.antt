@@ -14,7 +14,7 @@ use Rattle.gt_types.specs.declared.Dir.{Dir}
 use Rattle.gt_types.specs.declared.Dir.TheVariants.{Read, Write}
 use Rattle.gt_words.proofs.GoneOn.{goes_on, goes_on_here, still_gone, until_fewer, until_later}
 use Rattle.gt_words.proofs.Lists.{whose_at, whose_here}
-use Rattle.gt_words.proofs.Records.{body_counts, changes_shown, legal_record, looks_at, pins_shown, saw_known, seen_is_last, sees_shown, stores_shown, unpins_shown, word_counts}
+use Rattle.gt_words.proofs.Records.{changes_shown, legal_record, looks_at, pins_shown, saw_known, seen_is_last, sees_shown, stores_shown, unpins_shown}
 use Rattle.gt_words.specs.Controls.{IsValid, generation_of, pins_in}
 use Rattle.gt_words.specs.Rule.{HasGoneOn, IsLawful, IsRecord, MayFollow, SawRecord, ShowsEntry, ShowsRecord, owner_steps, total_pins}
 use Rattle.gt_words.specs.Views.{HasBody, IsIn, LivePin, Seen, earlier_records, exchanged, last_record, pin_count, pins, pins_until, record_seen, seen, stored_body, weight}
@@ -74,16 +74,16 @@ module _ (g t : ℕ) (hs : List (List EntryStep)) (i : ℕ) (h : List EntryStep)
     none_taken e d gone = omega arith
 
     pub entry_looks : ShowsEntry g t word a b (set hs i (Looked word ∷ h))
-    entry_looks = plain word (Looked word) refl refl refl refl refl none_taken (sees_shown x xs a b hs i h (Looked word) word k.record_shown at refl (looks_at x xs (total_pins Read hs) (total_pins Write hs) word k.record_shown.in_range k.record_shown.spelled) (word_counts x xs word a b hs k.record_shown))
+    entry_looks = plain word (Looked word) refl refl refl refl refl none_taken (sees_shown x xs a b hs i h (Looked word) word k.record_shown at refl (looks_at x xs (total_pins Read hs) (total_pins Write hs) word k.record_shown.in_range k.record_shown.spelled))
 
     pub entry_misses_pin : (d : Dir) (expected desired : ℕ) → ShowsEntry g t word a b (set hs i (PinMissed d expected desired word ∷ h))
-    entry_misses_pin d expected desired = plain word (PinMissed d expected desired word) refl refl refl refl refl none_taken (sees_shown x xs a b hs i h (PinMissed d expected desired word) word k.record_shown at refl (looks_at x xs (total_pins Read hs) (total_pins Write hs) word k.record_shown.in_range k.record_shown.spelled) (word_counts x xs word a b hs k.record_shown))
+    entry_misses_pin d expected desired = plain word (PinMissed d expected desired word) refl refl refl refl refl none_taken (sees_shown x xs a b hs i h (PinMissed d expected desired word) word k.record_shown at refl (looks_at x xs (total_pins Read hs) (total_pins Write hs) word k.record_shown.in_range k.record_shown.spelled))
 
     pub entry_misses_change : (c : Change) (expected desired : ℕ) → ShowsEntry g t word a b (set hs i (ChangeMissed c expected desired word ∷ h))
-    entry_misses_change c expected desired = plain word (ChangeMissed c expected desired word) refl refl refl refl refl none_taken (sees_shown x xs a b hs i h (ChangeMissed c expected desired word) word k.record_shown at refl (looks_at x xs (total_pins Read hs) (total_pins Write hs) word k.record_shown.in_range k.record_shown.spelled) (word_counts x xs word a b hs k.record_shown))
+    entry_misses_change c expected desired = plain word (ChangeMissed c expected desired word) refl refl refl refl refl none_taken (sees_shown x xs a b hs i h (ChangeMissed c expected desired word) word k.record_shown at refl (looks_at x xs (total_pins Read hs) (total_pins Write hs) word k.record_shown.in_range k.record_shown.spelled))
 
     pub entry_saw : (p : Half) (v : ℕ) → (p ≡ First → v ≡ a) → (p ≡ Second → v ≡ b) → ShowsEntry g t word a b (set hs i (ReadBody p v ∷ h))
-    entry_saw p v e f = plain word (ReadBody p v) refl refl refl refl refl none_taken (sees_shown x xs a b hs i h (ReadBody p v) word k.record_shown at refl (saw_known x xs a b p v (seen h) k.record_shown.body e f (k.record_shown.saw i h at)) (body_counts hs p v (seen h) (k.record_shown.counted i h at)))
+    entry_saw p v e f = plain word (ReadBody p v) refl refl refl refl refl none_taken (sees_shown x xs a b hs i h (ReadBody p v) word k.record_shown at refl (saw_known x xs a b p v (seen h) k.record_shown.body e f (k.record_shown.saw i h at)))
 
     pub entry_pins : (d : Dir) (expected : ℕ) (s : Seen) → seen h ≡ Some s → s.word ≡ word → IsValid word → HasBody s → (d ≡ Write → is_read_only (record_seen s).entry ≡ false) → pins_in d word < MAX_PINS → ShowsEntry g t (word + unit_of d) a b (set hs i (Pinned d expected (record_seen s) ∷ h))
     entry_pins d expected s e same some_kind body writable in_range =
@@ -93,6 +93,12 @@ module _ (g t : ℕ) (hs : List (List EntryStep)) (i : ℕ) (h : List EntryStep)
         plain (word + unit_of d) (Pinned d expected (record_seen s)) refl refl refl refl refl
         (λ e c gone. until_later c d (generation_of e) (record_seen s) (pins h) (let l = gone.earlier z.1 in let same_record = ap (λ (u : EntryRecord). u.generation) z.0 in omega arith))
         (subst (λ (y : EntryRecord). ShowsRecord x xs (word + unit_of d) a b (set hs i (Pinned d expected y ∷ h))) (sym z.0) (pins_shown x xs a b hs i h word expected d k.record_shown at z.1 (λ q. ap (λ (u : EntryRecord). is_read_only u.entry) (sym z.0) ∙ writable q) r w))
+
+    -- a pin from the word that was seen is of the last record
+    pub pins_last : (s : Seen) → seen h ≡ Some s → s.word ≡ word → IsValid word → HasBody s → (record_seen s ≡ x) × ((record_seen s).entry ≢ Invalid)
+    pins_last s e same some_kind body =
+        let z = seen_is_last x xs s word (total_pins Read hs) (total_pins Write hs) k.record_shown.lawful (subst (SawRecord x xs) e (k.record_shown.saw i h at)) k.record_shown.in_range k.record_shown.spelled same some_kind body in
+        (z.0, subst (λ (y : EntryRecord). y.entry ≢ Invalid) (sym z.0) z.1)
 
     pub entry_unpins : (d : Dir) (p : LivePin) → IsIn p (pins h) → p.0 ≡ d → ShowsEntry g t (word - unit_of d) a b (set hs i (Unpinned d p.1.generation ∷ h))
     entry_unpins d p e q = plain (word - unit_of d) (Unpinned d p.1.generation) refl refl refl refl refl (λ u c gone. until_fewer c d (generation_of u) p.1.generation (pins h)) (unpins_shown x xs a b hs i h word d p k.record_shown at e q)

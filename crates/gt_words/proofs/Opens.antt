@@ -18,8 +18,8 @@ use Rattle.gt_words.proofs.Order.{leads_from, leads_to_more, new_index}
 use Rattle.gt_words.specs.Conditions.{initial}
 use Rattle.gt_words.specs.Controls.{generation_of}
 use Rattle.gt_words.specs.Places.{dealer_after, dealt_to, new_view}
-use Rattle.gt_words.specs.Rule.{CountsTaken, HasGoneOn, IsHeader, Layout, SawHeaders, SawRecord, Shows, ShowsEntry, ShowsRecord, first_header, header_now, header_place, headers_of, owner_steps, place, total_pins, total_taken, total_until}
-use Rattle.gt_words.specs.Views.{IsIn, Seen, earlier_records, exchanged, last_record, own, pin_count, pins, pins_until, seen, seen_header, steps_on, steps_on_header, stored_body, stored_header, stored_headers, taken_count}
+use Rattle.gt_words.specs.Rule.{HasGoneOn, IsHeader, Layout, SawRecord, Shows, ShowsEntry, ShowsRecord, first_header, header_now, header_place, owner_steps, place, total_pins, total_until}
+use Rattle.gt_words.specs.Views.{IsIn, Seen, earlier_records, exchanged, last_record, own, pin_count, pins, pins_until, seen, steps_on, steps_on_header, stored_body, stored_header}
 use Rattle.gt_words.specs.declared.view.EntryStep.{EntryStep}
 use Rattle.gt_entry.specs.declared.change.Half.TheVariants.{First, Second}
 use Rattle.gt_words.specs.declared.view.HeaderStep.{HeaderStep}
@@ -44,7 +44,6 @@ entry_opens g t small word a b w p q = subst (λ (ms : List EntryStep). ShowsRec
   unwritten = λ _. refl;
   pinned = λ i h at z y. absurd (subst (λ (ms : List EntryStep). IsIn z (pins ms)) (alone_at i h at) y);
   saw = λ i h at. subst (λ (ms : List EntryStep). SawRecord (last_record g []) [] (seen ms)) (sym (alone_at i h at)) tt;
-  counted = λ i h at. subst (λ (ms : List EntryStep). CountsTaken ([] ∷ []) (seen ms)) (sym (alone_at i h at)) tt;
 } p q (λ e is. absurd is)
 
 initial_here : (k : Layout) (t r j : ℕ) → r < TABLE_ENTRIES → j < 3 → initial k (place t r j) ≡ cond (j == 0) (17592186044416 * k.first) 0
@@ -73,7 +72,6 @@ opens k ws wide some_domain small headers is = record {
     entries = λ t r tn rn. entry_opens k.first t small _ _ _ (is (place t r 0) (omega arith) ∙ initial_here k t r 0 rn (omega arith)) (is (place t r 1) (omega arith) ∙ initial_here k t r 1 rn (omega arith)) (is (place t r 2) (omega arith) ∙ initial_here k t r 2 rn (omega arith));
     headers = λ t tn. let e : get_or ws (header_place t) 0 ≡ get_or k.headers t 0 = is (header_place t) (omega arith) ∙ initial_header k t in
         (e ∙ ap (stored_header (get_or k.headers t 0)) (sym (nothing_at t)), subst IsHeader (sym e) (headers t tn));
-    saw_headers = λ t tn i h at. subst (λ (ms : List HeaderStep). IfSome (seen_header ms) (λ n. IsIn n (headers_of k t ([] ∷ [])))) (sym (alone_at i h at)) tt;
     led_here = leads_from k ws is;
   };
 }
@@ -90,21 +88,9 @@ nothing_more [] (suc t) = refl
 nothing_more (x ∷ xs) zero = refl
 nothing_more (x ∷ xs) (suc t) = nothing_more xs t
 
-heard_more : (k : Layout) (t : ℕ) (hs : List (List HeaderStep)) → SawHeaders k t hs → SawHeaders k t (hs ++ [] ∷ [])
-heard_more k t hs saw i h at = subst (λ (ms : List HeaderStep). IfSome (seen_header h) (λ n. IsIn n (stored_headers (get_or k.headers t 0) ms))) (sym (nothing_more hs t))
-    (⊎_elim (λ (e : get_elem? hs i ≡ some h). saw i h e) (λ (e : [] ≡ h). subst (λ (ms : List HeaderStep). IfSome (seen_header ms) (λ n. IsIn n (headers_of k t hs))) e tt) (at_snoc hs [] h i at))
-
 held_more : (d : Dir) (hs : List (List EntryStep)) → total_pins d (hs ++ [] ∷ []) ≡ total_pins d hs
 held_more d [] = refl
 held_more d (h ∷ hs) = ap (λ (n : ℕ). pin_count d (pins h) + n) (held_more d hs)
-
-taken_more : (d : Dir) (hs : List (List EntryStep)) → total_taken d (hs ++ [] ∷ []) ≡ total_taken d hs
-taken_more d [] = refl
-taken_more d (h ∷ hs) = ap (λ (n : ℕ). taken_count d h + n) (taken_more d hs)
-
-counted_more : (hs : List (List EntryStep)) (s : Option Seen) → CountsTaken hs s → CountsTaken (hs ++ [] ∷ []) s
-counted_more hs None k = tt
-counted_more hs (Some s) k = λ d. let l = k d in let e = taken_more d hs in omega arith
 
 until_more : (d : Dir) (g : ℕ) (hs : List (List EntryStep)) → total_until d g (hs ++ [] ∷ []) ≡ total_until d g hs
 until_more d g [] = refl
@@ -115,7 +101,6 @@ gone_more x hs e k = record {
   not_later = k.not_later;
   earlier = k.earlier;
   left = λ d. let l = k.left d in let s = until_more d (generation_of e) hs in omega arith;
-  taken = λ d. let l = k.taken d in let s = taken_more d hs in omega arith;
 }
 
 entry_more : (g t word a b : ℕ) (hs : List (List EntryStep)) → ShowsEntry g t word a b hs → ShowsEntry g t word a b (hs ++ [] ∷ [])
@@ -129,7 +114,6 @@ entry_more g t word a b hs k = let same = nothing_more hs t in
       unwritten = λ n. held_more Write hs ∙ k.record_shown.unwritten n;
       pinned = λ i h at p y. ⊎_elim (λ (e : get_elem? hs i ≡ some h). k.record_shown.pinned i h e p y) (λ (e : [] ≡ h). absurd (subst (λ (ms : List EntryStep). IsIn p (pins ms)) (sym e) y)) (at_snoc hs [] h i at);
       saw = λ i h at. ⊎_elim (λ (e : get_elem? hs i ≡ some h). k.record_shown.saw i h e) (λ (e : [] ≡ h). subst (λ (ms : List EntryStep). SawRecord (last_record g (owner_steps t hs)) (earlier_records g (owner_steps t hs)) (seen ms)) e tt) (at_snoc hs [] h i at);
-      counted = λ i h at. counted_more hs (seen h) (⊎_elim (λ (e : get_elem? hs i ≡ some h). k.record_shown.counted i h e) (λ (e : [] ≡ h). subst (λ (ms : List EntryStep). CountsTaken hs (seen ms)) e tt) (at_snoc hs [] h i at));
     } k.first k.second (λ e is. gone_more (last_record g (owner_steps t hs)) hs e (k.gone_on e is))
 
 in_front : {A : Type 0} (l m : List A) (b : A) → 0 < length l → get_elem? (l ++ m) 0 ≡ some b → get_elem? l 0 ≡ some b
@@ -159,9 +143,6 @@ deals k id v own room s shown at = let is = shown.now.seats id v at in let zero_
         headers = λ t tn. let hs : List (List HeaderStep) = map (steps_on_header t) s.views in let h = shown.now.headers t tn in
             let q : map (steps_on_header t) (vs ++ dealt_to v ∷ []) ≡ hs ++ [] ∷ [] = map-append (steps_on_header t) vs (dealt_to v ∷ []) ∙ ap (λ (l : List (List HeaderStep)). l ++ [] ∷ []) (map-set (steps_on_header t) s.views id u ∙ set_again hs id (steps_on_header t v) (at_map (steps_on_header t) s.views id v at)) in
             (h.0 ∙ sym (ap (header_now k t) q ∙ ap (stored_header (get_or k.headers t 0)) (nothing_more hs t)), h.1);
-        saw_headers = λ t tn. let hs : List (List HeaderStep) = map (steps_on_header t) s.views in
-            let q : map (steps_on_header t) (vs ++ dealt_to v ∷ []) ≡ hs ++ [] ∷ [] = map-append (steps_on_header t) vs (dealt_to v ∷ []) ∙ ap (λ (l : List (List HeaderStep)). l ++ [] ∷ []) (map-set (steps_on_header t) s.views id u ∙ set_again hs id (steps_on_header t v) (at_map (steps_on_header t) s.views id v at)) in
-            subst (SawHeaders k t) (sym q) (heard_more k t hs (shown.now.saw_headers t tn));
         led_here = leads_to_more k s id v shown.history at shown.now.led_here;
       };
     }

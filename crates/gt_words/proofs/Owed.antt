@@ -14,20 +14,20 @@ use Rattle.gt_entry.specs.declared.entry.Entry.{Entry}
 use Rattle.gt_entry.specs.declared.entry.Entry.TheVariants.{Invalid, Page, Sub, Via}
 use Rattle.gt_types.specs.declared.Dir.{Dir}
 use Rattle.gt_types.specs.declared.Dir.TheVariants.{Read, Write}
-use Rattle.gt_words.proofs.Happening.{entry_happens}
+use Rattle.gt_words.proofs.Happened.{takes}
 use Rattle.gt_words.proofs.Kept.{there_is}
 use Rattle.gt_words.proofs.Lifts.{added, inside, shows_step}
-use Rattle.gt_words.proofs.OneEntry.{entry_grants, entry_looks, entry_misses_change, entry_misses_pin, entry_pins, entry_revokes, entry_saw, entry_stores_first, entry_stores_second, entry_turns, entry_unpins, entry_withdraws, mine, pin_counted, turned_domain, turned_low}
+use Rattle.gt_words.proofs.OneEntry.{entry_grants, entry_looks, entry_misses_change, entry_misses_pin, entry_pins, entry_revokes, entry_saw, entry_stores_first, entry_stores_second, entry_turns, entry_unpins, entry_withdraws, mine, pin_counted, pins_last, turned_domain, turned_low}
 use Rattle.gt_words.proofs.Records.{legal_record, spelled_parts}
 use Rattle.gt_words.specs.Conditions.{HasLooked, Holds, IsIdleOf, MayPin}
 use Rattle.gt_entry.specs.Permits.{is_copying}
 use Rattle.gt_types.specs.declared.DomId.{DomId}
 use Rattle.std.proofs.lemmas.Bool.{and_parts}
 use Rattle.gt_words.specs.Controls.{ForwardsPin, IsValid, PermitsPin, demoted_word, generation_of, invalid_word, pins_in, promoted_word, withdrawn_word}
-use Rattle.gt_words.specs.Events.{Happens, IsByOwner}
-use Rattle.gt_words.specs.History.{SaysFound, left_on_entry, word_on}
+use Rattle.gt_words.specs.Events.{IsByOwner}
+use Rattle.gt_words.specs.History.{IsOfRecord, SaysFound, owner_steps, left_on_entry, place_of, word_on}
 use Rattle.gt_words.specs.Rule.{id_at, IsRecord, Layout, Shows, ShowsEntry, place, total_pins}
-use Rattle.gt_words.specs.Steps.{StepKind, changed, entry_kind, exchanging, half_index, half_of, looking, missed, on_entry, reading, storing, taken, tells, tells_stored, unpinning}
+use Rattle.gt_words.specs.Steps.{StepKind, TakesStep, changed, entry_kind, exchanging, half_index, half_of, looking, missed, on_entry, reading, storing, taken, tells, tells_stored, unpinning}
 use Rattle.gt_words.specs.Views.{earlier_records, invalid_at, last_of, last_record, last_seen, pins, record_seen, steps_on, stored_body, with_step}
 use Rattle.gt_entry.specs.declared.change.Change.{Change}
 use Rattle.gt_words.specs.declared.view.EntryStep.{EntryStep}
@@ -37,40 +37,32 @@ use Rattle.gt_entry.specs.declared.change.Half.TheVariants.{First, Second}
 use Rattle.gt_words.specs.declared.view.Purpose.{Purpose}
 use Rattle.gt_words.specs.declared.view.EntryRecord.{EntryRecord}
 use Rattle.gt_words.specs.declared.view.View.{View}
+use Rattle.gt_words.specs.declared.word_table.TheConstants.{DOMAIN_WORDS}
 use Rattle.gt_entry.specs.declared.change.Change.TheVariants as change
 use Rattle.gt_words.specs.declared.view.Purpose.TheVariants as purpose
 use Rattle.gt_types.specs.declared.limits.TheConstants.{LAST_GENERATION, MAX_PINS, TABLE_ENTRIES}
 
 -- a step is allowed that leaves words and views which show the state that its event makes
 module _ {S : Type 0} (d : StepKind) (slots id : ℕ) (me : Me S View) (i : ℕ) (f : ℕ → ℕ) (st : TableStep S) where
-  pub kind_owes : st.word ≡ i → ((n : ℕ) → f n ≡ d.leaves n)
+  pub kind_owes : st.word ≡ i → ((n : ℕ) → f n ≡ d.leaves n) → i < d.layout.domains * DOMAIN_WORDS → ((n : ℕ) → place_of (d.step n) ≡ i)
       → ((s : State S View) (shown : Shows d.layout s) → get_elem? s.views id ≡ some me.0 → let n : ℕ = get_or s.words i 0 in let x = d.step n in
       n < 18446744073709551616
-      → (me.0.position ≡ id) × Shows d.layout (stepped s i (f n) id [] (with_step shown.history x me.0) keeps) × Happens d.layout id x s (stepped s i (f n) id [] (with_step shown.history x me.0) keeps))
+      → (me.0.position ≡ id) × Shows d.layout (stepped s i (f n) id [] (with_step shown.history x me.0) keeps))
       → Allows (Shows d.layout) slots id me i f (tells d st me)
-  kind_owes is ok step s shown len at fits = let n : ℕ = get_or s.words i 0 in let x = d.step n in let w : View = with_step shown.history x me.0 in let after = step s shown at fits in
-      let at_word : ℕ × ℕ × ℕ → State S View = λ u. stepped s u.0 u.1 u.2 [] w keeps in let own = after.0 in let same : (i, f n, id) ≡ (st.word, d.leaves n, me.0.position) = λ j. (sym is j, ok n j, sym own j) in (
-        w,
-        keeps,
-        tt,
-        after.1,
-        (
-          refl,
-          (
-            shown.history,
-            refl,
-            record {
-              before = s;
-              shown = shown;
-              led_by = refl;
-              mine = subst (λ (j : ℕ). get_elem? s.views j ≡ some me.0) (sym own) at;
-              found_is = ap (λ (j : ℕ). get_or s.words j 0) is;
-              still_shown = subst (λ (u : ℕ × ℕ × ℕ). Shows d.layout (at_word u)) same after.1;
-              happens = subst (λ (u : ℕ × ℕ × ℕ). Happens d.layout u.2 x s (at_word u)) same after.2;
-            },
-          ),
-        ),
-      )
+  kind_owes is ok inside there step s shown len at fits = let n : ℕ = get_or s.words i 0 in let x = d.step n in let after = step s shown at fits in (
+    with_step shown.history x me.0,
+    keeps,
+    tt,
+    after.1,
+    (
+      refl,
+      (
+        shown.history,
+        refl,
+        subst (λ (u : ℕ × ℕ). TakesStep S d.layout me.0 shown.history x u.0 n u.1) (λ j. (sym is j, ok n j)) (takes d.layout s id me.0 x i (f n) shown at after.0 inside (there n) after.1),
+      ),
+    ),
+  )
 
 -- what a step owes, by the word that it is on: what was found there, and the rule of the entry after it
 
@@ -82,7 +74,7 @@ module _ {S : Type 0} (k : Layout) (t r : ℕ) (m : ℕ → EntryStep) (leaves :
   Before w a b hs = ShowsEntry k.first t w a b hs × (get_elem? hs id ≡ some h) × (me.0.position ≡ id) × (me.0.first ≡ k.first)
 
   abbrev After : ℕ → ℕ → ℕ → List (List EntryStep) → ℕ → Type 0
-  After w a b hs n = ShowsEntry k.first t w a b (set hs id (m n ∷ h)) × IsByOwner id t (m n)
+  After w a b hs n = ShowsEntry k.first t w a b (set hs id (m n ∷ h)) × IsByOwner id t (m n) × IsOfRecord (last_record k.first (owner_steps t hs)) (m n)
 
   abbrev Fits : ℕ → ℕ → Type 0
   Fits j n = (word_on (m n) ≡ j) × (leaves n ≡ left_on_entry (m n) n) × SaysFound (m n) n
@@ -91,8 +83,8 @@ module _ {S : Type 0} (k : Layout) (t r : ℕ) (m : ℕ → EntryStep) (leaves :
       → ((s : State S View) → Shows k s → get_elem? s.views id ≡ some me.0 → let n : ℕ = get_or s.words (place t r j) 0 in let ws : List ℕ = set s.words (place t r j) (f n) in
       n < 18446744073709551616 → After (get_or ws (place t r 0) 0) (get_or ws (place t r 1) 0) (get_or ws (place t r 2) 0) (map (steps_on t r) s.views) n)
       → Allows (Shows k) slots id me (place t r j) f (tells (entry_kind k t r m leaves) st me)
-  owes j jn is ok fit step = kind_owes (entry_kind k t r m leaves) slots id me (place t r j) f st is ok (λ s shown at fits. let n : ℕ = get_or s.words (place t r j) 0 in let after = step s shown at fits in
-      ((shown.now.seats id me.0 at).0, shows_step k s id me.0 t r (m n) shown at j (f n) tn rn jn (shown.now.seats id me.0 at).0 (fit n).0 (ok n ∙ (fit n).1) (fit n).2 after.1 after.0, entry_happens shown.history k s id me.0 at t r (m n) (place t r j) (f n) after.1))
+  owes j jn is ok fit step = kind_owes (entry_kind k t r m leaves) slots id me (place t r j) f st is ok (inside k.domains t r j tn rn jn) (λ n. ap (place t r) (fit n).0) (λ s shown at fits. let n : ℕ = get_or s.words (place t r j) 0 in let after = step s shown at fits in
+      ((shown.now.seats id me.0 at).0, shows_step k s id me.0 t r (m n) shown at j (f n) tn rn jn (shown.now.seats id me.0 at).0 (fit n).0 (ok n ∙ (fit n).1) (fit n).2 after.1 after.2 after.0))
 
   history_at : (s : State S View) → get_elem? s.views id ≡ some me.0 → get_elem? (map (steps_on t r) s.views) id ≡ some h
   history_at s at = at_map (steps_on t r) s.views id me.0 at
@@ -177,13 +169,13 @@ spelled_generation x word reads writes ok in_range is = ap generation_of is ∙ 
 
 module _ {S : Type 0} (k : Layout) (slots id : ℕ) (me : Me S View) (t r : ℕ) (tn : t < k.domains) (rn : r < TABLE_ENTRIES) where
   pub look_owes : Allows (Shows k) slots id me (place t r 0) (λ n. n) (tells (looking k t r) (step slots (place t r 0) 0 0 none) me)
-  look_owes = control_owes k t r (λ n. Looked n) (λ n. n) slots id me (λ n. n) (step slots (place t r 0) 0 0 none) tn rn refl (λ n. refl) (λ n. (refl, refl, refl)) (λ w a b hs z fits. (entry_looks k.first t hs id _ z.1 w a b z.0, tt))
+  look_owes = control_owes k t r (λ n. Looked n) (λ n. n) slots id me (λ n. n) (step slots (place t r 0) 0 0 none) tn rn refl (λ n. refl) (λ n. (refl, refl, refl)) (λ w a b hs z fits. (entry_looks k.first t hs id _ z.1 w a b z.0, tt, tt))
 
   read_first_owes : Allows (Shows k) slots id me (place t r 1) (λ n. n) (tells (reading k t r First) (step slots (place t r 1) 0 0 none) me)
-  read_first_owes = first_owes k t r (λ n. ReadBody First n) (λ n. n) slots id me (λ n. n) (step slots (place t r 1) 0 0 none) tn rn refl (λ n. refl) (λ n. (refl, refl, refl)) (λ w a b hs z. (entry_saw k.first t hs id _ z.1 w a b z.0 First a (λ _. refl) (λ e. cc), tt))
+  read_first_owes = first_owes k t r (λ n. ReadBody First n) (λ n. n) slots id me (λ n. n) (step slots (place t r 1) 0 0 none) tn rn refl (λ n. refl) (λ n. (refl, refl, refl)) (λ w a b hs z. (entry_saw k.first t hs id _ z.1 w a b z.0 First a (λ _. refl) (λ e. cc), tt, tt))
 
   read_second_owes : Allows (Shows k) slots id me (place t r 2) (λ n. n) (tells (reading k t r Second) (step slots (place t r 2) 0 0 none) me)
-  read_second_owes = second_owes k t r (λ n. ReadBody Second n) (λ n. n) slots id me (λ n. n) (step slots (place t r 2) 0 0 none) tn rn refl (λ n. refl) (λ n. (refl, refl, refl)) (λ w a b hs z. (entry_saw k.first t hs id _ z.1 w a b z.0 Second b (λ e. cc) (λ _. refl), tt))
+  read_second_owes = second_owes k t r (λ n. ReadBody Second n) (λ n. n) slots id me (λ n. n) (step slots (place t r 2) 0 0 none) tn rn refl (λ n. refl) (λ n. (refl, refl, refl)) (λ w a b hs z. (entry_saw k.first t hs id _ z.1 w a b z.0 Second b (λ e. cc) (λ _. refl), tt, tt))
 
   pub read_owes : (h : Half) (i : ℕ) → i ≡ half_index h → Allows (Shows k) slots id me (place t r i) (λ n. n) (tells (reading k t r (half_of i)) (step slots (place t r i) 0 0 none) me)
   read_owes h i e = subst (λ (u : ℕ). Allows (Shows k) slots id me (place t r u) (λ n. n) (tells (reading k t r (half_of u)) (step slots (place t r u) 0 0 none) me)) (sym e) (at_half h)
@@ -207,11 +199,11 @@ module _ {S : Type 0} (k : Layout) (slots id : ℕ) (me : Me S View) (t r : ℕ)
 
   -- an exchange, taken where the word is the one expected
   exchange_owes : (p : Purpose) (old new : ℕ) → StoresPin p old new
-      → ((w a b : ℕ) (hs : List (List EntryStep)) → Before k t r (λ n. Looked n) (λ n. n) slots id me (λ n. n) (step slots (place t r 0) old new none) tn rn w a b hs → w ≡ old → ShowsEntry k.first t new a b (set hs id (taken t r me.0 p old new ∷ steps_on t r me.0)) × IsByOwner id t (taken t r me.0 p old new))
-      → ((w a b : ℕ) (hs : List (List EntryStep)) → Before k t r (λ n. Looked n) (λ n. n) slots id me (λ n. n) (step slots (place t r 0) old new none) tn rn w a b hs → w ≢ old → ShowsEntry k.first t w a b (set hs id (missed p old new w ∷ steps_on t r me.0)) × IsByOwner id t (missed p old new w))
+      → ((w a b : ℕ) (hs : List (List EntryStep)) → Before k t r (λ n. Looked n) (λ n. n) slots id me (λ n. n) (step slots (place t r 0) old new none) tn rn w a b hs → w ≡ old → ShowsEntry k.first t new a b (set hs id (taken t r me.0 p old new ∷ steps_on t r me.0)) × IsByOwner id t (taken t r me.0 p old new) × IsOfRecord (last_record k.first (owner_steps t hs)) (taken t r me.0 p old new))
+      → ((w a b : ℕ) (hs : List (List EntryStep)) → Before k t r (λ n. Looked n) (λ n. n) slots id me (λ n. n) (step slots (place t r 0) old new none) tn rn w a b hs → w ≢ old → ShowsEntry k.first t w a b (set hs id (missed p old new w ∷ steps_on t r me.0)) × IsByOwner id t (missed p old new w) × IsOfRecord (last_record k.first (owner_steps t hs)) (missed p old new w))
       → Allows (Shows k) slots id me (place t r 0) (λ n. either (n == old) new n) (tells (exchanging k t r me.0 p old new) (step slots (place t r 0) old new none) me)
   exchange_owes p old new one hit miss = control_owes k t r (λ n. cond (n == old) (taken t r me.0 p old new) (missed p old new n)) (λ n. either (n == old) new n) slots id me (λ n. either (n == old) new n) (step slots (place t r 0) old new none) tn rn refl (λ n. refl) (exchange_fits p old new one)
-      (λ w a b hs z fits. by_cases w old (λ (q : Bool). let m : EntryStep = cond q (taken t r me.0 p old new) (missed p old new w) in ShowsEntry k.first t (either q new w) a b (set hs id (m ∷ steps_on t r me.0)) × IsByOwner id t m)
+      (λ w a b hs z fits. by_cases w old (λ (q : Bool). let m : EntryStep = cond q (taken t r me.0 p old new) (missed p old new w) in ShowsEntry k.first t (either q new w) a b (set hs id (m ∷ steps_on t r me.0)) × IsByOwner id t m × IsOfRecord (last_record k.first (owner_steps t hs)) m)
       (hit w a b hs z) (miss w a b hs z))
 
   pub pin_owes : (d : Dir) (old new : ℕ) → new ≡ old + unit_of d → HasLooked t r me.0 old → IsValid old → MayPin k t r me.0 d (record_seen (last_seen t r me.0)) → pins_in d old < MAX_PINS
@@ -221,8 +213,9 @@ module _ {S : Type 0} (k : Layout) (slots id : ℕ) (me : Me S View) (t r : ℕ)
         subst (λ (u : ℕ). ShowsEntry k.first t u a b (set hs id (taken t r me.0 (purpose.Pin d) old new ∷ steps_on t r me.0))) (ap (λ (u : ℕ). u + unit_of d) e ∙ sym one)
             (entry_pins k.first t hs id (steps_on t r me.0) z.1 w a b z.0 d old (last_seen t r me.0) looked.0 (looked.1 ∙ sym e) (subst IsValid (sym e) valid) looked.2 (λ q. may_write k t r me.0 (record_seen (last_seen t r me.0)) (subst (λ (u : Dir). MayPin k t r me.0 u (record_seen (last_seen t r me.0))) q may)) (subst (λ (u : ℕ). pins_in d u < MAX_PINS) (sym e) room)),
         tt,
+        pins_last k.first t hs id (steps_on t r me.0) z.1 w a b z.0 (last_seen t r me.0) looked.0 (looked.1 ∙ sym e) (subst IsValid (sym e) valid) looked.2,
       ))
-      (λ w a b hs z n. (entry_misses_pin k.first t hs id (steps_on t r me.0) z.1 w a b z.0 d old new, tt))
+      (λ w a b hs z n. (entry_misses_pin k.first t hs id (steps_on t r me.0) z.1 w a b z.0 d old new, tt, tt))
 
   lowered : (d : Dir) (w : ℕ) → unit_of d ≤ w → w < 18446744073709551616 → w - unit_of d ≡ (w + (2 ^ 64 - unit_of d)) % 2 ^ 64
   lowered Read w a b = omega arith
@@ -235,6 +228,7 @@ module _ {S : Type 0} (k : Layout) (slots id : ℕ) (me : Me S View) (t r : ℕ)
         subst (λ (u : ℕ × ℕ). ShowsEntry k.first t u.0 a b (set hs id (Unpinned d u.1 ∷ steps_on t r me.0)))
             (λ i. (lowered d w (pin_counted k.first t hs id (steps_on t r me.0) z.1 w a b z.0 d p.0 p.1 p.2) fits i, p.3 i))
             (entry_unpins k.first t hs id (steps_on t r me.0) z.1 w a b z.0 d p.0 p.1 p.2),
+        tt,
         tt,
       ))
 
@@ -252,11 +246,11 @@ module _ {S : Type 0} (k : Layout) (slots id : ℕ) (me : Me S View) (t r : ℕ)
 
     store_first_owes : (v : ℕ) → (last_of r me.0).entry ≡ Invalid → Allows (Shows k) slots id me (place t r 1) (λ _. v) (λ _. tells_stored (storing k t r First v) (step slots (place t r 1) v 0 none) me)
     store_first_owes v none_yet = stored_owes (storing k t r First v) (place t r 1) (λ _. v) (step slots (place t r 1) v 0 none) (first_owes k t r (λ n. StoredBody First v) (λ n. v) slots id me (λ _. v) (step slots (place t r 1) v 0 none) tn rn refl (λ n. refl) (λ n. (refl, refl, tt))
-        (λ w a b hs z. (to_seat w v b hs (StoredBody First v) z.2 (entry_stores_first k.first t hs (steps_on t r me.0) (at_home hs z.1 z.2) w a b z.0 v (ap (λ (x : EntryRecord). x.entry) (sym (last_is z.3)) ∙ none_yet)), sym z.2 ∙ own)))
+        (λ w a b hs z. (to_seat w v b hs (StoredBody First v) z.2 (entry_stores_first k.first t hs (steps_on t r me.0) (at_home hs z.1 z.2) w a b z.0 v (ap (λ (x : EntryRecord). x.entry) (sym (last_is z.3)) ∙ none_yet)), sym z.2 ∙ own, tt)))
 
     store_second_owes : (v : ℕ) → (last_of r me.0).entry ≡ Invalid → Allows (Shows k) slots id me (place t r 2) (λ _. v) (λ _. tells_stored (storing k t r Second v) (step slots (place t r 2) v 0 none) me)
     store_second_owes v none_yet = stored_owes (storing k t r Second v) (place t r 2) (λ _. v) (step slots (place t r 2) v 0 none) (second_owes k t r (λ n. StoredBody Second v) (λ n. v) slots id me (λ _. v) (step slots (place t r 2) v 0 none) tn rn refl (λ n. refl) (λ n. (refl, refl, tt))
-        (λ w a b hs z. (to_seat w a v hs (StoredBody Second v) z.2 (entry_stores_second k.first t hs (steps_on t r me.0) (at_home hs z.1 z.2) w a b z.0 v (ap (λ (x : EntryRecord). x.entry) (sym (last_is z.3)) ∙ none_yet)), sym z.2 ∙ own)))
+        (λ w a b hs z. (to_seat w a v hs (StoredBody Second v) z.2 (entry_stores_second k.first t hs (steps_on t r me.0) (at_home hs z.1 z.2) w a b z.0 v (ap (λ (x : EntryRecord). x.entry) (sym (last_is z.3)) ∙ none_yet)), sym z.2 ∙ own, tt)))
 
     pub store_owes : (h : Half) (i v : ℕ) → i ≡ half_index h → (last_of r me.0).entry ≡ Invalid → Allows (Shows k) slots id me (place t r i) (λ _. v) (λ _. tells_stored (storing k t r (half_of i) v) (step slots (place t r i) v 0 none) me)
     store_owes h i v e none_yet = subst (λ (u : ℕ). Allows (Shows k) slots id me (place t r u) (λ _. v) (λ _. tells_stored (storing k t r (half_of u) v) (step slots (place t r u) v 0 none) me)) (sym e) (at_half h)
@@ -270,8 +264,8 @@ module _ {S : Type 0} (k : Layout) (slots id : ℕ) (me : Me S View) (t r : ℕ)
         → ((w a b : ℕ) (hs : List (List EntryStep)) → ShowsEntry k.first t w a b hs → get_elem? hs t ≡ some (steps_on t r me.0) → me.0.first ≡ k.first → w ≡ old → ShowsEntry k.first t new a b (set hs t (Changed c old new (changed c (last_of r me.0)) ∷ steps_on t r me.0)))
         → Allows (Shows k) slots id me (place t r 0) (λ n. either (n == old) new n) (tells (exchanging k t r me.0 (purpose.Change c) old new) (step slots (place t r 0) old new none) me)
     change_owes c old new hit = exchange_owes (purpose.Change c) old new tt
-        (λ w a b hs z e. (to_seat new a b hs (Changed c old new (changed c (last_of r me.0))) z.2 (hit w a b hs z.0 (at_home hs z.1 z.2) z.3 e), sym z.2 ∙ own))
-        (λ w a b hs z n. (entry_misses_change k.first t hs id (steps_on t r me.0) z.1 w a b z.0 c old new, tt))
+        (λ w a b hs z e. (to_seat new a b hs (Changed c old new (changed c (last_of r me.0))) z.2 (hit w a b hs z.0 (at_home hs z.1 z.2) z.3 e), sym z.2 ∙ own, tt))
+        (λ w a b hs z n. (entry_misses_change k.first t hs id (steps_on t r me.0) z.1 w a b z.0 c old new, tt, tt))
 
     pub revoke_owes : (old new : ℕ) → IsIdleOf (last_of r me.0) old → new ≡ invalid_word old
         → Allows (Shows k) slots id me (place t r 0) (λ n. either (n == old) new n)

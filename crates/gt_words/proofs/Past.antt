@@ -1,5 +1,5 @@
 -- What the rule says of words by views, and of pins of records that the owner's list has gone on from.
-use Rattle.std.proofs.Common.{◌≡◌, inl, inr, ℕ, zero, suc, ◌+◌, ◌<◌, ◌≤◌, Bool, true, false, cond, nat_le, List, [], ◌∷◌, map, get_or, set, sym, refl, ap, ◌∙◌, subst, arith}
+use Rattle.std.proofs.Common.{◌≡◌, ◌≢◌, inl, inr, ℕ, zero, suc, ◌+◌, ◌<◌, ◌≤◌, Bool, true, false, cond, nat_le, List, [], ◌∷◌, map, get_or, set, sym, refl, ap, ◌∙◌, subst, arith}
 use Rattle.std.proofs.lemmas.Bool.Decides.{nat_tests}
 use mathlib.Core.Option.{some, some-injective, some-ne-none}
 use lib.ListN.{get_elem?}
@@ -7,12 +7,14 @@ use Rattle.atomic_table.proofs.Lists.{at_map}
 use Rattle.gt_types.specs.declared.Dir.{Dir}
 use Rattle.gt_types.specs.declared.Dir.TheVariants.{Read, Write}
 use Rattle.gt_types.specs.declared.limits.TheConstants.{TABLE_ENTRIES}
-use Rattle.gt_words.proofs.Lifts.{map_here}
-use Rattle.gt_words.proofs.OneEntry.{same_owner}
+use Rattle.gt_entry.specs.declared.entry.Entry.TheVariants.{Invalid}
+use Rattle.gt_words.proofs.Lifts.{owner_made}
+use Rattle.gt_words.proofs.Moments.{taken_then}
+use Rattle.gt_words.specs.Steps.{on_entry}
 use Rattle.gt_words.specs.Controls.{generation_of, pins_in}
 use Rattle.gt_words.specs.Laws.{PastPinsAreRefused, PinsLeftAreCounted, WordsFollowViews}
 use Rattle.gt_words.specs.Rule.{ShowsEntry, header_now, owner_steps, place, total_until}
-use Rattle.gt_words.specs.Views.{IsIn, LivePin, exchanged, pins, pins_until, steps_on, steps_on_header, weight}
+use Rattle.gt_words.specs.Views.{IsIn, LivePin, exchanged, last_record, pins, pins_until, steps_on, steps_on_header, weight}
 use Rattle.gt_words.specs.declared.view.EntryRecord.{EntryRecord}
 use Rattle.gt_words.specs.declared.view.EntryStep.{EntryStep}
 use Rattle.gt_words.specs.declared.view.EntryStep.TheVariants.{Pinned}
@@ -40,11 +42,6 @@ until_at d g [] i h e = absurd (some-ne-none h (sym e))
 until_at d g (x ∷ xs) zero h e = let p : pins_until d g (pins x) ≡ pins_until d g (pins h) = ap (λ (z : List EntryStep). pins_until d g (pins z)) (some-injective x h e) in omega arith
 until_at d g (x ∷ xs) (suc i) h e = let l = until_at d g xs i h e in omega arith
 
-until_more : (d : Dir) (g : ℕ) (hs : List (List EntryStep)) (i : ℕ) (h : List EntryStep) (m : EntryStep) → get_elem? hs i ≡ some h → pins_until d g (pins (m ∷ h)) ≡ suc (pins_until d g (pins h)) → total_until d g (set hs i (m ∷ h)) ≡ suc (total_until d g hs)
-until_more d g [] i h m at e = absurd (some-ne-none h (sym at))
-until_more d g (x ∷ xs) zero h m at e = let p : pins_until d g (pins x) ≡ pins_until d g (pins h) = ap (λ (z : List EntryStep). pins_until d g (pins z)) (some-injective x h at) in omega arith
-until_more d g (x ∷ xs) (suc i) h m at e = let r = until_more d g xs i h m at e in omega arith
-
 -- a pin that is left of a record is counted by each word that the owner exchanged from
 pub pins_left : PinsLeftAreCounted
 pins_left k s i v t r e p shown at tn rn held past old = let hs : List (List EntryStep) = map (steps_on t r) s.views in let l = ((shown.now.entries t r tn rn).gone_on e past).left p.0 in
@@ -52,13 +49,12 @@ pins_left k s i v t r e p shown at tn rn held past old = let hs : List (List Ent
 
 -- no pin is taken of a record that the owner's list has gone on from
 pub past_pins : PastPinsAreRefused
-past_pins k s i v t r e at expected left d y steps here tn rn past old tight after = let hs : List (List EntryStep) = map (steps_on t r) s.views in let h : List EntryStep = steps_on t r v in let m : EntryStep = Pinned d expected y in
-    let h_at : get_elem? hs i ≡ some h = at_map (steps_on t r) s.views i v here in
-    let same = map_here steps s i v t r m here in let shown = after.now.entries t r tn rn in
-    let there : IsIn e (exchanged (owner_steps t (set hs i (m ∷ h)))) = subst (IsIn e) (sym (same_owner k.first t hs i h h_at exchanged m refl)) past in
-    let gone = shown.gone_on e (subst (λ (l : List (List EntryStep)). IsIn e (exchanged (owner_steps t l))) (sym same) there) in
-    let l : total_until d (generation_of e) (set hs i (m ∷ h)) ≤ pins_in d e = subst (λ (u : List (List EntryStep)). total_until d (generation_of e) u ≤ pins_in d e) same (gone.left d) in
-    let more = until_more d (generation_of e) hs i h m h_at (until_here d (generation_of e) y (pins h) old) in omega arith
+past_pins k s i v t r e at expected left d y past shown here tn rn gone old after =
+    let step = taken_then k s i v (on_entry t r (Pinned d expected y)) past at left shown after here in let last = step.3 in
+    let hs : List (List EntryStep) = map (steps_on t r) s.views in
+    let same : y ≡ last_record k.first (owner_steps t hs) = last.0 ∙ ap (last_record k.first) (owner_made k shown.history s shown.now.led_here t r t tn) in
+    let later = ((shown.now.entries t r tn rn).gone_on e gone).earlier (subst (λ (x : EntryRecord). x.entry ≢ Invalid) same last.1) in
+    let g = ap (λ (x : EntryRecord). x.generation) same in omega arith
 
 -- the words of an entry are those that its steps say
 one_entry : (g t word a b word' a' b' : ℕ) (hs : List (List EntryStep)) → ShowsEntry g t word a b hs → ShowsEntry g t word' a' b' hs → (word ≡ word') × (a ≡ a') × (b ≡ b')

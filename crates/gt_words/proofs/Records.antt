@@ -16,8 +16,8 @@ use Rattle.gt_types.specs.declared.Dir.{Dir}
 use Rattle.gt_types.specs.declared.Dir.TheVariants.{Read, Write}
 use Rattle.gt_words.specs.Controls.{IsValid, generation_of, pins_in}
 use Rattle.gt_words.specs.Laws.{alone, bounded}
-use Rattle.gt_words.specs.Rule.{Agrees, CountsTaken, IsLawful, IsNextEntry, IsRecord, IsRevocation, IsSeenOf, MayFollow, SawRecord, ShowsRecord, total_pins, total_taken}
-use Rattle.gt_words.specs.Views.{HasBody, IsIn, LivePin, Seen, is_same_dir, pin_count, pins, record_seen, seen, taken_count, value_or_zero, weight, with_body, without_pin}
+use Rattle.gt_words.specs.Rule.{Agrees, IsLawful, IsNextEntry, IsRecord, IsRevocation, IsSeenOf, MayFollow, SawRecord, ShowsRecord, total_pins}
+use Rattle.gt_words.specs.Views.{HasBody, IsIn, LivePin, Seen, is_same_dir, pin_count, pins, record_seen, seen, value_or_zero, weight, with_body, without_pin}
 use Rattle.gt_entry.specs.declared.change.Change.{Change}
 use Rattle.gt_words.specs.declared.view.EntryStep.{EntryStep}
 use Rattle.gt_words.specs.declared.view.EntryStep.TheVariants.{ChangeMissed, Changed, Looked, PinMissed, Pinned, ReadBody, StoredBody, Unpinned}
@@ -59,46 +59,6 @@ IsIn-without_pin c g p (q ∷ qs) h = go (IsIn-without_pin c g p qs) (is_same_di
     go : (IsIn p (without_pin c g qs) → IsIn p qs) → (b : Bool) → IsIn p (cond b qs (q ∷ without_pin c g qs)) → (p ≡ q) ⊎ IsIn p qs
     go more true k = inr k
     go more false k = ⊎_elim (λ (e : p ≡ q). inl e) (λ (r : IsIn p (without_pin c g qs)). inr (more r)) k
-
--- the pins that were ever taken
-
-pin_count-fewer : (d c : Dir) (g : ℕ) (ps : List LivePin) → pin_count d (without_pin c g ps) ≤ pin_count d ps
-pin_count-fewer d c g [] = omega arith
-pin_count-fewer d c g (q ∷ qs) = go (pin_count-fewer d c g qs) (is_same_dir c q.0 && (g == q.1.generation))
-  where
-    go : pin_count d (without_pin c g qs) ≤ pin_count d qs → (b : Bool) → pin_count d (cond b qs (q ∷ without_pin c g qs)) ≤ weight d q.0 + pin_count d qs
-    go l true = omega arith
-    go l false = omega arith
-
-held_taken : (d : Dir) (h : List EntryStep) → pin_count d (pins h) ≤ taken_count d h
-held_taken d [] = omega arith
-held_taken d (Pinned c e x ∷ ms) = let l = held_taken d ms in omega arith
-held_taken d (Unpinned c g ∷ ms) = let l = held_taken d ms in let f = pin_count-fewer d c g (pins ms) in omega arith
-held_taken d (Looked n ∷ ms) = held_taken d ms
-held_taken d (ReadBody p n ∷ ms) = held_taken d ms
-held_taken d (PinMissed c e f n ∷ ms) = held_taken d ms
-held_taken d (StoredBody p n ∷ ms) = held_taken d ms
-held_taken d (Changed c e n x ∷ ms) = held_taken d ms
-held_taken d (ChangeMissed c e f n ∷ ms) = held_taken d ms
-
-pub total_taken-most : (d : Dir) (hs : List (List EntryStep)) → total_pins d hs ≤ total_taken d hs
-total_taken-most d [] = omega arith
-total_taken-most d (h ∷ hs) = let l = total_taken-most d hs in let f = held_taken d h in omega arith
-
-taken_count-more : (d : Dir) (m : EntryStep) (h : List EntryStep) → taken_count d h ≤ taken_count d (m ∷ h)
-taken_count-more d (Pinned c e x) h = omega arith
-taken_count-more d (Unpinned c g) h = omega arith
-taken_count-more d (Looked n) h = omega arith
-taken_count-more d (ReadBody p n) h = omega arith
-taken_count-more d (PinMissed c e f n) h = omega arith
-taken_count-more d (StoredBody p n) h = omega arith
-taken_count-more d (Changed c e n x) h = omega arith
-taken_count-more d (ChangeMissed c e f n) h = omega arith
-
-pub total_taken-set : (d : Dir) (hs : List (List EntryStep)) (i : ℕ) (h : List EntryStep) (m : EntryStep) → get_elem? hs i ≡ some h → total_taken d hs ≤ total_taken d (set hs i (m ∷ h))
-total_taken-set d [] i h m e = absurd (some-ne-none h (sym e))
-total_taken-set d (x ∷ xs) zero h m e = let p : taken_count d x ≡ taken_count d h = ap (taken_count d) (some-injective x h e) in let l = taken_count-more d m h in omega arith
-total_taken-set d (x ∷ xs) (suc i) h m e = let r = total_taken-set d xs i h m e in omega arith
 
 -- the list of records
 
@@ -163,19 +123,12 @@ module _ (x : EntryRecord) (xs : List EntryRecord) (a b : ℕ) (hs : List (List 
   all_pinned f pinned j y e = ⊎_elim (λ (t : (j ≡ i) × ((m ∷ h) ≡ y)). subst (λ (z : List EntryStep). (p : LivePin) → IsIn p (pins z) → IsIn p.1 (x ∷ xs) × (p.1.entry ≢ Invalid)) t.1 f)
       (λ (t : (j ≢ i) × (get_elem? hs j ≡ some y)). pinned j y t.1) (at_set hs i j (m ∷ h) y e)
 
-  still_counted : get_elem? hs i ≡ some h → (s : Option Seen) → CountsTaken hs s → CountsTaken (set hs i (m ∷ h)) s
-  still_counted e None k = tt
-  still_counted e (Some s) k = λ d. let l = k d in let t = total_taken-set d hs i h m e in omega arith
-
-  all_counted : get_elem? hs i ≡ some h → CountsTaken hs (seen (m ∷ h)) → ((j : ℕ) (y : List EntryStep) → get_elem? hs j ≡ some y → CountsTaken hs (seen y)) → (j : ℕ) (y : List EntryStep) → get_elem? (set hs i (m ∷ h)) j ≡ some y → CountsTaken (set hs i (m ∷ h)) (seen y)
-  all_counted at f counted j y e = still_counted at (seen y) (⊎_elim (λ (t : (j ≡ i) × ((m ∷ h) ≡ y)). subst (λ (z : List EntryStep). CountsTaken hs (seen z)) t.1 f) (λ (t : (j ≢ i) × (get_elem? hs j ≡ some y)). counted j y t.1) (at_set hs i j (m ∷ h) y e))
-
   same_held : (d : Dir) → get_elem? hs i ≡ some h → pins (m ∷ h) ≡ pins h → total_pins d (set hs i (m ∷ h)) ≡ total_pins d hs
   same_held d e p = let r = total_pins-set d hs i h (m ∷ h) e in let q : pin_count d (pins (m ∷ h)) ≡ pin_count d (pins h) = ap (pin_count d) p in omega arith
 
   -- a step that changes neither the word nor a pin
-  pub sees_shown : (word : ℕ) → ShowsRecord x xs word a b hs → get_elem? hs i ≡ some h → pins (m ∷ h) ≡ pins h → SawRecord x xs (seen (m ∷ h)) → CountsTaken hs (seen (m ∷ h)) → ShowsRecord x xs word a b (set hs i (m ∷ h))
-  sees_shown word k e p f c = let r = same_held Read e p in let w = same_held Write e p in record {
+  pub sees_shown : (word : ℕ) → ShowsRecord x xs word a b hs → get_elem? hs i ≡ some h → pins (m ∷ h) ≡ pins h → SawRecord x xs (seen (m ∷ h)) → ShowsRecord x xs word a b (set hs i (m ∷ h))
+  sees_shown word k e p f = let r = same_held Read e p in let w = same_held Write e p in record {
     spelled = k.spelled ∙ ap (λ (z : ℕ × ℕ). word_of x.entry x.generation z.0 z.1) (λ j. (sym r j, sym w j));
     in_range = (let t = k.in_range.0 in omega arith, let t = k.in_range.1 in omega arith);
     body = k.body;
@@ -183,7 +136,6 @@ module _ (x : EntryRecord) (xs : List EntryRecord) (a b : ℕ) (hs : List (List 
     unwritten = λ n. w ∙ k.unwritten n;
     pinned = all_pinned (λ q t. k.pinned i h e q (subst (IsIn q) p t)) k.pinned;
     saw = all_known f k.saw;
-    counted = all_counted e c k.counted;
   }
 
 -- the word of the last record is a look at it
@@ -195,19 +147,6 @@ looks_at x xs r w word f e = record { at = x; reads = r; writes = w; listed = in
     blank (Page d o f) = tt
     blank (Sub d o f a n) = (tt, tt)
     blank (Via d o t r) = tt
-
--- the word of the last record counts the pins of all views, and each of them was taken
-pub word_counts : (x : EntryRecord) (xs : List EntryRecord) (word a b : ℕ) (hs : List (List EntryStep)) → ShowsRecord x xs word a b hs → (d : Dir) → pins_in d word ≤ total_taken d hs
-word_counts x xs word a b hs k Read = let p = spelled_parts x.entry x.generation (total_pins Read hs) (total_pins Write hs) (legal_record x xs k.lawful).0 k.in_range in
-    let e : pins_in Read word ≡ total_pins Read hs = ap (pins_in Read) k.spelled ∙ p.reads in let l = total_taken-most Read hs in omega arith
-word_counts x xs word a b hs k Write = let p = spelled_parts x.entry x.generation (total_pins Read hs) (total_pins Write hs) (legal_record x xs k.lawful).0 k.in_range in
-    let e : pins_in Write word ≡ total_pins Write hs = ap (pins_in Write) k.spelled ∙ p.writes in let l = total_taken-most Write hs in omega arith
-
--- a look at a body word leaves the word seen
-pub body_counts : (hs : List (List EntryStep)) (k : Half) (v : ℕ) (s : Option Seen) → CountsTaken hs s → CountsTaken hs (with_body k v s)
-body_counts hs k v None c = tt
-body_counts hs First v (Some s) c = c
-body_counts hs Second v (Some s) c = c
 
 saw_first : (e : Entry) (a b : ℕ) (p q : Option ℕ) → IsSpelled e a b → Agrees e p q → Agrees e (Some a) q
 saw_first Invalid a b p q s g = tt
@@ -270,7 +209,6 @@ module _ (x : EntryRecord) (xs : List EntryRecord) (a b : ℕ) (hs : List (List 
         unwritten = λ z. read_pin d x writable (total_pins Write hs) (total_pins Write hs') w z (k.unwritten z);
         pinned = all_pinned x xs a b hs i h (Pinned d expected x) (λ p t. ⊎_elim (λ (s : p ≡ (d, x)). let one = ap (λ (z : LivePin). z.1) s in (inl one, subst (λ (u : EntryRecord). u.entry ≢ Invalid) (sym one) n)) (λ (s : IsIn p (pins h)). k.pinned i h e p s) t) k.pinned;
         saw = all_known x xs a b hs i h (Pinned d expected x) (k.saw i h e) k.saw;
-        counted = all_counted x xs a b hs i h (Pinned d expected x) e (k.counted i h e) k.counted;
       }
 
   pub unpins_shown : (word : ℕ) (d : Dir) (p : LivePin) → ShowsRecord x xs word a b hs → get_elem? hs i ≡ some h → IsIn p (pins h) → p.0 ≡ d
@@ -286,12 +224,11 @@ module _ (x : EntryRecord) (xs : List EntryRecord) (a b : ℕ) (hs : List (List 
         unwritten = λ z. let q = k.unwritten z in omega arith;
         pinned = all_pinned x xs a b hs i h m (λ q t. k.pinned i h e q (IsIn-without_pin d g q (pins h) t)) k.pinned;
         saw = all_known x xs a b hs i h m (k.saw i h e) k.saw;
-        counted = all_counted x xs a b hs i h m e (k.counted i h e) k.counted;
       }
 
   -- the owner stores a body word of an invalid entry
   pub stores_shown : (word : ℕ) (k : Half) (v a' b' : ℕ) → ShowsRecord x xs word a b hs → get_elem? hs i ≡ some h → x.entry ≡ Invalid → ShowsRecord x xs word a' b' (set hs i (StoredBody k v ∷ h))
-  stores_shown word k v a' b' z e n = let s = sees_shown x xs a b hs i h (StoredBody k v) word z e refl (z.saw i h e) (z.counted i h e) in record {
+  stores_shown word k v a' b' z e n = let s = sees_shown x xs a b hs i h (StoredBody k v) word z e refl (z.saw i h e) in record {
     spelled = s.spelled;
     in_range = s.in_range;
     body = subst (λ (y : Entry). IsSpelled y a' b') (sym n) tt;
@@ -299,14 +236,13 @@ module _ (x : EntryRecord) (xs : List EntryRecord) (a b : ℕ) (hs : List (List 
     unwritten = s.unwritten;
     pinned = s.pinned;
     saw = s.saw;
-    counted = s.counted;
   }
 
   -- the owner exchanges the control word
   pub changes_shown : (word word' expected stored : ℕ) (c : Change) (y : EntryRecord) → ShowsRecord x xs word a b hs → get_elem? hs i ≡ some h → IsRecord y → MayFollow y x → IsSpelled y.entry a b
       → word' ≡ word_of y.entry y.generation (total_pins Read hs) (total_pins Write hs) → (is_read_only y.entry ≡ true → total_pins Write hs ≡ 0)
       → ShowsRecord y (x ∷ xs) word' a b (set hs i (Changed c expected stored y ∷ h))
-  changes_shown word word' expected stored c y k e ok may body is unwritten = let m : EntryStep = Changed c expected stored y in let s = sees_shown x xs a b hs i h m word k e refl (k.saw i h e) (k.counted i h e) in
+  changes_shown word word' expected stored c y k e ok may body is unwritten = let m : EntryStep = Changed c expected stored y in let s = sees_shown x xs a b hs i h m word k e refl (k.saw i h e) in
       let r = same_held x xs a b hs i h m Read e refl in let w = same_held x xs a b hs i h m Write e refl in record {
         spelled = is ∙ ap (λ (z : ℕ × ℕ). word_of y.entry y.generation z.0 z.1) (λ j. (sym r j, sym w j));
         in_range = s.in_range;
@@ -315,7 +251,6 @@ module _ (x : EntryRecord) (xs : List EntryRecord) (a b : ℕ) (hs : List (List 
         unwritten = λ n. w ∙ unwritten n;
         pinned = λ j z at p t. let old = s.pinned j z at p t in (inr old.0, old.1);
         saw = λ j z at. on (seen z) (s.saw j z at);
-        counted = s.counted;
       }
     where
       on : (s : Option Seen) → SawRecord x xs s → SawRecord y (x ∷ xs) s

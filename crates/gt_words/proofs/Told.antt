@@ -6,6 +6,7 @@ use native.Mathlib.Decide.{ℕ_discrete}
 use prog.Atomic.{either}
 use lib.ListN.{get_elem?}
 use Rattle.atomic_table.proofs.Lists.{at_map}
+use Rattle.atomic_table.specs.Table.{State}
 use Rattle.gt_entry.specs.Entries.{is_read_only}
 use Rattle.gt_entry.specs.Spelling.{control_with, idle_word_of, named_domain, word_of}
 use Rattle.gt_entry.specs.Words.{control_of, unit_of}
@@ -15,7 +16,8 @@ use Rattle.gt_entry.specs.declared.entry.Entry.TheVariants.{Invalid, Page, Sub, 
 use Rattle.gt_types.specs.declared.Dir.{Dir}
 use Rattle.gt_types.specs.declared.Dir.TheVariants.{Read, Write}
 use Rattle.gt_words.proofs.Kept.{AreAlike, body_generation, given_less, given_records, keeps, keeps_header, keeps_others, keeps_pins, keeps_rows, sees_no_earlier, some_more, taken_more, taken_records, there_is}
-use Rattle.gt_words.proofs.Lifts.{steps_on-added, steps_on-added-else}
+use Rattle.gt_words.proofs.Happened.{held_there}
+use Rattle.gt_words.proofs.Lifts.{inside, owner_made, steps_on-added, steps_on-added-else}
 use Rattle.gt_words.proofs.OneEntry.{count_in, held_at, idle_held, mine}
 use Rattle.gt_words.proofs.Owed.{spelled_generation}
 use Rattle.gt_words.specs.Keeping.{HoldsOneMore, generation_in}
@@ -23,10 +25,10 @@ use Rattle.gt_words.specs.Laws.{bounded, one_record}
 use Rattle.gt_words.proofs.Records.{legal_record, listed_record, seen_is_last, spelled_control, spelled_parts}
 use Rattle.gt_words.specs.Conditions.{AddsToEntry, Changes, CountsPins, Demotes, HasLooked, HasNoPins, HasNoWritePins, Holds, IsBusyOf, IsIdleOf, IsNotEarlier, IsWordOf, LooksAtBody, LooksAtControl, MayPin, MissesBusy, MissesChange, MissesPin, Pins, Publishes, Revokes, StepsOnControl, StoresBody, Unpins}
 use Rattle.gt_words.specs.Controls.{IsTurnable, IsValid, generation_of, pins_in}
-use Rattle.gt_words.specs.History.{History}
-use Rattle.gt_words.specs.Rule.{IsRecord, Layout, SawRecord, ShowsEntry, ShowsRecord, owner_steps, place, total_pins}
+use Rattle.gt_words.specs.History.{History, part_of}
+use Rattle.gt_words.specs.Rule.{IsRecord, Layout, SawRecord, ShowsEntry, ShowsRecord, Stands, owner_steps, place, total_pins}
 use Rattle.gt_words.specs.Steps.{TakesStep, changed, changed_word, exchanging, half_index, half_of, missed, on_entry, taken}
-use Rattle.gt_words.specs.Views.{IsIn, LivePin, Seen, earlier_records, is_half, last_of, last_record, last_seen, own, own_body, pin_count, pins, record_seen, seen, steps_on, steps_on_header, stored_body, with_step}
+use Rattle.gt_words.specs.Views.{IsIn, LivePin, Seen, earlier_records, entry_steps, is_half, last_of, last_record, last_seen, own, own_body, pin_count, pins, record_seen, seen, steps_on, steps_on_header, stored_body, with_step}
 use Rattle.gt_entry.specs.declared.change.Change.{Change}
 use Rattle.gt_words.specs.declared.view.EntryStep.{EntryStep}
 use Rattle.gt_words.specs.declared.view.EntryStep.TheVariants.{ChangeMissed, Changed, Looked, PinMissed, Pinned, ReadBody, StoredBody, Unpinned}
@@ -69,22 +71,29 @@ exchange_missed k t r v p old new found w n past view step = let b : (found == o
 }
 
 module _ (k : Layout) (t r : ℕ) (m : EntryStep) (found left : ℕ) (v w : View) (tn : t < k.domains) (rn : r < TABLE_ENTRIES) (z : StepsOnControl k t r m found left v w) where
+  -- the state before it
+  abbrev there : State (Unit {0}) View
+  there = z.step.stood.0
+
+  stands : Stands k z.past there
+  stands = z.step.stood.1
+
   -- the steps of each seat on the entry before it
   abbrev all : List (List EntryStep)
-  all = map (steps_on t r) z.step.before.views
+  all = map (steps_on t r) there.views
 
   abbrev first_there : ℕ
-  first_there = get_or z.step.before.words (place t r 1) 0
+  first_there = get_or there.words (place t r 1) 0
 
   abbrev second_there : ℕ
-  second_there = get_or z.step.before.words (place t r 2) 0
+  second_there = get_or there.words (place t r 2) 0
 
   -- the entry is shown, by the word found
   pub shown_there : ShowsEntry k.first t found first_there second_there all
-  shown_there = subst (λ (u : ℕ). ShowsEntry k.first t u first_there second_there all) z.step.found_is (z.step.shown.now.entries t r tn rn)
+  shown_there = subst (λ (u : ℕ). ShowsEntry k.first t u first_there second_there all) (stands.led_here.words (place t r 0) (inside k.domains t r 0 tn rn (omega arith)) ∙ z.step.found_is) (stands.entries t r tn rn)
 
   pub seat_there : get_elem? all v.position ≡ some (steps_on t r v)
-  seat_there = at_map (steps_on t r) z.step.before.views v.position v z.step.mine
+  seat_there = at_map (steps_on t r) there.views v.position v z.step.stood.2
 
   -- a word that is found is of a generation not below that of the word seen before
   pub not_earlier : IsNotEarlier t r v found
@@ -105,7 +114,7 @@ module _ (k : Layout) (t r : ℕ) (m : EntryStep) (found left : ℕ) (v w : View
   module _ (own_is : v.position ≡ t) where
     -- the entry is shown by the owner's last record
     pub owners_entry : ShowsRecord (last_of r v) (earlier_records v.first (steps_on v.position r v)) found first_there second_there all
-    owners_entry = let is = z.step.shown.now.seats v.position v z.step.mine in let here : get_elem? all t ≡ some (steps_on t r v) = subst (λ (u : ℕ). get_elem? all u ≡ some (steps_on t r v)) own_is seat_there in
+    owners_entry = let is = stands.seats v.position v z.step.stood.2 in let here : get_elem? all t ≡ some (steps_on t r v) = subst (λ (u : ℕ). get_elem? all u ≡ some (steps_on t r v)) own_is seat_there in
         let s = mine k.first t all (steps_on t r v) here found first_there second_there shown_there in
         subst (λ (u : ℕ × ℕ). ShowsRecord (last_record u.0 (steps_on u.1 r v)) (earlier_records u.0 (steps_on u.1 r v)) found first_there second_there all) (λ i. (sym is.1 i, sym own_is i)) s
 
@@ -137,14 +146,13 @@ module _ (k : Layout) (t r : ℕ) (m : EntryStep) (found left : ℕ) (v w : View
     no_pins ((Write, x) ∷ ps) a b = absurd (omega arith)
 
     -- the idle word was found in a state without pins
-    pub idle_unpinned : IsIdleOf (last_of r v) found → HasNoPins t r z.step.before
-    idle_unpinned idle i u at = let e = idle_held (last_of r v) (earlier_records v.first (steps_on v.position r v)) found (total_pins Read all) (total_pins Write all) owners_entry.lawful owners_entry.in_range owners_entry.spelled idle in
-        let h = at_map (steps_on t r) z.step.before.views i u at in let e0 = e.0 in let e1 = e.1 in
-        let a = held_at Read all i (steps_on t r u) h in let b = held_at Write all i (steps_on t r u) h in no_pins (pins (steps_on t r u)) (omega arith) (omega arith)
+    pub idle_unpinned : IsIdleOf (last_of r v) found → HasNoPins t r z.past
+    idle_unpinned idle i = let e = idle_held (last_of r v) (earlier_records v.first (steps_on v.position r v)) found (total_pins Read all) (total_pins Write all) owners_entry.lawful owners_entry.in_range owners_entry.spelled idle in
+        let e0 = e.0 in let e1 = e.1 in let a = held_there k z.past there stands.led_here t r i Read in let b = held_there k z.past there stands.led_here t r i Write in no_pins (pins (entry_steps t r (part_of i z.past))) (omega arith) (omega arith)
 
     -- a word without write pins was found in a state without them
-    pub write_unpinned : pins_in Write found ≡ 0 → HasNoWritePins t r z.step.before
-    write_unpinned none_there i u at = let h = at_map (steps_on t r) z.step.before.views i u at in let b = held_at Write all i (steps_on t r u) h in let x : EntryRecord = last_of r v in
+    pub write_unpinned : pins_in Write found ≡ 0 → HasNoWritePins t r z.past
+    write_unpinned none_there i = let b = held_there k z.past there stands.led_here t r i Write in let x : EntryRecord = last_of r v in
         let rec = legal_record x (earlier_records v.first (steps_on v.position r v)) owners_entry.lawful in
         let e : pins_in Write found ≡ total_pins Write all = ap (pins_in Write) spelled_word ∙ (spelled_parts x.entry x.generation (total_pins Read all) (total_pins Write all) rec.0 owners_entry.in_range).writes in
         omega arith
@@ -201,12 +209,12 @@ looks_at_own k t r n v w tn rn z own_is = subst (λ (x : EntryRecord). IsWordOf 
 module _ (k : Layout) (t r : ℕ) (d : Dir) (word : ℕ) (v w : View) (tn : t < k.domains) (rn : r < TABLE_ENTRIES) (looked : HasLooked t r v word) where
   -- a pin was taken
   pub pins_entry : IsValid word → MayPin k t r v d (record_seen (last_seen t r v)) → StepsOnControl k t r (Pinned d word (record_seen (last_seen t r v))) word (word + unit_of d) v w → Pins k t r d word v w
-  pins_entry valid may z = let y : EntryRecord = record_seen (last_seen t r v) in let m : EntryStep = Pinned d word y in let all : List (List EntryStep) = map (steps_on t r) z.step.before.views in let f = (shown_there k t r m word (word + unit_of d) v w tn rn z).record_shown in
+  pins_entry valid may z = let y : EntryRecord = record_seen (last_seen t r v) in let m : EntryStep = Pinned d word y in let all : List (List EntryStep) = map (steps_on t r) z.step.stood.0.views in let f = (shown_there k t r m word (word + unit_of d) v w tn rn z).record_shown in
       let x : EntryRecord = last_record k.first (owner_steps t all) in let xs : List EntryRecord = earlier_records k.first (owner_steps t all) in
       let pin : IsIn (d, y) (pins (steps_on t r w)) = subst (λ (ms : List EntryStep). IsIn (d, y) (pins ms)) (sym z.adds.here) (inl refl) in
       let more : HoldsOneMore t r d (generation_of word) v w = subst (λ (g : ℕ). HoldsOneMore t r d g v w) (ap generation_of looked.1) (taken_more t r d word y v w z.adds) in record {
         steps = z;
-        current = sym (seen_is_last x xs (last_seen t r v) word (total_pins Read all) (total_pins Write all) f.lawful (subst (SawRecord x xs) looked.0 (f.saw v.position (steps_on t r v) (seat_there k t r m word (word + unit_of d) v w tn rn z))) f.in_range f.spelled looked.1 valid looked.2).0;
+        current = ap (last_record k.first) (owner_made k z.past z.step.stood.0 z.step.stood.1.led_here t r t tn) ∙ sym (seen_is_last x xs (last_seen t r v) word (total_pins Read all) (total_pins Write all) f.lawful (subst (SawRecord x xs) looked.0 (f.saw v.position (steps_on t r v) (seat_there k t r m word (word + unit_of d) v w tn rn z))) f.in_range f.spelled looked.1 valid looked.2).0;
         permitted = may;
         held = some_more t r d (generation_of word) v w more;
         pin = pin;
@@ -227,11 +235,14 @@ pins_in-spelled Read x word reads writes ok in_range is hs a b = ap (pins_in Rea
 pins_in-spelled Write x word reads writes ok in_range is hs a b = ap (pins_in Write) is ∙ ((spelled_parts x.entry x.generation reads writes ok.0 in_range).writes ∙ b)
 
 -- while a view has a pin of an entry, its control word counts it
-pub counts_pins : (k : Layout) (t r : ℕ) (d : Dir) → t < k.domains → r < TABLE_ENTRIES → CountsPins k t r d
-counts_pins k t r d tn rn s i v shown at = let hs : List (List EntryStep) = map (steps_on t r) s.views in let f = (shown.now.entries t r tn rn).record_shown in
+counted_there : (k : Layout) (t r : ℕ) (d : Dir) → t < k.domains → r < TABLE_ENTRIES → (h : History) (s : State (Unit {0}) View) (i : ℕ) (v : View) → Stands k h s → get_elem? s.views i ≡ some v → pin_count d (pins (steps_on t r v)) ≤ pins_in d (get_or s.words (place t r 0) 0)
+counted_there k t r d tn rn h s i v stands at = let hs : List (List EntryStep) = map (steps_on t r) s.views in let f = (stands.entries t r tn rn).record_shown in
     let x : EntryRecord = last_record k.first (owner_steps t hs) in let xs : List EntryRecord = earlier_records k.first (owner_steps t hs) in
     let e = pins_in-spelled d x (get_or s.words (place t r 0) 0) (total_pins Read hs) (total_pins Write hs) (legal_record x xs f.lawful) f.in_range f.spelled hs refl refl in
     let l = held_at d hs i (steps_on t r v) (at_map (steps_on t r) s.views i v at) in omega arith
+
+pub counts_pins : (k : Layout) (t r : ℕ) (d : Dir) → t < k.domains → r < TABLE_ENTRIES → CountsPins k t r d
+counts_pins k t r d tn rn s i v shown at = counted_there k t r d tn rn shown.history s i v shown.now at
 
 lowered : (d : Dir) (w : ℕ) → 0 < pins_in d w → w < 18446744073709551616 → (w + (2 ^ 64 - unit_of d)) % 2 ^ 64 ≡ w - unit_of d
 lowered Read w a b = omega arith
@@ -241,7 +252,7 @@ lowered Write w a b = omega arith
 pub unpins : (k : Layout) (t r : ℕ) (d : Dir) (g : ℕ) (v : View) (found : ℕ) (w : View) → t < k.domains → r < TABLE_ENTRIES → Holds t r d g v → found < 18446744073709551616
     → (past : History) → w ≡ with_step past (on_entry t r (Unpinned d g)) v → TakesStep (Unit {0}) k v past (on_entry t r (Unpinned d g)) (place t r 0) found ((found + (2 ^ 64 - unit_of d)) % 2 ^ 64) → Unpins k t r d g v w
 unpins k t r d g v found w tn rn holds fits past view step = let p = there_is d g (pins (steps_on t r v)) holds in let c = count_in d p.0 (pins (steps_on t r v)) p.1 p.2 in
-    let l = counts_pins k t r d tn rn step.before v.position v step.shown step.mine in let e : get_or step.before.words (place t r 0) 0 ≡ found = step.found_is in
+    let l = counted_there k t r d tn rn past step.stood.0 v.position v step.stood.1 step.stood.2 in let e : get_or step.stood.0.words (place t r 0) 0 ≡ found = step.stood.1.led_here.words (place t r 0) (inside k.domains t r 0 tn rn (omega arith)) ∙ step.found_is in
     let l' : pin_count d (pins (steps_on t r v)) ≤ pins_in d found = subst (λ (n : ℕ). pin_count d (pins (steps_on t r v)) ≤ pins_in d n) e l in let some_pin : 0 < pins_in d found = omega arith in
     let m : EntryStep = Unpinned d g in let a = adds_to_entry past t r m v w view in
     let z : StepsOnControl k t r m found (found - unit_of d) v w = record { past = past; adds = a; step = subst (λ (n : ℕ). TakesStep (Unit {0}) k v past (on_entry t r m) (place t r 0) found n) (lowered d found some_pin fits) step } in record {

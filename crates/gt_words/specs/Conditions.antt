@@ -20,14 +20,13 @@ use Rattle.gt_types.specs.declared.config.Config.{Config}
 use Rattle.gt_types.specs.declared.config.StartFault.{StartFault}
 use Rattle.gt_types.specs.declared.limits.TheConstants.{LAST_GENERATION, MAX_DOMAINS, MAX_PINS, TABLE_ENTRIES}
 use Rattle.gt_words.specs.Controls.{ForwardsPin, IsValid, LeadsTo, PermitsPin, generation_of, pins_in}
-use Rattle.gt_words.specs.Events.{shown_entry}
 pub use Rattle.gt_words.specs.Keeping.{Holds, HoldsOneMore, Keeps, KeepsOtherRows, KeepsPins, KeepsRecords, KeepsRows}
 pub use Rattle.gt_words.specs.Keeping.{SeesNoEarlier, seen_generation}
-use Rattle.gt_words.specs.History.{History}
+use Rattle.gt_words.specs.History.{History, entry_made, part_of}
 use Rattle.gt_words.specs.Rule.{IsKeptHeader, Layout, Shows, header_place, id_at, place, position_in}
 pub use Rattle.gt_words.specs.Rule.{initial}
 use Rattle.gt_words.specs.Steps.{TakesStep, changed, changed_word, half_index, on_entry, on_header}
-use Rattle.gt_words.specs.Views.{HasBody, IsIn, LivePin, last_of, last_seen, own_body, own_header, own_list, pin_count}
+use Rattle.gt_words.specs.Views.{HasBody, IsIn, entry_steps, LivePin, last_of, last_seen, own_body, own_header, own_list, pin_count}
 use Rattle.gt_words.specs.Views.{pins, record_seen, seen, steps_on, steps_on_header, with_step}
 use Rattle.gt_words.specs.declared.word_table.TheConstants.{DOMAIN_WORDS, ENTRY_WORDS}
 use Rattle.gt_entry.specs.declared.change.Change.{Change}
@@ -184,13 +183,13 @@ CanChange Withdraw r word v = CanWithdraw r word v
 CanChange Demote r word v = CanDemote r word v
 CanChange Promote r word v = CanTurn true r word v
 
--- no view has a pin of the entry r of the domain t (own)
-abbrev pub HasNoPins : {S : Type 0} → ℕ → ℕ → State S View → Type 0
-HasNoPins t r s = (i : ℕ) (v : View) → get_elem? s.views i ≡ some v → pins (steps_on t r v) ≡ []
+-- after these steps of all seats none has a pin of the entry r of the domain t (own)
+abbrev pub HasNoPins : ℕ → ℕ → History → Type 0
+HasNoPins t r past = (i : ℕ) → pins (entry_steps t r (part_of i past)) ≡ []
 
--- no view has a write pin of the entry r of the domain t (own)
-abbrev pub HasNoWritePins : {S : Type 0} → ℕ → ℕ → State S View → Type 0
-HasNoWritePins t r s = (i : ℕ) (v : View) → get_elem? s.views i ≡ some v → pin_count Write (pins (steps_on t r v)) ≡ 0
+-- after these steps of all seats none has a write pin of the entry r of the domain t (own)
+abbrev pub HasNoWritePins : ℕ → ℕ → History → Type 0
+HasNoWritePins t r past = (i : ℕ) → pin_count Write (pins (entry_steps t r (part_of i past))) ≡ 0
 
 -- in each state that words and views show, the control word of the entry
 -- counts the pins of that kind that a view has of it (own)
@@ -298,7 +297,7 @@ UnpinsPin b p v w = Unpins b.layout (position_at b p.dom) p.gref.0 p.dir (genera
 -- last record of its owner's list, and which the seat may pin (own)
 pub record Pins (k : Layout) (t r : ℕ) (d : Dir) (word : ℕ) (v w : View) : Type 0 where
   pub steps : StepsOnControl k t r (Pinned d word (record_seen (last_seen t r v))) word (word + unit_of d) v w
-  pub current : (shown_entry k t r steps.step.before).current ≡ record_seen (last_seen t r v)
+  pub current : (entry_made k t r steps.past).current ≡ record_seen (last_seen t r v)
   pub permitted : MayPin k t r v d (record_seen (last_seen t r v))
   pub held : Holds t r d (generation_of word) w
   pub pin : IsIn (d, record_seen (last_seen t r v)) (pins (steps_on t r w))
@@ -341,20 +340,20 @@ pub record MissesBusy (k : Layout) (r : ℕ) (c : Change) (word found : ℕ) (v 
   pub missed : MissesChange k r c word found v w
   pub busy : IsBusyOf (last_of r v) found
 
--- the entry was published by one exchange, in a state in which no view had a pin of an earlier one there (own)
+-- the entry was published by one exchange, at which no seat had a pin of an earlier one there (own)
 pub record Publishes (k : Layout) (r : ℕ) (e : Entry) (word : ℕ) (v w : View) : Type 0 where
   pub changes : Changes k r (Publish e) word v w
-  pub no_pins : HasNoPins v.position r changes.steps.step.before
+  pub no_pins : HasNoPins v.position r changes.steps.past
 
--- the entry was made invalid by one exchange, in a state in which no view had a pin of it (own)
+-- the entry was made invalid by one exchange, at which no seat had a pin of it (own)
 pub record Revokes (k : Layout) (r : ℕ) (word : ℕ) (v w : View) : Type 0 where
   pub changes : Changes k r Revoke word v w
-  pub no_pins : HasNoPins v.position r changes.steps.step.before
+  pub no_pins : HasNoPins v.position r changes.steps.past
 
--- the entry was made read-only by one exchange, in a state in which no view had a write pin of it (own)
+-- the entry was made read-only by one exchange, at which no seat had a write pin of it (own)
 pub record Demotes (k : Layout) (r : ℕ) (word : ℕ) (v w : View) : Type 0 where
   pub changes : Changes k r Demote word v w
-  pub no_write_pins : HasNoWritePins v.position r changes.steps.step.before
+  pub no_write_pins : HasNoWritePins v.position r changes.steps.past
 
 -- why words are not made: the first fault of the configuration, or no memory where it has none (own)
 abbrev pub IsStartFault : Config → StartFault → Type 0

@@ -1,4 +1,4 @@
--- The state of the core that words and views show, and what each event of the core makes of it.
+-- What each event of the core makes of the state that a history of steps makes.
 use Rattle.std.specs.Prelude.{◌≡◌, ℕ, zero, suc, cond, ◌==◌, ◌&&◌, List, [], ◌∷◌, map, slice_index, slice_index_or, slice_set}
 use Rattle.atomic_table.specs.Table.{State}
 use Rattle.gt_entry.specs.declared.change.Half.TheVariants.{First, Second}
@@ -13,34 +13,9 @@ use Rattle.gt_words.specs.declared.view.SeatStep.TheVariants.{Entry, Header}
 use Rattle.gt_words.specs.declared.view.View.{View}
 use Rattle.gt_words.specs.Views.{LivePin, pins, without_pin, last_record, stored_body, steps_on, steps_on_header}
 use Rattle.gt_words.specs.Views.{entry_steps, header_steps, stored_header}
-use Rattle.gt_words.specs.History.{History, part_of}
+use Rattle.gt_words.specs.History.{EntryState, History, Moment, PinsLast, Says, entry_made, header_made, place_of, word_after}
 pub use Rattle.gt_words.specs.History.{HeaderByOwner, IsByOwner}
-use Rattle.gt_words.specs.Rule.{Layout, owner_steps, header_now}
-
--- an entry of the core: entry and generation, the body words, and the live pins of each domain (own)
-pub record EntryState : Type 0 where
-  pub current : EntryRecord
-  pub first : ℕ
-  pub second : ℕ
-  pub live : List (List LivePin)
-
--- an entry of the domain t as the steps of each seat on it leave it, from the first generation g (own)
-abbrev pub entry_by : ℕ → ℕ → List (List EntryStep) → EntryState
-entry_by g t hs =
-    record {
-      current = last_record g (owner_steps t hs);
-      first = stored_body First (owner_steps t hs);
-      second = stored_body Second (owner_steps t hs);
-      live = map pins hs;
-    }
-
--- the entry r of the domain t that the state shows (own)
-abbrev pub shown_entry : {S : Type 0} → Layout → ℕ → ℕ → State S View → EntryState
-shown_entry k t r s = entry_by k.first t (map (steps_on t r) s.views)
-
--- the header of the domain t that the state shows (own)
-abbrev pub shown_header : {S : Type 0} → Layout → ℕ → State S View → ℕ
-shown_header k t s = header_now k t (map (steps_on_header t) s.views)
+use Rattle.gt_words.specs.Rule.{Layout, Stands}
 
 -- the live pins of the domain i (own)
 abbrev pub live_of : ℕ → EntryState → List LivePin
@@ -74,20 +49,16 @@ abbrev pub event_on_header : SeatStep → ℕ → ℕ → ℕ
 event_on_header (Header d m) t w = cond (d == t) (header_after m w) w
 event_on_header (Entry d q m) t w = w
 
--- the step x of the domain i takes the state shown before to the one that the event of the core gives (own)
-pub record Happens {S : Type 0} (k : Layout) (i : ℕ) (x : SeatStep) (before after : State S View) : Type 0 where
-  pub entries : (t r : ℕ) → shown_entry k t r after ≡ event_on_entry i x t r (shown_entry k t r before)
-  pub headers : (t : ℕ) → shown_header k t after ≡ event_on_header x t (shown_header k t before)
+-- the step x of the domain i takes each entry and header that the steps before it make
+-- to what the event of the core gives (own)
+pub record Happens (k : Layout) (i : ℕ) (x : SeatStep) (past : History) : Type 0 where
+  pub entries : (t r : ℕ) → entry_made k t r ((i, x) ∷ past) ≡ event_on_entry i x t r (entry_made k t r past)
+  pub headers : (t : ℕ) → header_made k t ((i, x) ∷ past) ≡ event_on_header x t (header_made k t past)
 
--- out of a history, the steps of each seat on the entry r of the domain t, at n positions from i on (own)
-abbrev pub parts_on : ℕ → ℕ → History → ℕ → ℕ → List (List EntryStep)
-parts_on t r h i zero = []
-parts_on t r h i (suc n) = entry_steps t r (part_of i h) ∷ parts_on t r h (suc i) n
-
--- the entry r of the domain t that a history makes (own)
-abbrev pub entry_made : Layout → ℕ → ℕ → History → EntryState
-entry_made k t r h = entry_by k.first t (parts_on t r h 0 k.domains)
-
--- the header of the domain t that a history makes (own)
-abbrev pub header_made : Layout → ℕ → History → ℕ
-header_made k t h = stored_header (slice_index k.headers t) (header_steps t (part_of t h))
+-- the step of the domain i was taken at this moment: words and views stood so before it, it says the number that was
+-- there, takes a pin only of the last record, and takes each entry and header to what the event of the core gives (own)
+pub record TookPlace (k : Layout) (i : ℕ) (m : Moment) : Type 0 where
+  pub stood : (z : State (Unit {0}) View) × Stands k m.0 z
+  pub says : Says m.1 (word_after k m.0 (place_of m.1))
+  pub of_last : PinsLast k m.0 m.1
+  pub happens : Happens k i m.1 m.0

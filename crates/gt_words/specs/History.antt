@@ -1,6 +1,7 @@
--- The one order of all steps of all seats, and the words that it makes. Lists begin with what came last.
+-- The one order of all steps of all seats, and the words and the state of the core that it makes. Lists begin with what
+-- came last.
 use Rattle.std.specs.Prelude.{◌≡◌, ◌≢◌, ℕ, ◌+◌, ◌-◌, ◌*◌, ◌/◌, ◌%◌, ◌^◌, ◌<◌, ◌≤◌, cond, ◌==◌, List, [], ◌∷◌, length}
-use Rattle.std.specs.Prelude.{slice_index}
+use Rattle.std.specs.Prelude.{map, slice_index, slice_index_or, suc, zero}
 use mathlib.Core.Option.{some}
 use lib.ListN.{get_elem?}
 use Rattle.atomic_table.specs.Table.{State}
@@ -16,6 +17,9 @@ use Rattle.gt_words.specs.declared.view.HeaderStep.TheVariants as header
 use Rattle.gt_words.specs.declared.view.SeatStep.{SeatStep}
 use Rattle.gt_words.specs.declared.view.SeatStep.TheVariants.{Entry, Header}
 use Rattle.gt_words.specs.declared.view.View.{View}
+use Rattle.gt_words.specs.declared.view.EntryRecord.{EntryRecord}
+use Rattle.gt_entry.specs.declared.entry.Entry.TheVariants.{Invalid}
+use Rattle.gt_words.specs.Views.{LivePin, entry_steps, header_steps, last_record, pins, stored_body, stored_header}
 use Rattle.gt_words.specs.declared.word_table.TheConstants.{DOMAIN_WORDS, ENTRY_WORDS}
 
 -- the run as the words need it: the domains in order, their number, the first
@@ -132,11 +136,56 @@ abbrev pub IsOwners : ℕ → SeatStep → Type 0
 IsOwners i (Entry t r m) = IsByOwner i t m
 IsOwners i (Header t m) = HeaderByOwner i t m
 
--- each step of the history found the word that the steps before it make, and
--- stored or changed only what is its seat's own (own)
+-- the owner's steps on the entry, out of those of each seat (own)
+abbrev pub owner_steps : ℕ → List (List EntryStep) → List EntryStep
+owner_steps t hs = slice_index_or hs t []
+
+-- an entry of the core: entry and generation, the body words, and the live pins of each domain (own)
+pub record EntryState : Type 0 where
+  pub current : EntryRecord
+  pub first : ℕ
+  pub second : ℕ
+  pub live : List (List LivePin)
+
+-- an entry of the domain t as the steps of each seat on it leave it, from the first generation g (own)
+abbrev pub entry_by : ℕ → ℕ → List (List EntryStep) → EntryState
+entry_by g t hs =
+    record {
+      current = last_record g (owner_steps t hs);
+      first = stored_body First (owner_steps t hs);
+      second = stored_body Second (owner_steps t hs);
+      live = map pins hs;
+    }
+
+-- out of a history, the steps of each seat on the entry r of the domain t, at n positions from i on (own)
+abbrev pub parts_on : ℕ → ℕ → History → ℕ → ℕ → List (List EntryStep)
+parts_on t r h i zero = []
+parts_on t r h i (suc n) = entry_steps t r (part_of i h) ∷ parts_on t r h (suc i) n
+
+-- the entry r of the domain t that a history makes (own)
+abbrev pub entry_made : Layout → ℕ → ℕ → History → EntryState
+entry_made k t r h = entry_by k.first t (parts_on t r h 0 k.domains)
+
+-- the header of the domain t that a history makes (own)
+abbrev pub header_made : Layout → ℕ → History → ℕ
+header_made k t h = stored_header (slice_index k.headers t) (header_steps t (part_of t h))
+
+-- a step that takes a pin takes it of this record, which is an entry (own)
+abbrev pub IsOfRecord : EntryRecord → EntryStep → Type 0
+IsOfRecord x (Pinned d e y) = (y ≡ x) × (y.entry ≢ Invalid)
+IsOfRecord x _ = Unit {0}
+
+-- a step that takes a pin takes it of the last record of its entry, as these steps before it make it (own)
+abbrev pub PinsLast : Layout → History → SeatStep → Type 0
+PinsLast k h (Entry t r m) = IsOfRecord (entry_made k t r h).current m
+PinsLast k h (Header t m) = Unit {0}
+
+-- each step of the history found the word that the steps before it make, stored or changed only
+-- what is its seat's own, and took a pin only of the last record (own)
 abbrev pub IsTrue : Layout → History → Type 0
 IsTrue k [] = Unit {0}
-IsTrue k (p ∷ h) = Says p.1 (word_after k h (place_of p.1)) × IsOwners p.0 p.1 × IsTrue k h
+IsTrue k (p ∷ h) =
+    Says p.1 (word_after k h (place_of p.1)) × IsOwners p.0 p.1 × PinsLast k h p.1 × IsTrue k h
 
 -- the history h has led to words and views: each seat has its part of it and knows it up to its
 -- own last step, no other has one, and the words are those that it makes (own)

@@ -21,8 +21,8 @@ use Rattle.gt_types.specs.declared.config.DomainConfig.{DomainConfig}
 use Rattle.gt_types.specs.declared.limits.TheConstants.{TABLE_ENTRIES}
 use Rattle.gt_words.specs.Conditions.{Board, HasDomain, IsSeatOf, Publishes, Revokes, SeatOf, position_at}
 use Rattle.gt_words.specs.Controls.{generation_of, pins_in}
-use Rattle.gt_words.specs.Events.{entry_made, event_on_entry, event_on_header, header_made}
-use Rattle.gt_words.specs.History.{History, IsOwners, Says, place_of, word_after}
+use Rattle.gt_words.specs.Events.{TookPlace}
+use Rattle.gt_words.specs.History.{History, IsOwners, PinsLast, Says, place_of}
 use Rattle.gt_words.specs.Rule.{IsLawful, IsNextEntry, IsRevocation, Layout, Shows, Stands, header_place, id_at, layout_of}
 use Rattle.gt_words.specs.Rule.{owner_steps, place, position_in, total_until}
 use Rattle.gt_words.specs.Steps.{on_entry}
@@ -87,15 +87,13 @@ NoPinOutlivesItsRecord =
     → get_elem? s.views i ≡ some x → IsIn p (pins (steps_on v.position r x))
     → (last_of r v).generation < p.1.generation
 
--- where the owner exchanged from the word e, and no pin of its record or of an earlier one was given back
--- since, no step that takes such a pin leads to a state that words and views show (own)
+-- where the owner exchanged from the word e, no step that takes a pin of the record of that word or of an earlier one
+-- leads from a state that words and views show to another (own)
 abbrev pub PastPinsAreRefused : Type 0
 PastPinsAreRefused =
     (k : Layout) (s : State (Unit {0}) View) (i : ℕ) (v : View) (t r e at expected left : ℕ) (d : Dir) (y : EntryRecord)
-    (past : History)
-    → get_elem? s.views i ≡ some v → t < k.domains → r < TABLE_ENTRIES
+    (past : History) → Shows k s → get_elem? s.views i ≡ some v → t < k.domains → r < TABLE_ENTRIES
     → IsIn e (exchanged (owner_steps t (map (steps_on t r) s.views))) → y.generation ≤ generation_of e
-    → total_until d (generation_of e) (map (steps_on t r) s.views) ≡ pins_in d e
     → ¬ Shows k (stepped s at left i [] (with_step past (on_entry t r (Pinned d expected y)) v) keeps)
 
 -- two states that words and views show, with the same views, have the same words: so no
@@ -107,14 +105,15 @@ WordsFollowViews = (k : Layout) (s z : State (Unit {0}) View) → Shows k s → 
     × ((t : ℕ) → t < k.domains → slice_index s.words (header_place t) ≡ slice_index z.words (header_place t))
 
 -- a step that leads from a state that words and views show to another such state is taken then: it comes right after all
--- steps before it, its seat knows them, it says the word that is there, and it stores or changes only its own (own)
+-- steps before it, its seat knows them, it says the word that is there, it stores or changes only its own,
+-- and it takes a pin only of the last record (own)
 abbrev pub StepsAreTakenThen : Type 0
 StepsAreTakenThen =
     (k : Layout) (s : State (Unit {0}) View) (i : ℕ) (v : View) (x : SeatStep) (past : History) (at left : ℕ)
     (shown : Shows k s) (after : Shows k (stepped s at left i [] (with_step past x v) keeps))
     → get_elem? s.views i ≡ some v
     → (past ≡ shown.history) × (after.history ≡ (i, x) ∷ shown.history) × IsOwners i x
-    × (place_of x < k.domains * DOMAIN_WORDS → Says x (slice_index s.words (place_of x)))
+    × PinsLast k shown.history x × (place_of x < k.domains * DOMAIN_WORDS → Says x (slice_index s.words (place_of x)))
 
 -- where a raw step of the table is allowed that adds the step x to its seat's view, by the number found, x says the word
 -- that is there, in every state that words and views show: so no body tells a step of a word that it did not find (own)
@@ -127,15 +126,12 @@ AllowedStepsSayWhatIsThere =
     → let step : SeatStep = x (slice_index s.words at) in
     place_of step < k.domains * DOMAIN_WORDS → Says step (slice_index s.words (place_of step))
 
--- each step x of the history, by the seat i after the steps h: words and views showed a state before it, it says the word
--- that was there, and it takes each entry and header to what its event makes of it (own)
+-- each step x of the history, by the seat i after the steps h, was taken at that moment (own)
 abbrev pub EachStepHappened : Type 0
 EachStepHappened =
     (k : Layout) (s : State (Unit {0}) View) (later h : History) (i : ℕ) (x : SeatStep) (shown : Shows k s)
     → shown.history ≡ later ++ (i, x) ∷ h
-    → ((z : State (Unit {0}) View) × Stands k h z) × Says x (word_after k h (place_of x))
-    × ((t r : ℕ) → entry_made k t r ((i, x) ∷ h) ≡ event_on_entry i x t r (entry_made k t r h))
-    × ((t : ℕ) → header_made k t ((i, x) ∷ h) ≡ event_on_header x t (header_made k t h))
+    → TookPlace k i (h, x)
 
 -- what words and views show has one history, by the views alone (own)
 abbrev pub HistoryIsOne : Type 0

@@ -19,10 +19,9 @@ use Rattle.gt_types.specs.declared.limits.TheConstants.{MAX_TABLE_FRAMES, TABLE_
 use Rattle.gt_words.specs.declared.word_table.TheConstants.{DOMAIN_WORDS}
 use Rattle.gt_words.specs.Controls.{generation_of, pins_in}
 use Rattle.gt_words.specs.History.{HasLedTo, History}
-pub use Rattle.gt_words.specs.History.{Layout, header_place, initial, place}
+pub use Rattle.gt_words.specs.History.{Layout, header_place, initial, owner_steps, place}
 use Rattle.gt_words.specs.Views.{IsIn, LivePin, Seen, earlier_records, exchanged, last_record, pin_count, pins}
-use Rattle.gt_words.specs.Views.{pins_until, seen, seen_header, steps_on, steps_on_header, stored_body, stored_header}
-use Rattle.gt_words.specs.Views.{stored_headers, taken_count}
+use Rattle.gt_words.specs.Views.{pins_until, seen, steps_on, steps_on_header, stored_body, stored_header}
 use Rattle.gt_words.specs.declared.view.EntryStep.{EntryStep}
 use Rattle.gt_entry.specs.declared.change.Half.TheVariants.{First, Second}
 use Rattle.gt_words.specs.declared.view.HeaderStep.{HeaderStep}
@@ -86,15 +85,6 @@ abbrev pub total_until : Dir → ℕ → List (List EntryStep) → ℕ
 total_until d g [] = 0
 total_until d g (h ∷ hs) = pins_until d g (pins h) + total_until d g hs
 
--- the pins of a kind that were ever taken of an entry, added up seat by seat (own)
-abbrev pub total_taken : Dir → List (List EntryStep) → ℕ
-total_taken d [] = 0
-total_taken d (h ∷ hs) = taken_count d h + total_taken d hs
-
--- the word seen, if any, counts no more pins of each kind than were ever taken (own)
-abbrev pub CountsTaken : List (List EntryStep) → Option Seen → Type 0
-CountsTaken hs s = IfSome s (λ s. (d : Dir) → pins_in d s.word ≤ total_taken d hs)
-
 -- the body values read are those of the entry (own)
 abbrev pub Agrees : Entry → Option ℕ → Option ℕ → Type 0
 Agrees Invalid a b = Unit {0}
@@ -132,7 +122,6 @@ pub record ShowsRecord (x : EntryRecord) (xs : List EntryRecord) (word a b : ℕ
   pub pinned : (i : ℕ) (h : List EntryStep) → get_elem? hs i ≡ some h → (p : LivePin) → IsIn p (pins h)
       → IsIn p.1 (x ∷ xs) × (p.1.entry ≢ Invalid)
   pub saw : (i : ℕ) (h : List EntryStep) → get_elem? hs i ≡ some h → SawRecord x xs (seen h)
-  pub counted : (i : ℕ) (h : List EntryStep) → get_elem? hs i ≡ some h → CountsTaken hs (seen h)
 
 -- the owner's list has gone on from the word e to the last record x: no pin is taken any more of the record
 -- of that word or of an earlier one, so of those no more are left than it counts (own)
@@ -140,11 +129,6 @@ pub record HasGoneOn (x : EntryRecord) (hs : List (List EntryStep)) (e : ℕ) : 
   pub not_later : generation_of e ≤ x.generation
   pub earlier : x.entry ≢ Invalid → generation_of e < x.generation
   pub left : (d : Dir) → total_until d (generation_of e) hs ≤ pins_in d e
-  pub taken : (d : Dir) → pins_in d e ≤ total_taken d hs
-
--- the owner's steps on the entry, out of those of each seat (own)
-abbrev pub owner_steps : ℕ → List (List EntryStep) → List EntryStep
-owner_steps t hs = slice_index_or hs t []
 
 -- words and steps show the last record of the owner t, after its earlier ones,
 -- and the body words are those that it stored last (own)
@@ -170,15 +154,6 @@ IsHeader w = (h : Header) × IsKeptHeader h × (w ≡ header_word h)
 abbrev pub header_now : Layout → ℕ → List (List HeaderStep) → ℕ
 header_now k t hs = stored_header (slice_index k.headers t) (slice_index_or hs t [])
 
--- the owner's list of headers of the domain t, by the steps of each seat on it (own)
-abbrev pub headers_of : Layout → ℕ → List (List HeaderStep) → List ℕ
-headers_of k t hs = stored_headers (slice_index k.headers t) (slice_index_or hs t [])
-
--- the header of the domain t that each seat saw last, if any, is one of the owner's list (own)
-abbrev pub SawHeaders : Layout → ℕ → List (List HeaderStep) → Type 0
-SawHeaders k t hs =
-    (i : ℕ) (h : List HeaderStep) → get_elem? hs i ≡ some h → IfSome (seen_header h) (λ n. IsIn n (headers_of k t hs))
-
 module _ {S : Type 0} where
   -- words and views show a state of the core, to which the history h has led (own)
   pub record Stands (k : Layout) (h : History) (s : State S View) : Type 0 where
@@ -195,7 +170,6 @@ module _ {S : Type 0} where
     pub headers : (t : ℕ) → t < k.domains
         → (slice_index s.words (header_place t) ≡ header_now k t (map (steps_on_header t) s.views))
         × IsHeader (slice_index s.words (header_place t))
-    pub saw_headers : (t : ℕ) → t < k.domains → SawHeaders k t (map (steps_on_header t) s.views)
     -- one order of all steps of all seats has led here
     pub led_here : HasLedTo k h s
 

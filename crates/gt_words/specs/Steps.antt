@@ -1,9 +1,9 @@
 -- One atomic step: what it adds to its seat's view, and the state that it was taken in.
-use Rattle.std.specs.Prelude.{◌≡◌, ℕ, ◌+◌, ◌-◌, ◌%◌, ◌^◌, cond, ◌==◌, [], slice_index}
+use Rattle.std.specs.Prelude.{◌≡◌, ℕ, ◌+◌, ◌-◌, ◌%◌, ◌^◌, cond, ◌==◌, ◌∷◌}
 use mathlib.Core.Option.{some}
 use lib.ListN.{get_elem?}
 use prog.Atomic.{either}
-use Rattle.atomic_table.specs.Table.{State, Me, Step as TableStep, stepped, keeps}
+use Rattle.atomic_table.specs.Table.{State, Me, Step as TableStep}
 use Rattle.gt_entry.specs.Changes.{changed_entry, raise_of}
 use Rattle.gt_entry.specs.Spelling.{idle_word_of}
 use Rattle.gt_entry.specs.Words.{unit_of}
@@ -11,9 +11,9 @@ use Rattle.gt_entry.specs.declared.change.Change.{Change}
 use Rattle.gt_types.specs.declared.Dir.{Dir}
 use Rattle.gt_words.specs.Controls.{demoted_word, invalid_word, promoted_word, withdrawn_word}
 use Rattle.gt_words.specs.Events.{Happens}
-use Rattle.gt_words.specs.History.{History}
+use Rattle.gt_words.specs.History.{History, PinsLast, Says, word_after}
 pub use Rattle.gt_words.specs.History.{half_index}
-use Rattle.gt_words.specs.Rule.{Layout, Shows}
+use Rattle.gt_words.specs.Rule.{Layout, Stands}
 use Rattle.gt_words.specs.Views.{last_of, last_seen, record_seen, with_step}
 use Rattle.gt_words.specs.declared.view.EntryStep.{EntryStep}
 use Rattle.gt_words.specs.declared.view.EntryStep.TheVariants.{ChangeMissed, Changed, Looked, PinMissed, Pinned}
@@ -30,18 +30,22 @@ use Rattle.gt_words.specs.declared.view.Purpose.TheVariants as purpose
 use Rattle.gt_words.specs.declared.view.HeaderStep.TheVariants as header
 use Rattle.gt_words.specs.declared.view.SeatStep.TheVariants as step_of
 
--- the seat with the view v takes the step x on this word, where it finds and leaves these numbers, after the steps past
--- of all seats: words and views show a state before it and after it, and it takes the one to what the core's event
--- makes of it (own)
+-- words and views, the view v among them, stood so after these steps of all seats (own)
+abbrev pub StoodWith : Type 0 → Layout → History → View → Type 0
+StoodWith S k past v = (z : State S View) × Stands k past z × (get_elem? z.views v.position ≡ some v)
+
+-- The seat with the view v takes the step x on this word, after the steps past of all seats. Words and views
+-- showed a state before it and after it. It finds the number that those steps make of the word, says so, and leaves
+-- the other. A pin is of the last record then. It takes the state that they make to what the core's event gives (own)
 pub record TakesStep (S : Type 0) (k : Layout) (v : View) (past : History) (x : SeatStep)
     (word found left : ℕ) : Type 0 where
-  pub before : State S View
-  pub shown : Shows k before
-  pub led_by : shown.history ≡ past
-  pub mine : get_elem? before.views v.position ≡ some v
-  pub found_is : slice_index before.words word ≡ found
-  pub still_shown : Shows k (stepped before word left v.position [] (with_step past x v) keeps)
-  pub happens : Happens k v.position x before (stepped before word left v.position [] (with_step past x v) keeps)
+  pub stood : StoodWith S k past v
+  pub still_stands : StoodWith S k ((v.position, x) ∷ past) (with_step past x v)
+  pub found_is : word_after k past word ≡ found
+  pub left_is : word_after k ((v.position, x) ∷ past) word ≡ left
+  pub says : Says x found
+  pub of_last : PinsLast k past x
+  pub happens : Happens k v.position x past
 
 -- a step on the entry r of the domain t (own)
 abbrev pub on_entry : ℕ → ℕ → EntryStep → SeatStep

@@ -96,12 +96,6 @@ abbrev pub pins_until : Dir → ℕ → List LivePin → ℕ
 pins_until d g [] = 0
 pins_until d g (p ∷ ps) = cond (nat_le p.1.generation g) (weight d p.0) 0 + pins_until d g ps
 
--- the number of pins of this kind that a seat ever took of an entry, given back or not (own)
-abbrev pub taken_count : Dir → List EntryStep → ℕ
-taken_count d [] = 0
-taken_count d (Pinned c _ x ∷ ms) = weight d c + taken_count d ms
-taken_count d (_ ∷ ms) = taken_count d ms
-
 -- an invalid entry at this generation, as each entry begins (own)
 abbrev pub invalid_at : ℕ → EntryRecord
 invalid_at g = record { generation = g; entry = entries.Invalid }
@@ -145,18 +139,6 @@ abbrev pub stored_header : ℕ → List HeaderStep → ℕ
 stored_header w [] = w
 stored_header w (header.Stored n ∷ ms) = n
 stored_header w (header.Looked n ∷ ms) = stored_header w ms
-
--- the owner's list of headers, the last one first: those that it stored, and w, which it began with (own)
-abbrev pub stored_headers : ℕ → List HeaderStep → List ℕ
-stored_headers w [] = w ∷ []
-stored_headers w (header.Stored n ∷ ms) = n ∷ stored_headers w ms
-stored_headers w (header.Looked n ∷ ms) = stored_headers w ms
-
--- the last header seen (own)
-abbrev pub seen_header : List HeaderStep → Option ℕ
-seen_header [] = None
-seen_header (header.Looked n ∷ ms) = Some n
-seen_header (header.Stored n ∷ ms) = seen_header ms
 
 -- the control word seen last, and the body values read since (own)
 pub record Seen : Type 0 where

@@ -42,9 +42,8 @@ pub fn no_pin_outlives_its_record()
     ensures { NoPinOutlivesItsRecord }
 {}
 
-/// A law: no pin is taken of a record that the owner's list has gone on from. A step that took one
-/// would lead to no state that words and views show, where no pin of that record or of an earlier one
-/// was given back since.
+/// A law: no pin is taken of a record that the owner's list has gone on from. No step that took one
+/// leads from a state that words and views show to another.
 pub fn no_pin_is_taken_of_a_past_record()
     ensures { PastPinsAreRefused }
 {}
@@ -72,8 +71,8 @@ pub fn every_allowed_step_says_what_is_there()
     ensures { AllowedStepsSayWhatIsThere }
 {}
 
-/// A law: each step of a history took a state that words and views showed to what the event of the step makes of it,
-/// and says the word that was there.
+/// A law: each step of a history, whoever took it, was taken at its moment. Words and views stood so before it, it says
+/// the word that was there, a pin is of the last record then, and it takes each entry and header to what its event gives.
 pub fn every_step_of_a_history_happened()
     ensures { EachStepHappened }
 {}
