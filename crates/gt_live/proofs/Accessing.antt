@@ -1,4 +1,5 @@
 -- Calls of one access: how they are answered, and what lets a mapping through.
+use Rattle.gt_live.proofs.Moments.{only-access}
 use Rattle.std.proofs.Common.{◌≡◌, ℕ, true, refl, sym, ap, ◌∙◌, subst, List, [], ◌∷◌, Option, Some, None, inl, inr, arith}
 use Rattle.std.specs.Prelude.{IfErr, IfOk, Result, Ok, Err}
 use Rattle.std.proofs.lemmas.Bool.{eq-eqb}
@@ -33,7 +34,7 @@ use Rattle.gt_calls.specs.Asking.{asked, begun_of}
 use Rattle.gt_calls.specs.Opening.{opens}
 use Rattle.gt_calls.specs.Path.{Continuation, after_beginning, by_mapping, ended, makes, path_of, steps_of}
 use Rattle.gt_calls.specs.Rules.{CallerKnowledge, begun}
-use Rattle.gt_live.specs.Accesses.{Accessed, AnsweredBy, IsAccess, IsOfAccess, frame_named}
+use Rattle.gt_live.specs.Accesses.{Accessed, AnsweredBy, ComesTo, IsAccess, IsOfAccess, frame_named, onward}
 use Rattle.gt_live.specs.Domains.{IsRefused, AllowRelation, refusal_of}
 use Rattle.gt_live.specs.Ending.{IsAccessing, IsWordless}
 use Rattle.gt_live.specs.Mappings.{IsMappingOf, ReachesItsFrame}
@@ -121,6 +122,7 @@ refused-called k c caller request denial v is = record {
   steps = [];
   view = refl;
   walked = tt;
+  moments = tt;
   answered = ap (λ (o : Option Verdict). after_beginning o (steps_of c caller (asked request)) []) is.answered;
   carried = wordless-found k v [] denial.facts is.wordless;
 }
@@ -141,11 +143,10 @@ refused-access k c caller request tells verdict denial v is e said =
 
 -- a call of one access
 whole : (k : Layout) (way : Continuation) (access : Step) (v : View) → IsAccess access → way ≡ makes access (ended Granted) → Accessed k way access v v
-whole k way access v is e = record {
-  at = v;
-  comes = record { steps = []; view = refl; walked = tt; next = ap (λ (w : Continuation). w []) e; is_access = is };
-  ends = record { steps = []; view = refl; walked = tt; answered = ap (λ (w : Continuation). w (Nothing ∷ [])) e; carried = tt };
-}
+whole k way access v is e =
+    let comes : ComesTo k way access v v = record { steps = []; view = refl; walked = tt; moments = tt; next = ap (λ (w : Continuation). w []) e; is_access = is } in
+    let ends : Called k (onward way (Nothing ∷ [])) Granted v v = record { steps = []; view = refl; walked = tt; moments = tt; answered = ap (λ (w : Continuation). w (Nothing ∷ [])) e; carried = tt } in
+    record { at = v; comes = comes; ends = ends; only = only-access k way access v v v comes ends }
 
 pub one-access : {R : Type 0} (k : Layout) (way : Continuation) (access : Step) (tells : Step → R → Type 0) (result : Result R Denial) (v : View) → IsAccess access → way ≡ makes access (ended Granted)
     → IfOk result (λ (r : R). tells access r) → IfErr result IsOfAccess → AnsweredBy k way tells result v v

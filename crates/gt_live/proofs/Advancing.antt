@@ -1,4 +1,5 @@
 -- A call that goes on.
+use Rattle.gt_live.proofs.Moments.{walk-moments}
 use Rattle.std.proofs.Common.{◌≡◌, ℕ, ◌+◌, ◌<◌, refl, sym, ap, ◌∙◌, subst, List, [], ◌∷◌, ◌++◌, Option, Some, None, inl, inr, arith}
 use Rattle.gt_types.specs.declared.DomId.{DomId}
 use Rattle.gt_types.specs.declared.GrantRef.{GrantRef}
@@ -228,5 +229,5 @@ pub ends : (c : CallerKnowledge) (k : Layout) (effect : Effect) (v w : View) (ca
 ends c k effect v w call verdict caller request waits g callers requests =
     let answer : IsAnswerTo call.request verdict = (path-sound call.caller c call.request waits g.unanswered).answers (shown g.steps) verdict g.goes in
     let here : Ended c k call.caller call.request effect verdict v w =
-    record { called = record { steps = g.steps; view = g.view; walked = g.walked; answered = g.goes; carried = g.carried }; left = g.stands.0; answers = (g.stands.1, answer) } in
+    record { called = record { steps = g.steps; view = g.view; walked = g.walked; moments = walk-moments k (path c call.caller call.request) v g.steps g.walked; answered = g.goes; carried = g.carried }; left = g.stands.0; answers = (g.stands.1, answer) } in
     subst (λ (a : Asked). Ended c k caller a effect verdict v w) requests (subst (λ (d : DomId). Ended c k d call.request effect verdict v w) callers here)

@@ -1,4 +1,5 @@
 -- A copy at its access: what its routes reach, what the policy allows of it, and how it is answered.
+use Rattle.gt_live.proofs.Moments.{only-access, walk-moments}
 use Rattle.std.proofs.Common.{◌≡◌, ℕ, Bool, true, false, cond, refl, sym, ap, ◌∙◌, subst, List, [], ◌∷◌, ◌++◌, Option, Some, None, inl, inr}
 use Rattle.std.specs.Prelude.{IfErr, IfOk, Result, Ok, Err, is_none}
 use Rattle.gt_types.specs.declared.DomId.{DomId}
@@ -34,14 +35,15 @@ use Rattle.gt_calls.specs.declared.request.CopyArgs.{CopyArgs}
 use Rattle.gt_calls.specs.declared.request.End.{End}
 use Rattle.gt_calls.specs.Holding.{frame_by, held_by, last_first, owner_by}
 use Rattle.gt_calls.specs.Opening.{IsAllowed, IsOwnEnd, OpensCopy}
-use Rattle.gt_calls.specs.Path.{Continuation, dest_pair, path, source_pair}
+use Rattle.gt_calls.specs.Path.{Continuation, dest_pair, give_back, path, source_pair}
+use Rattle.gt_calls.specs.declared.action.Seen.TheVariants.{Nothing}
 use Rattle.gt_calls.specs.declared.request.Asked.{Asked}
 use Rattle.gt_calls.specs.Resting.{IsReached, RestsOnWays}
 use Rattle.gt_calls.specs.Rules.{CallerKnowledge, denied, first, is_dest_granted, is_source_granted, label_of, refused_when, rights_to_copy, via_judged}
 use Rattle.gt_calls.specs.Standing.{pins_by_call}
-use Rattle.gt_live.specs.Accesses.{Accessed, AnsweredBy, IsCopiedBy, IsOfAccess, frame_named, spot_of}
+use Rattle.gt_live.specs.Accesses.{Accessed, AnsweredBy, IsCopiedBy, IsOfAccess, frame_named, onward, spot_of}
 use Rattle.gt_live.specs.Underway.{AreOfRun, AtAccess, GivesBack, HasTaken}
-use Rattle.gt_live.specs.Walks.{Called}
+use Rattle.gt_live.specs.Walks.{Called, shown}
 use Rattle.gt_live.proofs.Accessing.{of-its-frame, serves}
 use Rattle.gt_live.proofs.Taking.{has-pin}
 
@@ -138,11 +140,12 @@ pub made-whole : (c : CallerKnowledge) (k : Layout) (call : Call) (from to : Pla
 made-whole c k call from to len v mid w way writer result a g same ok err = subst (λ (y : Continuation). AnsweredBy k y (IsCopiedBy writer) result v w) (sym same) (by result ok err)
   where
     whole : Accessed k (path c call.caller call.request) (CopyBytes from to len) v w
-    whole = record {
-      at = mid;
-      comes = a.comes;
-      ends = subst (λ (y : Continuation). Called k y Granted mid w) (sym a.ends) (record { steps = g.steps; view = g.view; walked = g.walked; answered = g.ended; carried = tt });
-    }
+    whole =
+        let way = path c call.caller call.request in
+        let ends : Called k (onward way (shown a.comes.steps ++ Nothing ∷ [])) Granted mid w =
+        subst (λ (y : Continuation). Called k y Granted mid w) (sym a.ends)
+        (record { steps = g.steps; view = g.view; walked = g.walked; moments = walk-moments k (give_back (last_first (pins_by_call call)) Granted) mid g.steps g.walked; answered = g.ended; carried = tt }) in
+        record { at = mid; comes = a.comes; ends = ends; only = only-access k way (CopyBytes from to len) v mid w a.comes ends }
 
     by : (r : Result Copying Denial) → IfOk r (λ (x : Copying). x ≡ copying_at (spot_of from) (spot_of to) len writer) → IfErr r IsOfAccess → AnsweredBy k (path c call.caller call.request) (IsCopiedBy writer) r v w
     by (Ok r) o e = (CopyBytes from to len, whole, o)

@@ -1,4 +1,5 @@
 pub mod Making
+pub mod Moments
 pub mod Ends
 pub mod Walking
 pub mod Rules
@@ -18,3 +19,4 @@ pub mod Taking
 pub mod Copying
 pub mod Stopping
 pub mod Copied
+mod Numbers

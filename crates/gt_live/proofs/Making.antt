@@ -5,7 +5,9 @@ use Rattle.gt_entry.specs.declared.change.Half.{Half}
 use Rattle.gt_words.specs.Conditions.{Board, IsSameSeat, IsSeatOf, Keeps, SeatOf, StoresBody}
 use Rattle.gt_words.specs.Rule.{Layout, id_at}
 use Rattle.gt_words.specs.Views.{last_of, with_step}
-use Rattle.gt_words.specs.History.{History, Moment}
+use Rattle.gt_words.specs.Events.{TookPlace}
+use Rattle.gt_words.specs.History.{History, Moment, Says, part_of, place_of}
+use Rattle.gt_words.specs.Steps.{TakesStep}
 use Rattle.gt_words.specs.declared.view.SeatStep.{SeatStep}
 use Rattle.gt_words.specs.declared.view.View.{View}
 use Rattle.gt_entry.specs.declared.change.Change.TheVariants.{Publish, Revoke, Withdraw, Demote, Promote}
@@ -14,34 +16,45 @@ use Rattle.gt_calls.specs.declared.action.Seen.TheVariants.{Nothing, Word, Taken
 use Rattle.gt_calls.specs.declared.action.Step.{Step}
 use Rattle.gt_calls.specs.declared.action.Step.TheVariants.{LookHeader, LookControl, LookBody, Pin, Unpin, StoreBody, StoreHeader, Exchange}
 use Rattle.gt_calls.specs.Path.{FitsStep}
-use Rattle.gt_live.specs.Walks.{Made, shown_by}
+use Rattle.gt_live.specs.Walks.{Made, shown_by, shown_in}
 use Rattle.gt_live.specs.Driving.{IsSame}
 
--- a step of a seat from one view to another, which shows this
-pub record Gains (seen : Seen) (v w : View) : Type 0 where
+-- a step of a seat from one view to another, which shows this, and was taken at its moment
+pub record Gains (k : Layout) (seen : Seen) (v w : View) : Type 0 where
   pub step : Moment
   pub view : w ≡ with_step step.0 step.1 v
   pub shows : shown_by step ≡ seen
+  pub took : TookPlace k v.position step
+  pub mine : part_of v.position step.0 ≡ v.steps
 
-unfoldable pub made-gains : (k : Layout) (s : Step) (seen : Seen) (v w : View) → Made k s seen v w → Gains seen v w
-made-gains k (LookHeader d) (Word n) v w m = record { step = (_, _); view = m.steps.adds.view; shows = refl }
-made-gains k (LookControl d q) (Word n) v w m = record { step = (_, _); view = m.0.steps.adds.view; shows = refl }
-made-gains k (LookBody d q half) (Word n) v w m = record { step = (_, _); view = m.steps.adds.view; shows = refl }
-made-gains k (Pin p) Taken v w m = record { step = (_, _); view = m.steps.adds.view; shows = refl }
-made-gains k (Pin p) (Missed n) v w m = record { step = (_, _); view = m.steps.adds.view; shows = refl }
-made-gains k (Unpin p holder) Nothing v w m = record { step = (_, _); view = m.steps.adds.view; shows = refl }
-made-gains k (StoreBody q half n) Nothing v w m = record { step = (_, _); view = m.steps.adds.view; shows = refl }
-made-gains k (StoreHeader version frames) Nothing v w m = record { step = (_, _); view = m.steps.adds.view; shows = refl }
-made-gains k (Exchange q looked (Publish e)) Taken v w m = record { step = (_, _); view = m.changes.steps.adds.view; shows = refl }
-made-gains k (Exchange q looked (Publish e)) (Missed n) v w m = record { step = (_, _); view = m.missed.steps.adds.view; shows = refl }
-made-gains k (Exchange q looked Revoke) Taken v w m = record { step = (_, _); view = m.changes.steps.adds.view; shows = refl }
-made-gains k (Exchange q looked Revoke) (Missed n) v w m = record { step = (_, _); view = m.missed.steps.adds.view; shows = refl }
-made-gains k (Exchange q looked Withdraw) Taken v w m = record { step = (_, _); view = m.steps.adds.view; shows = refl }
-made-gains k (Exchange q looked Withdraw) (Missed n) v w m = record { step = (_, _); view = m.steps.adds.view; shows = refl }
-made-gains k (Exchange q looked Demote) Taken v w m = record { step = (_, _); view = m.changes.steps.adds.view; shows = refl }
-made-gains k (Exchange q looked Demote) (Missed n) v w m = record { step = (_, _); view = m.steps.adds.view; shows = refl }
-made-gains k (Exchange q looked Promote) Taken v w m = record { step = (_, _); view = m.steps.adds.view; shows = refl }
-made-gains k (Exchange q looked Promote) (Missed n) v w m = record { step = (_, _); view = m.steps.adds.view; shows = refl }
+abbrev pub gained : (k : Layout) (seen : Seen) (v w : View) (past : History) (x : SeatStep) (found left : ℕ) → w ≡ with_step past x v → TakesStep (Unit {0}) k v past x (place_of x) found left → shown_in x ≡ seen → Gains k seen v w
+gained k seen v w past x found left view step shows = record {
+  step = (past, x);
+  view = view;
+  shows = shows;
+  took = record { stood = (step.stood.0, step.stood.1); says = subst (Says x) (sym step.found_is) step.says; of_last = step.of_last; happens = step.happens };
+  mine = sym (step.stood.1.led_here.parts v.position v step.stood.2).0;
+}
+
+unfoldable pub made-gains : (k : Layout) (s : Step) (seen : Seen) (v w : View) → Made k s seen v w → Gains k seen v w
+made-gains k (LookHeader d) (Word n) v w m = gained k _ v w _ _ _ _ m.steps.adds.view m.steps.step refl
+made-gains k (LookControl d q) (Word n) v w m = gained k _ v w _ _ _ _ m.0.steps.adds.view m.0.steps.step refl
+made-gains k (LookBody d q half) (Word n) v w m = gained k _ v w _ _ _ _ m.steps.adds.view m.steps.step refl
+made-gains k (Pin p) Taken v w m = gained k _ v w _ _ _ _ m.steps.adds.view m.steps.step refl
+made-gains k (Pin p) (Missed n) v w m = gained k _ v w _ _ _ _ m.steps.adds.view m.steps.step refl
+made-gains k (Unpin p holder) Nothing v w m = gained k _ v w _ _ _ _ m.steps.adds.view m.steps.step refl
+made-gains k (StoreBody q half n) Nothing v w m = gained k _ v w _ _ _ _ m.steps.adds.view m.steps.step refl
+made-gains k (StoreHeader version frames) Nothing v w m = gained k _ v w _ _ _ _ m.steps.adds.view m.steps.step refl
+made-gains k (Exchange q looked (Publish e)) Taken v w m = gained k _ v w _ _ _ _ m.changes.steps.adds.view m.changes.steps.step refl
+made-gains k (Exchange q looked (Publish e)) (Missed n) v w m = gained k _ v w _ _ _ _ m.missed.steps.adds.view m.missed.steps.step refl
+made-gains k (Exchange q looked Revoke) Taken v w m = gained k _ v w _ _ _ _ m.changes.steps.adds.view m.changes.steps.step refl
+made-gains k (Exchange q looked Revoke) (Missed n) v w m = gained k _ v w _ _ _ _ m.missed.steps.adds.view m.missed.steps.step refl
+made-gains k (Exchange q looked Withdraw) Taken v w m = gained k _ v w _ _ _ _ m.steps.adds.view m.steps.step refl
+made-gains k (Exchange q looked Withdraw) (Missed n) v w m = gained k _ v w _ _ _ _ m.steps.adds.view m.steps.step refl
+made-gains k (Exchange q looked Demote) Taken v w m = gained k _ v w _ _ _ _ m.changes.steps.adds.view m.changes.steps.step refl
+made-gains k (Exchange q looked Demote) (Missed n) v w m = gained k _ v w _ _ _ _ m.steps.adds.view m.steps.step refl
+made-gains k (Exchange q looked Promote) Taken v w m = gained k _ v w _ _ _ _ m.steps.adds.view m.steps.step refl
+made-gains k (Exchange q looked Promote) (Missed n) v w m = gained k _ v w _ _ _ _ m.steps.adds.view m.steps.step refl
 made-gains k _ _ v w m = absurd m
 
 -- what was shown is a value that the step can see

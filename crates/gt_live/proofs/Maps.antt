@@ -133,6 +133,7 @@ one-step k way s v w is made =
             (sym (ap (λ (t : Continuation). t []) is)) here,
         tt,
       );
+      moments = (gain.took, gain.mine, tt);
       answered = ap (λ (t : Continuation). t (shown_by gain.step ∷ [])) is
           ∙ ap (λ (x : Seen). makes s (ends_so Granted) (x ∷ [])) gain.shows;
       carried = tt;

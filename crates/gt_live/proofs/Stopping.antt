@@ -1,4 +1,5 @@
 -- A copy driven to its access, and from there to its end.
+use Rattle.gt_live.proofs.Moments.{walk-moments}
 use Rattle.std.proofs.Common.{◌≡◌, ℕ, ◌<◌, Bool, true, false, cond, refl, sym, ap, ◌∙◌, subst, List, [], ◌∷◌, ◌++◌, length, Option, Some, None, inl, arith, append_assoc}
 use Rattle.std.proofs.lemmas.List.{append-nil}
 use mathlib.Core.Path.{fun_ext}
@@ -143,7 +144,7 @@ ends-refused c k v w call verdict u = by u.phase u.acts u.stands
           denial = denial;
           refused = same;
           called = subst (λ (y : Verdict). Called k (path c call.caller call.request) y v w) (sym same)
-              (record { steps = u.steps; view = u.view; walked = u.walked; answered = u.goes ∙ ap (λ (y : Verdict). Some (Done y)) same; carried = well.stays });
+              (record { steps = u.steps; view = u.view; walked = u.walked; moments = walk-moments k (path c call.caller call.request) v u.steps u.walked; answered = u.goes ∙ ap (λ (y : Verdict). Some (Done y)) same; carried = well.stays });
           same = all-back k v w (subst (λ (qs : List Held). HasTaken k qs v w) e well.taken);
         }
     at-end pins denial (p ∷ ps) e a well = cc
@@ -188,7 +189,7 @@ comes-there c k v w call from to len u = by u.phase u.there u.acts u.stands
         let leads : (vs : List Seen) → way ((shown u.steps ++ Nothing ∷ []) ++ vs) ≡ give_back (last_first (record { source = source; dest = dest })) Granted vs =
         λ vs. ap way (append_assoc (shown u.steps) (Nothing ∷ []) vs) ∙ at.leads (Nothing ∷ vs) in
         record {
-          comes = record { steps = u.steps; view = u.view; walked = u.walked; next = u.goes; is_access = tt };
+          comes = record { steps = u.steps; view = u.view; walked = u.walked; moments = walk-moments k way v u.steps u.walked; next = u.goes; is_access = tt };
           copy = copy;
           there = there ∙ ap (λ (h : Pins). Some (Accessing copy h.source h.dest)) (sym held);
           rests = u.rests.1;

@@ -20,7 +20,7 @@ use Rattle.gt_calls.specs.declared.action.Step.{Step}
 use Rattle.gt_calls.specs.declared.action.Step.TheVariants.{Read as ReadBytes, Write as WriteBytes, Copy as CopyBytes}
 use Rattle.gt_calls.specs.declared.action.Verdict.TheVariants.{Granted, Refused}
 use Rattle.gt_calls.specs.Path.{Continuation}
-use Rattle.gt_live.specs.Walks.{Called, IsWalk, after, shown}
+use Rattle.gt_live.specs.Walks.{AreMoments, Called, IsWalk, after, shown}
 
 -- the step is an access to bytes, and none on the words (own)
 abbrev pub IsAccess : Step → Type 0
@@ -39,15 +39,24 @@ pub record ComesTo (k : Layout) (way : Continuation) (access : Step) (v w : View
   pub steps : List Moment
   pub view : w ≡ after steps v
   pub walked : IsWalk k way v steps
+  pub moments : AreMoments k v steps
   pub next : way (shown steps) ≡ Some (Makes access)
   pub is_access : IsAccess access
 
--- A call with this access was made whole: it came to the access, which shows nothing,
--- and went on from there to its end, at which its way is Ok (own)
+-- of the actions on this way, over the values of a whole call, none is an access to bytes but the one
+-- that comes after the values before (own)
+abbrev pub IsOnlyAccess : Continuation → List Seen → List Seen → Type 0
+IsOnlyAccess way before whole =
+    (vs rest : List Seen) (s : Step) → whole ≡ vs ++ rest → way vs ≡ Some (Makes s) → IsAccess s → vs ≡ before
+
+-- A call with this access was made whole: it came to the access, which shows nothing, and went on from there to its
+-- end, at which its way is Ok; so the access stands after the steps on the words that it came by and before those
+-- that it ended with, and it made no other (own)
 pub record Accessed (k : Layout) (way : Continuation) (access : Step) (v w : View) : Type 0 where
   pub at : View
   pub comes : ComesTo k way access v at
   pub ends : Called k (onward way (shown comes.steps ++ Nothing ∷ [])) Granted at w
+  pub only : IsOnlyAccess way (shown comes.steps) ((shown comes.steps ++ Nothing ∷ []) ++ shown ends.steps)
 
 -- an access that was not made, since memory was refused or a frame of
 -- another name was in the place of the one wanted (own)

@@ -19,6 +19,7 @@ use Rattle.gt_types.specs.declared.limits.TheConstants.{TABLE_ENTRIES}
 use Rattle.gt_types.specs.Denial.{denial_of}
 use Rattle.gt_words.specs.Conditions.{Board, IsSameSeat, IsSeatOf, KeepsPins, Unpins}
 use Rattle.gt_words.specs.Controls.{generation_of}
+use Rattle.gt_words.specs.History.{Moment}
 use Rattle.gt_words.specs.Rule.{Layout, position_in}
 use Rattle.gt_words.specs.Views.{last_of, own_table, pins, steps_on}
 use Rattle.gt_words.specs.declared.view.View.{View}
@@ -48,7 +49,7 @@ use Rattle.gt_calls.specs.declared.action.Step.{Step}
 use Rattle.gt_calls.specs.Asking.{asked}
 use Rattle.gt_live.specs.Accesses.{AnsweredBy}
 use Rattle.gt_live.specs.Ending.{IsWordless}
-use Rattle.gt_live.specs.Walks.{Called}
+use Rattle.gt_live.specs.Walks.{AreMoments, Called, after}
 
 -- whose type may do what to whose (XSM FLASK)
 abbrev pub AllowRelation : Type 0
@@ -191,12 +192,15 @@ Released k (h ∷ hs) old v new w =
     (m : Held) × (mid : HandleMap Held) × (u : View) × Released k hs old v mid u × Removes mid new h m
     × Unpins k (position_in k.ids m.dom) m.gref.0 m.dir (generation_of m.word) u w
 
--- A domain has left: the pin of each of its mappings was given back, one
--- after another and nothing else, and its seat has none (own)
+-- A domain has left: the pin of each of its mappings was given back, one after another
+-- and nothing else, each at its moment, and its seat has none (own)
 pub record HasLeft (k : Layout) (d : Domain) (l : Left) : Type 0 where
   pub handles : List Handle
   pub rest : HandleMap Held
   pub released : Released k handles d.mappings d.seat.view rest l.seat.view
+  pub steps : List Moment
+  pub view : l.seat.view ≡ after steps d.seat.view
+  pub moments : AreMoments k d.seat.view steps
   pub all_given : (h : Handle) → value_of rest h ≡ None
   pub seat : IsSameSeat d.seat l.seat
   pub records : l.trail ≡ d.trail

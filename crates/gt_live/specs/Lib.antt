@@ -9,3 +9,4 @@ pub mod Underway
 pub mod Rows
 pub mod Domains
 pub mod Starting
+pub mod Tries

@@ -6,7 +6,8 @@ use Rattle.gt_words.specs.Conditions.{MissesPin, Unpins, StoresBody, StoresHeade
 use Rattle.gt_words.specs.Conditions.{Publishes, Revokes, Demotes}
 use Rattle.gt_words.specs.Rule.{Layout, id_at, position_in}
 use Rattle.gt_words.specs.Steps.{on_entry, on_header}
-use Rattle.gt_words.specs.History.{Moment}
+use Rattle.gt_words.specs.Events.{TookPlace}
+use Rattle.gt_words.specs.History.{Moment, part_of}
 use Rattle.gt_words.specs.Views.{IsIn, last_of, with_step}
 use Rattle.gt_words.specs.declared.view.EntryStep.{EntryStep}
 use Rattle.gt_types.specs.declared.DomId.{DomId}
@@ -102,6 +103,13 @@ abbrev pub MakesStep : Layout → Option Action → Seen → View → View → T
 MakesStep k (Some (Makes s)) seen v w = Made k s seen v w
 MakesStep k _ seen v w = ⊥
 
+-- each of these steps, the last first, was taken at its moment by the seat with the view v, which
+-- had taken those before it by then and no others (own)
+abbrev pub AreMoments : Layout → View → List Moment → Type 0
+AreMoments k v [] = Unit {0}
+AreMoments k v (x ∷ xs) =
+    TookPlace k v.position x × (part_of v.position x.0 ≡ (after xs v).steps) × AreMoments k v xs
+
 -- each of these steps from the view v on, the last first, is what comes next
 -- on this way after what the steps before it showed (own)
 abbrev pub IsWalk : Layout → Continuation → View → List Moment → Type 0
@@ -134,11 +142,13 @@ abbrev pub TellsSteps : Layout → View → List Moment → Verdict → Type 0
 TellsSteps k v steps (Refused denial) = CarriesFound k v steps denial.facts
 TellsSteps k v steps verdict = Unit {0}
 
--- A call took its seat's view from v to w: it added steps, which are those of its way, one after another, and after
--- what they showed the way ends with this answer; a word that the answer carries is one that they found (own)
+-- A call took its seat's view from v to w: it added steps, which are those of its way, one after another, each taken at
+-- its moment, and after what they showed the way ends with this answer; a word that the answer carries is one that they
+-- found (own)
 pub record Called (k : Layout) (way : Continuation) (verdict : Verdict) (v w : View) : Type 0 where
   pub steps : List Moment
   pub view : w ≡ after steps v
   pub walked : IsWalk k way v steps
+  pub moments : AreMoments k v steps
   pub answered : way (shown steps) ≡ Some (Done verdict)
   pub carried : TellsSteps k v steps verdict

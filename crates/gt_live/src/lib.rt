@@ -16,8 +16,10 @@
 
 mod domain;
 mod driving;
+mod laws;
 mod monitor;
 mod start;
 
 pub use domain::{Domain, Left};
+pub use laws::{every_change_makes_four_tries, every_leg_makes_four_tries};
 pub use monitor::Monitor;

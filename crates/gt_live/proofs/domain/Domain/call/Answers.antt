@@ -19,7 +19,7 @@ returns-in-Done g c =
     record {
       mine = c.requires.mine;
       seat = same_seat-self d.seat;
-      answered = record { steps = []; view = refl; walked = tt; answered = s.1; carried = tells };
+      answered = record { steps = []; view = refl; walked = tt; moments = tt; answered = s.1; carried = tells };
       answer = at-once-answer r verdict once;
       kept = (record { slots = refl; given = refl }, λ t r. refl);
       silent = refl;
