@@ -58,12 +58,12 @@ walk-moments k way v (x ∷ xs) walk = let t = by (way (shown xs)) walk.0 in (t.
 
 -- the pins that a domain gives back as it leaves
 pub released-moments : (k : Layout) (hs : List Handle) (old : HandleMap Held) (v : View) (new : HandleMap Held) (w : View) → Released k hs old v new w → (steps : List Moment) × (w ≡ after steps v) × AreMoments k v steps
-released-moments k [] old v new w r = ([], (r.1, tt))
+released-moments k [] old v new w r = ([], r.1, tt)
 released-moments k (h ∷ hs) old v new w r =
     let u = r.2 in let rest = released-moments k hs old v r.1 u r.3 in let z = r.5.steps in
     let g : Gains k Nothing u w = gained k Nothing u w _ _ _ _ z.adds.view z.step refl in
     let g' : Gains k Nothing (after rest.0 v) w = subst (λ (y : View). Gains k Nothing y w) rest.1 g in
-    let t = later k v rest.0 Nothing w g' in (g'.step ∷ rest.0, (g'.view, (t.0, t.1, rest.2)))
+    let t = later k v rest.0 Nothing w g' in (g'.step ∷ rest.0, g'.view, (t.0, t.1, rest.2))
 
 -- no step on the words is an access
 
