@@ -45,17 +45,21 @@ still_exchanged e t r (OnEntry d q m ∷ later) steps is = by ((d == t) && (q ==
   by false there = there
 still_exchanged e t r (OnHeader d m ∷ later) steps is = still_exchanged e t r later steps is
 
-module _ (k : Layout) (r word : ℕ) (c : Change) (v w : View) (z : Changes k r c word v w) (none : HasNoPins v.position r z.steps.step.before) (vn : v.position < k.domains) (rn : r < TABLE_ENTRIES) where
+module _ (k : Layout) (r word : ℕ) (c : Change) (v w : View) (z : Changes k r c word v w) (none : HasNoPins v.position r z.steps.past) (vn : v.position < k.domains) (rn : r < TABLE_ENTRIES) where
   abbrev all : List (List EntryStep)
-  all = map (steps_on v.position r) z.steps.step.before.views
+  all = map (steps_on v.position r) z.steps.step.stood.0.views
+
+  -- no view had a pin then
+  none_there : (i : ℕ) (u : View) → get_elem? z.steps.step.stood.0.views i ≡ some u → pins (steps_on v.position r u) ≡ []
+  none_there i u e = ap (λ (steps : List SeatStep). pins (entry_steps v.position r steps)) (z.steps.step.stood.1.led_here.parts i u e).0 ∙ none i
 
   -- the word that was exchanged is of the record that was there, and counts no pin
   counted : (d : Dir) → (pins_in d word ≡ 0) × (generation_of word ≡ (last_of r v).generation)
   counted d = let x : EntryRecord = last_of r v in
       let f = owners_entry k v.position r (Changed c word (changed_word c x word) (changed c x)) word (changed_word c x word) v w vn rn z.steps refl in
       let parts = spelled_parts x.entry x.generation (total_pins Read all) (total_pins Write all) (legal_record x (earlier_records v.first (steps_on v.position r v)) f.lawful).0 f.in_range in (
-        by d (ap (pins_in Read) f.spelled ∙ (parts.reads ∙ none_held Read v.position r z.steps.step.before.views none))
-            (ap (pins_in Write) f.spelled ∙ (parts.writes ∙ none_held Write v.position r z.steps.step.before.views none)),
+        by d (ap (pins_in Read) f.spelled ∙ (parts.reads ∙ none_held Read v.position r z.steps.step.stood.0.views none_there))
+            (ap (pins_in Write) f.spelled ∙ (parts.writes ∙ none_held Write v.position r z.steps.step.stood.0.views none_there)),
         ap generation_of f.spelled ∙ parts.generation,
       )
     where
