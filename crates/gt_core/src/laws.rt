@@ -3,6 +3,7 @@
 ghost use Rattle.gt_core.specs.Alike.{bare_handle, IsKnown, AreAlike, IsOfKnown, SameElement, SameEvent};
 ghost use Rattle.std.specs.Prelude.{◌≡◌, ℕ};
 ghost use Rattle.gt_types.specs.declared.DomId.{DomId};
+ghost use Rattle.gt_core.specs.GoingOn.{CallsCanBegin, OpenCallsCanGoOn, RunsStart};
 ghost use Rattle.gt_core.specs.History.{History, Setting};
 ghost use Rattle.gt_core.specs.Legal.{MayDo, grown};
 ghost use Rattle.gt_core.specs.Shown.{shown_at};
@@ -38,4 +39,20 @@ pub fn every_known_handle_has_one_subject()
     ensures { (s : Setting) (g h : History) (dom : DomId) (a b : Handle) →
         AreAlike s g h → bare_handle a ≡ bare_handle b → IsKnown g dom.0 a → IsKnown h dom.0 b →
         subject_at s g dom a ≡ subject_at s h dom b }
+{}
+
+/// A run can start in each configuration within the limits.
+pub fn every_run_can_start()
+    ensures { RunsStart }
+{}
+
+/// After each history that a core stands for, a domain of the run that is at rest can begin any call, in one way.
+pub fn every_call_can_begin()
+    ensures { CallsCanBegin }
+{}
+
+/// After each history that a core stands for, each open call can make its next step, if that is on words. So no call
+/// is stuck.
+pub fn every_open_call_can_go_on()
+    ensures { OpenCallsCanGoOn }
 {}

@@ -31,7 +31,8 @@ pub use gt_calls::{
     Asked, Change, CopyArgs, End, Handle, Held, Holder, Place, Request, Seen, Step,
 };
 pub use laws::{
-    every_alike_event_does_one_thing, every_alike_run_shows_one_thing, every_event_does_one_thing,
-    every_known_handle_has_one_subject,
+    every_alike_event_does_one_thing, every_alike_run_shows_one_thing, every_call_can_begin,
+    every_event_does_one_thing, every_known_handle_has_one_subject, every_open_call_can_go_on,
+    every_run_can_start,
 };
 pub use trace::{Answer, Bytes, Element, Event, Happened, Item, Trace};
