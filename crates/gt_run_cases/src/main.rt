@@ -5,7 +5,9 @@
 //! lines in `stdout`. A word of `args` that begins with `--` says how the scripts after it are run:
 //!
 //! - `--audit`: with their audit lines.
-//! - `--failing`: each read and each write fails after each count of bytes, and a line says whether all were told.
+//! - `--failing`: each read and each write fails after each count of bytes, and a line says whether all were told;
+//!   `--failing-audit` the same with their audit lines.
+//! - `--beginnings`: each beginning of them, from no byte to the whole, with its audit lines.
 //! - `--closed` and `--deaf`: at a gate that gives up, at once or after all its turns.
 //! - `--two-meet` and `--three-meet`: at a gate that lets domains on once so many are there.
 //! - `--told` and `--awaited`: at a gate that looks for both records of domain 2. A line says whether it found them
@@ -14,11 +16,13 @@
 //! After `--many` comes no name: sixteen domains with long lists, which are made here, meet at a gate.
 #![tactic(auto)]
 
+mod beginnings;
 mod failing;
 mod gates;
 mod many;
 mod running;
 
+use beginnings::beginnings_said;
 use failing::failing_said;
 use gates::{Turns, gate_said, records_said};
 use gt_audit::SharedLog;
@@ -36,7 +40,8 @@ use std::thread::Threads;
 enum Mode {
     Run,
     Audit,
-    Failing,
+    Failing(bool),
+    Beginnings,
     Closed,
     Deaf,
     Meet(u64),
@@ -48,7 +53,9 @@ enum Mode {
 fn mode_named(word: &str) -> Option<Mode> {
     match word {
         "--audit" => Some(Mode::Audit),
-        "--failing" => Some(Mode::Failing),
+        "--failing" => Some(Mode::Failing(false)),
+        "--failing-audit" => Some(Mode::Failing(true)),
+        "--beginnings" => Some(Mode::Beginnings),
         "--closed" => Some(Mode::Closed),
         "--deaf" => Some(Mode::Deaf),
         "--two-meet" => Some(Mode::Meet(2)),
@@ -89,7 +96,8 @@ fn try_file<R: Runtime + Threads + Wait + Sync>(
     let said = match mode {
         Mode::Run => return run_file(rt, alloc, path, false),
         Mode::Audit => return run_file(rt, alloc, path, true),
-        Mode::Failing => failing_said(rt, alloc, script)?,
+        Mode::Failing(audit) => failing_said(rt, alloc, script, audit)?,
+        Mode::Beginnings => beginnings_said(rt, alloc, script)?,
         Mode::Closed => gate_said(rt, alloc, script, &Turns::closed())?,
         Mode::Deaf => gate_said(rt, alloc, script, &Turns::deaf())?,
         Mode::Meet(count) => gate_said(rt, alloc, script, &Turns::meeting(count))?,

@@ -55,7 +55,7 @@ pub fn many_said<R: Threads + Wait + Sync>(rt: &R, alloc: Global) -> anyhow::Res
     let mut out = String::new(alloc);
     for run in 1..3 {
         let gate = Turns::meeting(u64::from(DOMAINS));
-        let ended = run_text(rt, alloc, script.as_str(), None, &gate)?;
+        let ended = run_text(rt, alloc, script.as_bytes(), None, &gate)?;
         let said = if ended.is(wanted.as_bytes(), "") {
             format!(in alloc; "run {run} prints what it must\n")?
         } else {
