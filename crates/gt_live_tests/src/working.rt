@@ -1,13 +1,21 @@
 //! What domains do at once, each in a thread of its own.
 use gt_entry::{Control, Entry, Kind};
 use gt_running::{Asks, READ_ONLY, Running, Said, WRITABLE};
-use gt_types::{Allows, Denial, DomId, Facts, Memory, Rule};
+use gt_types::{Allows, Denial, DomId, Facts, GrantRef, Memory, Rule};
 use std::alloc::{AllocError, Global};
 use std::sync::Wait;
 use std::thread::{self, Threads};
 
 /// So many bytes go with one access.
 pub const LEN: u16 = 64;
+
+/// So many bytes has a frame.
+pub const PAGE: u16 = 4_096;
+
+/// What the two frames that are granted by turns hold in each byte, where copies of them are read.
+pub const FIFTY_FIVE: u8 = 0x55;
+
+pub const SIXTY_SIX: u8 = 0x66;
 
 /// What an owner knows of its entry from its own calls.
 #[derive(Clone, Copy)]
@@ -39,11 +47,26 @@ pub enum Part {
     /// Maps the entry 0 of domain 1 and unmaps it. It may be refused where that is not granted yet, or no more.
     Borrows,
     /// Grants, demotes, promotes and revokes by turns its entry 0, which names domain 3, and its entry 1, for domain 4.
-    Owns { first: Kept, second: Kept },
+    Owns {
+        first: Kept,
+        second: Kept,
+    },
     /// Maps this entry of the domains 1 and 2 by turns, for reading and for writing.
     Maps(u32),
-    /// Grants its entry 0 to domain 2 and revokes it.
+    /// Grants its entry 0 to domain 2, by turns with its frames 5 and 6, and revokes it.
     Toggles(Kept),
+    /// Grants and revokes by turns its entry 0, for domain 3, and its entry 1, for domain 4. Both lead to the entry 0 of
+    /// domain 1.
+    Leads {
+        first: Kept,
+        second: Kept,
+    },
+    /// Makes this copy, which may be refused where an entry on its way is not granted. After an Ok one it reads a whole
+    /// frame, if one is named: one of the two frames that domain 1 grants.
+    Copies {
+        copy: Asks<'static>,
+        read: Option<Asks<'static>>,
+    },
     /// Maps the entry 0 of domain 1 for reading and unmaps it.
     Churns,
     Accesses(Access),
@@ -58,11 +81,21 @@ struct Worker<'m, P: Allows> {
     fair: bool,
 }
 
-fn page(dom: u16, ro: bool) -> Entry {
+fn page(dom: u16, ro: bool, frame: u64) -> Entry {
     Entry::Page {
         dom: DomId(dom),
         ro,
-        frame: 5,
+        frame,
+    }
+}
+
+// The entry for this domain that leads to the entry 0 of domain 1.
+fn via(dom: u16) -> Entry {
+    Entry::Via {
+        dom: DomId(dom),
+        ro: false,
+        dom2: DomId(1),
+        gref: GrantRef(0),
     }
 }
 
@@ -82,7 +115,7 @@ fn stands(denial: Denial) -> bool {
     match denial.rule {
         Rule::N10 => control.kind == Kind::Invalid && control.reads == 0 && control.writes == 0,
         Rule::N13 => control.kind == Kind::Page && control.ro,
-        Rule::N19 => control.kind == Kind::Page && (control.reads > 0 || control.writes > 0),
+        Rule::N19 => control.kind != Kind::Invalid && (control.reads > 0 || control.writes > 0),
         Rule::N18 => true,
         _ => false,
     }
@@ -97,7 +130,7 @@ fn is_fair(answer: Result<(), Denial>, one: Rule, other: Rule) -> bool {
 }
 
 fn lend<P: Allows>(domain: &mut Running<'_, P>) -> bool {
-    if domain.grant(0, &page(2, true)).is_err() {
+    if domain.grant(0, &page(2, true, 5)).is_err() {
         return false;
     }
     for _ in 0..u64::MAX {
@@ -119,11 +152,11 @@ fn borrow<P: Allows>(domain: &mut Running<'_, P>) -> bool {
 fn grant_once<P: Allows>(
     domain: &mut Running<'_, P>,
     gref: u32,
-    named: u16,
+    entry: Entry,
     kept: &mut Kept,
 ) -> bool {
     let was_valid = kept.valid;
-    let granted = domain.grant(gref, &page(named, false)).is_ok();
+    let granted = domain.grant(gref, &entry).is_ok();
     if granted {
         *kept = Kept {
             valid: true,
@@ -158,6 +191,17 @@ fn turn_once<P: Allows>(domain: &mut Running<'_, P>, gref: u32, kept: &mut Kept)
     is_fair(demoted, Rule::N18, Rule::N19) && is_fair(promoted, Rule::N18, Rule::N18)
 }
 
+// Grants an entry where it is not granted, and revokes it.
+fn toggle_once<P: Allows>(
+    domain: &mut Running<'_, P>,
+    gref: u32,
+    entry: Entry,
+    kept: &mut Kept,
+) -> bool {
+    let granted = grant_once(domain, gref, entry, kept);
+    revoke_once(domain, gref, kept) && granted
+}
+
 // One round of an owner: its entry is granted where it is not, made read-only and writable again, and revoked.
 fn own_once<P: Allows>(
     domain: &mut Running<'_, P>,
@@ -165,7 +209,7 @@ fn own_once<P: Allows>(
     named: u16,
     kept: &mut Kept,
 ) -> bool {
-    let granted = grant_once(domain, gref, named, kept);
+    let granted = grant_once(domain, gref, page(named, false, 5), kept);
     let turned = turn_once(domain, gref, kept);
     let revoked = revoke_once(domain, gref, kept);
     granted && turned && revoked
@@ -183,25 +227,47 @@ fn map_once<P: Allows>(domain: &mut Running<'_, P>, owner: u16, gref: u32, flags
     }
 }
 
-// Whether so many bytes were read, all alike: so no write came in between.
-fn is_even(said: &Said) -> bool {
+// The byte that was read so often, and no other: so no write came in between.
+fn even_byte(said: &Said, len: u16) -> Option<u8> {
     let Said::Bytes(bytes) = said else {
-        return false;
+        return None;
     };
-    let Some(first) = bytes.first() else {
-        return false;
-    };
+    let first = *bytes.first()?;
     'bytes: for byte in bytes.iter() {
-        if byte != first {
-            return false;
+        if *byte != first {
+            return None;
         }
     }
-    bytes.len() == usize::from(LEN)
+    if bytes.len() == usize::from(len) {
+        Some(first)
+    } else {
+        None
+    }
 }
 
 fn access_once<R: Wait, P: Allows>(rt: &R, domain: &mut Running<'_, P>, access: Access) -> bool {
     let wrote = matches!(domain.ask(rt, access.write), Said::Done);
-    is_even(&domain.ask(rt, access.read)) && wrote
+    even_byte(&domain.ask(rt, access.read), LEN).is_some() && wrote
+}
+
+// One round of a domain that copies.
+fn copy_once<R: Wait, P: Allows>(
+    rt: &R,
+    domain: &mut Running<'_, P>,
+    copy: Asks<'static>,
+    read: Option<Asks<'static>>,
+) -> bool {
+    match (domain.ask(rt, copy), read) {
+        (Said::Done, None) => true,
+        (Said::Done, Some(read)) => {
+            let byte = even_byte(&domain.ask(rt, read), PAGE);
+            byte == Some(FIFTY_FIVE) || byte == Some(SIXTY_SIX)
+        }
+        (Said::Denied(denial), _) => {
+            (denial.rule == Rule::N10 || denial.rule == Rule::N18) && stands(denial)
+        }
+        _ => false,
+    }
 }
 
 // One round of a domain, and whether it was answered as the rules allow.
@@ -222,9 +288,12 @@ fn round_of<R: Wait, P: Allows>(
             map_once(domain, if odd { 2 } else { 1 }, *gref, flags)
         }
         Part::Toggles(kept) => {
-            let granted = grant_once(domain, 0, 2, kept);
-            revoke_once(domain, 0, kept) && granted
+            let frame = if odd { 6 } else { 5 };
+            toggle_once(domain, 0, page(2, false, frame), kept)
         }
+        Part::Leads { second, .. } if odd => toggle_once(domain, 1, via(4), second),
+        Part::Leads { first, .. } => toggle_once(domain, 0, via(3), first),
+        Part::Copies { copy, read } => copy_once(rt, domain, *copy, *read),
         Part::Churns => map_once(domain, 1, 0, READ_ONLY),
         Part::Accesses(access) => access_once(rt, domain, *access),
     }
@@ -259,7 +328,9 @@ fn at_once<'m, P: Allows + Sync, R: Threads + Wait + Sync>(
 // What the owner knows of this entry.
 fn kept_of(part: Part, gref: u32) -> Kept {
     match part {
-        Part::Owns { first, second } => { if gref == 0 { first } else { second } }
+        Part::Owns { first, second } | Part::Leads { first, second } => {
+            if gref == 0 { first } else { second }
+        }
         Part::Toggles(kept) => kept,
         _ => UNUSED,
     }

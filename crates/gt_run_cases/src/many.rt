@@ -1,6 +1,7 @@
 //! Many domains with long lists.
 use crate::gates::Turns;
 use crate::running::run_text;
+use gt_audit::SharedLog;
 use std::alloc::{AllocError, Global};
 use std::fmt::Write;
 use std::sync::Wait;
@@ -10,11 +11,14 @@ const DOMAINS: u16 = 16;
 
 const ROUNDS: u16 = 250;
 
-// The script, whose body begins at line 18: all domains meet, and then each does what no other sees, four calls a
-// round.
+// The hexadecimal text of so many bytes that were never written.
+const ZEROS: usize = 256;
+
+// The script, whose body begins at line 18: all domains meet, and then each does what no other sees, seven calls a
+// round. So each domain prints more than 100,000 bytes, and more than 10,000 bytes of audit lines.
 fn script(alloc: Global) -> Result<String, AllocError> {
     let mut text = String::new(alloc);
-    let _ = writeln!(text, "triple a_t a_t map_read");
+    let _ = writeln!(text, "triple a_t a_t query");
     for id in 1..DOMAINS + 1 {
         let _ = writeln!(text, "domain {id} u:r:a_t 8 1 1");
     }
@@ -26,6 +30,9 @@ fn script(alloc: Global) -> Result<String, AllocError> {
             let _ = writeln!(text, "do {id} peek 3 {round} 1");
             let _ = writeln!(text, "do {id} grant {round} page 1 ro 3");
             let _ = writeln!(text, "do {id} revoke {round}");
+            let _ = writeln!(text, "do {id} peek 5 0 {ZEROS}");
+            let _ = writeln!(text, "do {id} getversion {id}");
+            let _ = writeln!(text, "do {id} getversion self");
         }
     }
     Ok(text)
@@ -33,6 +40,7 @@ fn script(alloc: Global) -> Result<String, AllocError> {
 
 // What it prints.
 fn answers(alloc: Global) -> Result<String, AllocError> {
+    let zeros = "00".repeat(alloc, ZEROS)?;
     let mut text = String::new(alloc);
     let mut line: u32 = 17;
     for id in 1..DOMAINS + 1 {
@@ -42,7 +50,16 @@ fn answers(alloc: Global) -> Result<String, AllocError> {
             let _ = writeln!(text, "{} {id} ok {:02x}", line.wrapping_add(2), id);
             let _ = writeln!(text, "{} {id} ok", line.wrapping_add(3));
             let _ = writeln!(text, "{} {id} ok", line.wrapping_add(4));
-            line = line.wrapping_add(4);
+            let _ = writeln!(text, "{} {id} ok {zeros}", line.wrapping_add(5));
+            let _ = writeln!(text, "{} {id} ok version=1", line.wrapping_add(6));
+            let _ = writeln!(text, "{} {id} ok version=1", line.wrapping_add(7));
+            line = line.wrapping_add(7);
+        }
+    }
+    for id in 1..DOMAINS + 1 {
+        for _ in 0..ROUNDS {
+            let _ = writeln!(text, "audit {id} getversion {id} : ok version=1");
+            let _ = writeln!(text, "audit {id} getversion {id} : ok version=1");
         }
     }
     Ok(text)
@@ -55,7 +72,8 @@ pub fn many_said<R: Threads + Wait + Sync>(rt: &R, alloc: Global) -> anyhow::Res
     let mut out = String::new(alloc);
     for run in 1..3 {
         let gate = Turns::meeting(u64::from(DOMAINS));
-        let ended = run_text(rt, alloc, script.as_bytes(), None, &gate)?;
+        let log = SharedLog::new(alloc)?;
+        let ended = run_text(rt, alloc, script.as_bytes(), Some(&log), &gate)?;
         let said = if ended.is(wanted.as_bytes(), "") {
             format!(in alloc; "run {run} prints what it must\n")?
         } else {
