@@ -1,5 +1,5 @@
 //! One script on both.
-use crate::asking::{Both, place_of};
+use crate::asking::{Asked, Both, place_of};
 use crate::texts::text_difference;
 use anyhow::bail;
 use gt_core::{Answer, Core, Request};
@@ -7,7 +7,7 @@ use gt_host::{Labels, Rights, bytes_said, label_given, push_answer_line, request
 use gt_live::Monitor;
 use gt_running::{READ_ONLY, all_running};
 use gt_script::{Script, ScriptAction, ScriptCall, ScriptStep, Text, parse};
-use gt_types::{Config, DomainConfig, GrantRef, StartFault};
+use gt_types::{Config, DomId, DomainConfig, GrantRef};
 use std::alloc::Global;
 use std::sync::Wait;
 
@@ -60,7 +60,7 @@ fn shown_of<R: Wait>(
             off: 0,
             len: PAGE,
         };
-        if both.ask(rt, place, domain.id, peek)?.is_none() {
+        if !both.agrees(rt, place, domain.id, peek)? {
             return Ok(Some(Shows::Frame(domain.id.0, frame)));
         }
     }
@@ -71,7 +71,7 @@ fn shown_of<R: Wait>(
             gref: GrantRef(gref),
             flags: READ_ONLY,
         };
-        if both.ask(rt, looker, last.id, map)?.is_none() {
+        if !both.agrees(rt, looker, last.id, map)? {
             return Ok(Some(Shows::Entry(domain.id.0, gref)));
         }
     }
@@ -103,8 +103,39 @@ fn call_of<'b, 'a>(step: &'b ScriptStep<'a>) -> anyhow::Result<&'b ScriptCall<'a
     }
 }
 
-// Makes the call of a line on both, and adds the line of its answer. Answers whether it was Ok, or none where both
-// answer otherwise.
+// What came of the call of a line.
+#[derive(Clone, Copy)]
+enum Came {
+    Done,
+    Denied,
+    Otherwise,
+    Differs(Shows),
+}
+
+// What a call is answered on both. Where the monitor was refused memory, both show what they did before, and the call
+// is made again.
+fn answered<R: Wait>(
+    rt: &R,
+    both: &mut Both<'_>,
+    domains: &[DomainConfig],
+    dom: DomId,
+    request: Request<'_>,
+) -> anyhow::Result<Result<Answer, Came>> {
+    let place = place_of(domains, dom);
+    let mut asked = both.ask(rt, place, dom, request)?;
+    if matches!(asked, Asked::Refused) {
+        if let Some(shows) = shown_by_all(rt, both, domains)? {
+            return Ok(Err(Came::Differs(shows)));
+        }
+        asked = both.ask(rt, place, dom, request)?;
+    }
+    match asked {
+        Asked::Alike(answer) => Ok(Ok(answer)),
+        Asked::Otherwise | Asked::Refused => Ok(Err(Came::Otherwise)),
+    }
+}
+
+// Makes the call of a line on both, adds the line of its answer, and compares what both show then.
 fn call_made<'a, R: Wait>(
     rt: &R,
     alloc: Global,
@@ -114,30 +145,35 @@ fn call_made<'a, R: Wait>(
     step: &ScriptStep<'a>,
     out: &mut Vec<u8>,
     names: &[Text<'_>],
-) -> anyhow::Result<Option<bool>> {
+) -> anyhow::Result<Came> {
     let call = call_of(step)?;
     let bytes = bytes_said(alloc, call)?;
     let request = request_of(labels, step.dom, bytes.as_slice(), call);
-    let place = place_of(script.domains(), step.dom);
-    let Some(answer) = both.ask(rt, place, step.dom, request)? else {
-        return Ok(None);
+    let answer = match answered(rt, both, script.domains(), step.dom, request)? {
+        Ok(answer) => answer,
+        Err(came) => return Ok(came),
     };
     if let (Some(label), Answer::Mapped(handle)) = (label_given(call), &answer) {
         labels.name(step.dom, label, *handle)?;
     }
     push_answer_line(alloc, out, names, step.line, step.dom, &answer)?;
-    Ok(Some(!matches!(answer, Answer::Denied(_))))
+    match shown_by_all(rt, both, script.domains())? {
+        Some(shows) => Ok(Came::Differs(shows)),
+        None if matches!(answer, Answer::Denied(_)) => Ok(Came::Denied),
+        None => Ok(Came::Done),
+    }
 }
 
-// What differs at a line.
-fn difference_at(alloc: Global, line: usize, shows: Option<Shows>) -> anyhow::Result<String> {
-    Ok(match shows {
-        None => format!(in alloc; "line {line}: other answers")?,
-        Some(Shows::Frame(dom, frame)) => {
-            format!(in alloc; "line {line}: frame {frame} of domain {dom} differs")?
+// What differs at a line, if anything does.
+fn difference_at(alloc: Global, line: usize, came: Came) -> anyhow::Result<Option<String>> {
+    Ok(match came {
+        Came::Done | Came::Denied => None,
+        Came::Otherwise => Some(format!(in alloc; "line {line}: other answers")?),
+        Came::Differs(Shows::Frame(dom, frame)) => {
+            Some(format!(in alloc; "line {line}: frame {frame} of domain {dom} differs")?)
         }
-        Some(Shows::Entry(dom, gref)) => {
-            format!(in alloc; "line {line}: entry {gref} of domain {dom} differs")?
+        Came::Differs(Shows::Entry(dom, gref)) => {
+            Some(format!(in alloc; "line {line}: entry {gref} of domain {dom} differs")?)
         }
     })
 }
@@ -155,7 +191,7 @@ fn lines_compared<'a, R: Wait>(
     let (mut calls, mut done) = (0usize, 0usize);
     'steps: for step in script.steps() {
         calls = calls.saturating_add(1);
-        let made = call_made(
+        let came = call_made(
             rt,
             alloc,
             both,
@@ -165,17 +201,16 @@ fn lines_compared<'a, R: Wait>(
             &mut out,
             names.as_slice(),
         )?;
-        let shows = shown_by_all(rt, both, script.domains())?;
-        if made.is_none() || shows.is_some() {
-            let difference = Some(difference_at(alloc, step.line, shows)?);
+        if matches!(came, Came::Done) {
+            done = done.saturating_add(1);
+        }
+        let difference = difference_at(alloc, step.line, came)?;
+        if difference.is_some() {
             return Ok(Compared {
                 calls,
                 done,
                 difference,
             });
-        }
-        if made == Some(true) {
-            done = done.saturating_add(1);
         }
     }
     let difference = text_difference(
@@ -209,6 +244,10 @@ pub fn compare<R: Wait>(rt: &R, alloc: Global, text: &str) -> anyhow::Result<Com
     let Ok(domains) = all_running(alloc, &monitor, domains) else {
         bail!("memory");
     };
-    let mut both = Both { core, domains };
+    let mut both = Both {
+        core,
+        domains,
+        refused: 0,
+    };
     lines_compared(rt, alloc, &mut both, &script, text)
 }

@@ -238,6 +238,11 @@ impl<'m, P: Allows> Running<'m, P> {
         self.domain.trail().records()
     }
 
+    /// How many records were lost so far.
+    pub fn lost(&self) -> u64 {
+        self.domain.trail().lost()
+    }
+
     pub fn finish(self) -> Left {
         let Running {
             monitor,
