@@ -13,7 +13,8 @@
 //! - `--told` and `--awaited`: at a gate that looks for both records of domain 2. A line says whether it found them
 //!   where a flag was raised, or where one was awaited.
 //!
-//! After `--many` comes no name: sixteen domains with long lists, which are made here, meet at a gate.
+//! After `--many` comes no name: sixteen domains with long lists, which are made here, meet at a gate; and two domains
+//! wait for each other past thousands of flags.
 #![tactic(auto)]
 
 mod beginnings;
@@ -27,7 +28,7 @@ use failing::failing_said;
 use gates::{Turns, gate_said, records_said};
 use gt_audit::SharedLog;
 use gt_run::{Flags, run};
-use many::many_said;
+use many::{late_said, many_said};
 use std::alloc::Global;
 use std::fs::{self, File};
 use std::io;
@@ -117,7 +118,8 @@ fn main(rt: HostRuntime) -> anyhow::Result<()> {
             mode = named;
         } else if word.as_str() == "--many" {
             let said = many_said(&rt, alloc)?;
-            print!(rt; "== many\n{said}")?;
+            let late = late_said(&rt, alloc)?;
+            print!(rt; "== many\n{said}{late}")?;
         } else {
             println!(rt; "== {word}")?;
             let path = format!(in alloc; "{word}.gt")?;

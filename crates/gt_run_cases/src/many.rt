@@ -2,6 +2,7 @@
 use crate::gates::Turns;
 use crate::running::run_text;
 use gt_audit::SharedLog;
+use gt_run::Flags;
 use std::alloc::{AllocError, Global};
 use std::fmt::Write;
 use std::sync::Wait;
@@ -63,6 +64,28 @@ fn answers(alloc: Global) -> Result<String, AllocError> {
         }
     }
     Ok(text)
+}
+
+// A script in which domain 2 maps what domain 1 grants once it has raised 5,000 flags. The last flag says so.
+fn late_script(alloc: Global) -> Result<String, AllocError> {
+    let mut text = String::new(alloc);
+    let _ = writeln!(text, "triple a_t a_t map_read");
+    let _ = writeln!(text, "domain 1 u:r:a_t 8 1 1\ndomain 2 u:r:a_t 8 1 1");
+    let _ = writeln!(text, "await 1 here");
+    for flag in 0..5_000 {
+        let _ = writeln!(text, "tell 1 f{flag}");
+    }
+    let _ = writeln!(text, "do 1 grant 0 page 2 ro 5\ntell 1 last");
+    let _ = writeln!(text, "tell 2 here\nawait 2 last\ndo 2 map h 1 0 ro");
+    Ok(text)
+}
+
+/// What two domains print that wait for each other's flags, past thousands of others.
+pub fn late_said<R: Threads + Wait + Sync>(rt: &R, alloc: Global) -> anyhow::Result<String> {
+    let script = late_script(alloc)?;
+    let gate = Flags::new(rt, alloc)?;
+    let ended = run_text(rt, alloc, script.as_bytes(), None, &gate)?;
+    ended.said(alloc)
 }
 
 /// Whether sixteen domains print the same in each of two runs.
