@@ -1,6 +1,6 @@
 //! Runs with more than lines: how many domains they may have, what those leave behind, refused memory, and threads.
 use crate::playing::{Line, ONE, Row, Stage, THREE, TWO, play_row};
-use crate::working::{Access, FIFTY_FIVE, LEN, PAGE, Part, SIXTY_SIX, UNUSED};
+use crate::working::{Access, Copying, FIFTY_FIVE, LEN, PAGE, Part, SIXTY_SIX, UNUSED};
 use gt_calls::{CopyArgs, End};
 use gt_entry::Entry;
 use gt_running::Asks::{
@@ -155,13 +155,13 @@ const TWO_FRAMES: [Line; 2] = [
 ];
 
 // The whole page is copied to frame 3.
-const FETCHES: Part = Part::Copies {
+const FETCHES: Part = Part::Copies(Copying {
     copy: fetch!(1, 0, 0, 3, 0, PAGE),
     read: Some(Peek(3, 0, PAGE)),
-};
+});
 
 // A copy from frame 3 to a grant of domain 2.
-const SENDS: Part = Part::Copies {
+const SENDS: Part = Part::Copies(Copying {
     copy: Asks::Copy(CopyArgs {
         source: End {
             ptr: 3,
@@ -177,12 +177,12 @@ const SENDS: Part = Part::Copies {
         flags: 2,
     }),
     read: None,
-};
+});
 
-const TAKES: Part = Part::Copies {
+const TAKES: Part = Part::Copies(Copying {
     copy: fetch!(2, 0, 0, 3, 0, LEN),
     read: None,
-};
+});
 
 const LEADS: Part = Part::Leads {
     first: UNUSED,

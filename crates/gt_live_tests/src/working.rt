@@ -39,6 +39,14 @@ pub struct Access {
     pub read: Asks<'static>,
 }
 
+/// A copy, which may be refused where an entry on its way is not granted; and what reads, after an Ok one, a whole frame
+/// that then is one of the two that domain 1 grants.
+#[derive(Clone, Copy)]
+pub struct Copying {
+    pub copy: Asks<'static>,
+    pub read: Option<Asks<'static>>,
+}
+
 /// What a domain does, round by round.
 #[derive(Clone, Copy)]
 pub enum Part {
@@ -47,26 +55,15 @@ pub enum Part {
     /// Maps the entry 0 of domain 1 and unmaps it. It may be refused where that is not granted yet, or no more.
     Borrows,
     /// Grants, demotes, promotes and revokes by turns its entry 0, which names domain 3, and its entry 1, for domain 4.
-    Owns {
-        first: Kept,
-        second: Kept,
-    },
+    Owns { first: Kept, second: Kept },
     /// Maps this entry of the domains 1 and 2 by turns, for reading and for writing.
     Maps(u32),
     /// Grants its entry 0 to domain 2, by turns with its frames 5 and 6, and revokes it.
     Toggles(Kept),
     /// Grants and revokes by turns its entry 0, for domain 3, and its entry 1, for domain 4. Both lead to the entry 0 of
     /// domain 1.
-    Leads {
-        first: Kept,
-        second: Kept,
-    },
-    /// Makes this copy, which may be refused where an entry on its way is not granted. After an Ok one it reads a whole
-    /// frame, if one is named: one of the two frames that domain 1 grants.
-    Copies {
-        copy: Asks<'static>,
-        read: Option<Asks<'static>>,
-    },
+    Leads { first: Kept, second: Kept },
+    Copies(Copying),
     /// Maps the entry 0 of domain 1 for reading and unmaps it.
     Churns,
     Accesses(Access),
@@ -251,13 +248,8 @@ fn access_once<R: Wait, P: Allows>(rt: &R, domain: &mut Running<'_, P>, access: 
 }
 
 // One round of a domain that copies.
-fn copy_once<R: Wait, P: Allows>(
-    rt: &R,
-    domain: &mut Running<'_, P>,
-    copy: Asks<'static>,
-    read: Option<Asks<'static>>,
-) -> bool {
-    match (domain.ask(rt, copy), read) {
+fn copy_once<R: Wait, P: Allows>(rt: &R, domain: &mut Running<'_, P>, copying: Copying) -> bool {
+    match (domain.ask(rt, copying.copy), copying.read) {
         (Said::Done, None) => true,
         (Said::Done, Some(read)) => {
             let byte = even_byte(&domain.ask(rt, read), PAGE);
@@ -293,7 +285,7 @@ fn round_of<R: Wait, P: Allows>(
         }
         Part::Leads { second, .. } if odd => toggle_once(domain, 1, via(4), second),
         Part::Leads { first, .. } => toggle_once(domain, 0, via(3), first),
-        Part::Copies { copy, read } => copy_once(rt, domain, *copy, *read),
+        Part::Copies(copying) => copy_once(rt, domain, *copying),
         Part::Churns => map_once(domain, 1, 0, READ_ONLY),
         Part::Accesses(access) => access_once(rt, domain, *access),
     }
