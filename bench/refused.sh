@@ -75,7 +75,6 @@ if [ "$1" = --gate ]; then
     try_crate gt_core_tests memory::{calls,accesses,copies,play}_with_memory_refused
     try_crate gt_live_tests runs::accesses_with_memory_refused
     try_crate gt_host_cases first --audit a_policy_denies
-    try_crate gt_compare_cases memory
 else
     try_crate "$@"
 fi

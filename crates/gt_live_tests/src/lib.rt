@@ -3,8 +3,7 @@
 //! They say what no contract says: that a run starts where memory is ample; the worked rows of calls with the bytes
 //! that they read and the words that their refusals carry (`rows.rt`); and whole runs (`runs.rt`): the records that a
 //! domain leaves behind, calls that are refused memory (with bench/refused.sh), and domains beside each other in
-//! threads. Two of those share a page, two storms of four leave every word idle, no copy of a page is torn while its owner
-//! grants another one, and three access the same frames.
+//! threads. Two of those share a page, a storm of four leaves every word idle, and three access the same frames.
 //!
 //! One function plays all rows (`playing.rt`), since each function that starts a run costs as much proof as all tables.
 //! What a domain does in its thread is `working.rt`. The domains and their calls as values are those of `gt_running`.

@@ -1,6 +1,6 @@
 //! Runs with more than lines: how many domains they may have, what those leave behind, refused memory, and threads.
 use crate::playing::{Line, ONE, Row, Stage, THREE, TWO, play_row};
-use crate::working::{Access, Copying, FIFTY_FIVE, LEN, PAGE, Part, SIXTY_SIX, UNUSED};
+use crate::working::{Access, LEN, Part, UNUSED};
 use gt_calls::{CopyArgs, End};
 use gt_entry::Entry;
 use gt_running::Asks::{
@@ -148,57 +148,7 @@ const STORM: [(Part, u32); 4] = [
     (Part::Maps(1), 25_000),
 ];
 
-// The frames that are granted by turns, and what they hold.
-const TWO_FRAMES: [Line; 2] = [
-    (ONE, Poke(5, 0, &[FIFTY_FIVE; 4_096]), "ok"),
-    (ONE, Poke(6, 0, &[SIXTY_SIX; 4_096]), "ok"),
-];
-
-// The whole page is copied to frame 3.
-const FETCHES: Part = Part::Copies(Copying {
-    copy: fetch!(1, 0, 0, 3, 0, PAGE),
-    read: Some(Peek(3, 0, PAGE)),
-});
-
-// A copy from frame 3 to a grant of domain 2.
-const SENDS: Part = Part::Copies(Copying {
-    copy: Asks::Copy(CopyArgs {
-        source: End {
-            ptr: 3,
-            domid: DomId(DOMID_SELF),
-            offset: 0,
-        },
-        dest: End {
-            ptr: 1,
-            domid: DomId(2),
-            offset: 0,
-        },
-        len: LEN,
-        flags: 2,
-    }),
-    read: None,
-});
-
-const TAKES: Part = Part::Copies(Copying {
-    copy: fetch!(2, 0, 0, 3, 0, LEN),
-    read: None,
-});
-
-const LEADS: Part = Part::Leads {
-    first: UNUSED,
-    second: UNUSED,
-};
-
-// Copies through the entries of domain 2, which both lead to one page of domain 1. All three entries are granted and
-// revoked.
-const STORM_OF_VIAS: [(Part, u32); 4] = [
-    (Part::Toggles(UNUSED), 10_000),
-    (LEADS, 10_000),
-    (TAKES, 10_000),
-    (SENDS, 10_000),
-];
-
-const ROWS: [Row; 10] = [
+const ROWS: [Row; 8] = [
     Row {
         name: "a domain that leaves gives its pins back",
         stages: &[
@@ -249,21 +199,6 @@ const ROWS: [Row; 10] = [
             (TWO, THREE, 2, 0),
             (TWO, 3, 2, 1),
         ],
-        ..QUIET
-    },
-    Row {
-        name: "no copy is torn",
-        stages: &[Stage::Asked(&TWO_FRAMES)],
-        parts: &[(Part::Toggles(UNUSED), 1_000), (FETCHES, 1_000)],
-        behind: &[(ONE, TWO, 1, 0)],
-        ..QUIET
-    },
-    Row {
-        name: "a storm of transitive copies leaves every word idle",
-        count: 4,
-        version: 2,
-        parts: &STORM_OF_VIAS,
-        behind: &[(ONE, TWO, 1, 0), (TWO, THREE, 2, 0), (TWO, 3, 2, 1)],
         ..QUIET
     },
     Row {

@@ -1,21 +1,13 @@
 //! What domains do at once, each in a thread of its own.
 use gt_entry::{Control, Entry, Kind};
 use gt_running::{Asks, READ_ONLY, Running, Said, WRITABLE};
-use gt_types::{Allows, Denial, DomId, Facts, GrantRef, Memory, Rule};
+use gt_types::{Allows, Denial, DomId, Facts, Memory, Rule};
 use std::alloc::{AllocError, Global};
 use std::sync::Wait;
 use std::thread::{self, Threads};
 
 /// So many bytes go with one access.
 pub const LEN: u16 = 64;
-
-/// So many bytes has a frame.
-pub const PAGE: u16 = 4_096;
-
-/// What the two frames that are granted by turns hold in each byte, where copies of them are read.
-pub const FIFTY_FIVE: u8 = 0x55;
-
-pub const SIXTY_SIX: u8 = 0x66;
 
 /// What an owner knows of its entry from its own calls.
 #[derive(Clone, Copy)]
@@ -39,14 +31,6 @@ pub struct Access {
     pub read: Asks<'static>,
 }
 
-/// A copy, which may be refused where an entry on its way is not granted; and what reads, after an Ok one, a whole frame
-/// that then is one of the two that domain 1 grants.
-#[derive(Clone, Copy)]
-pub struct Copying {
-    pub copy: Asks<'static>,
-    pub read: Option<Asks<'static>>,
-}
-
 /// What a domain does, round by round.
 #[derive(Clone, Copy)]
 pub enum Part {
@@ -58,12 +42,8 @@ pub enum Part {
     Owns { first: Kept, second: Kept },
     /// Maps this entry of the domains 1 and 2 by turns, for reading and for writing.
     Maps(u32),
-    /// Grants its entry 0 to domain 2, by turns with its frames 5 and 6, and revokes it.
+    /// Grants its entry 0 to domain 2 and revokes it.
     Toggles(Kept),
-    /// Grants and revokes by turns its entry 0, for domain 3, and its entry 1, for domain 4. Both lead to the entry 0 of
-    /// domain 1.
-    Leads { first: Kept, second: Kept },
-    Copies(Copying),
     /// Maps the entry 0 of domain 1 for reading and unmaps it.
     Churns,
     Accesses(Access),
@@ -78,21 +58,11 @@ struct Worker<'m, P: Allows> {
     fair: bool,
 }
 
-fn page(dom: u16, ro: bool, frame: u64) -> Entry {
+fn page(dom: u16, ro: bool) -> Entry {
     Entry::Page {
         dom: DomId(dom),
         ro,
-        frame,
-    }
-}
-
-// The entry for this domain that leads to the entry 0 of domain 1.
-fn via(dom: u16) -> Entry {
-    Entry::Via {
-        dom: DomId(dom),
-        ro: false,
-        dom2: DomId(1),
-        gref: GrantRef(0),
+        frame: 5,
     }
 }
 
@@ -112,7 +82,7 @@ fn stands(denial: Denial) -> bool {
     match denial.rule {
         Rule::N10 => control.kind == Kind::Invalid && control.reads == 0 && control.writes == 0,
         Rule::N13 => control.kind == Kind::Page && control.ro,
-        Rule::N19 => control.kind != Kind::Invalid && (control.reads > 0 || control.writes > 0),
+        Rule::N19 => control.kind == Kind::Page && (control.reads > 0 || control.writes > 0),
         Rule::N18 => true,
         _ => false,
     }
@@ -127,7 +97,7 @@ fn is_fair(answer: Result<(), Denial>, one: Rule, other: Rule) -> bool {
 }
 
 fn lend<P: Allows>(domain: &mut Running<'_, P>) -> bool {
-    if domain.grant(0, &page(2, true, 5)).is_err() {
+    if domain.grant(0, &page(2, true)).is_err() {
         return false;
     }
     for _ in 0..u64::MAX {
@@ -149,11 +119,11 @@ fn borrow<P: Allows>(domain: &mut Running<'_, P>) -> bool {
 fn grant_once<P: Allows>(
     domain: &mut Running<'_, P>,
     gref: u32,
-    entry: Entry,
+    named: u16,
     kept: &mut Kept,
 ) -> bool {
     let was_valid = kept.valid;
-    let granted = domain.grant(gref, &entry).is_ok();
+    let granted = domain.grant(gref, &page(named, false)).is_ok();
     if granted {
         *kept = Kept {
             valid: true,
@@ -188,17 +158,6 @@ fn turn_once<P: Allows>(domain: &mut Running<'_, P>, gref: u32, kept: &mut Kept)
     is_fair(demoted, Rule::N18, Rule::N19) && is_fair(promoted, Rule::N18, Rule::N18)
 }
 
-// Grants an entry where it is not granted, and revokes it.
-fn toggle_once<P: Allows>(
-    domain: &mut Running<'_, P>,
-    gref: u32,
-    entry: Entry,
-    kept: &mut Kept,
-) -> bool {
-    let granted = grant_once(domain, gref, entry, kept);
-    revoke_once(domain, gref, kept) && granted
-}
-
 // One round of an owner: its entry is granted where it is not, made read-only and writable again, and revoked.
 fn own_once<P: Allows>(
     domain: &mut Running<'_, P>,
@@ -206,7 +165,7 @@ fn own_once<P: Allows>(
     named: u16,
     kept: &mut Kept,
 ) -> bool {
-    let granted = grant_once(domain, gref, page(named, false, 5), kept);
+    let granted = grant_once(domain, gref, named, kept);
     let turned = turn_once(domain, gref, kept);
     let revoked = revoke_once(domain, gref, kept);
     granted && turned && revoked
@@ -224,42 +183,25 @@ fn map_once<P: Allows>(domain: &mut Running<'_, P>, owner: u16, gref: u32, flags
     }
 }
 
-// The byte that was read so often, and no other: so no write came in between.
-fn even_byte(said: &Said, len: u16) -> Option<u8> {
+// Whether so many bytes were read, all alike: so no write came in between.
+fn is_even(said: &Said) -> bool {
     let Said::Bytes(bytes) = said else {
-        return None;
+        return false;
     };
-    let first = *bytes.first()?;
+    let Some(first) = bytes.first() else {
+        return false;
+    };
     'bytes: for byte in bytes.iter() {
-        if *byte != first {
-            return None;
+        if byte != first {
+            return false;
         }
     }
-    if bytes.len() == usize::from(len) {
-        Some(first)
-    } else {
-        None
-    }
+    bytes.len() == usize::from(LEN)
 }
 
 fn access_once<R: Wait, P: Allows>(rt: &R, domain: &mut Running<'_, P>, access: Access) -> bool {
     let wrote = matches!(domain.ask(rt, access.write), Said::Done);
-    even_byte(&domain.ask(rt, access.read), LEN).is_some() && wrote
-}
-
-// One round of a domain that copies.
-fn copy_once<R: Wait, P: Allows>(rt: &R, domain: &mut Running<'_, P>, copying: Copying) -> bool {
-    match (domain.ask(rt, copying.copy), copying.read) {
-        (Said::Done, None) => true,
-        (Said::Done, Some(read)) => {
-            let byte = even_byte(&domain.ask(rt, read), PAGE);
-            byte == Some(FIFTY_FIVE) || byte == Some(SIXTY_SIX)
-        }
-        (Said::Denied(denial), _) => {
-            (denial.rule == Rule::N10 || denial.rule == Rule::N18) && stands(denial)
-        }
-        _ => false,
-    }
+    is_even(&domain.ask(rt, access.read)) && wrote
 }
 
 // One round of a domain, and whether it was answered as the rules allow.
@@ -280,12 +222,9 @@ fn round_of<R: Wait, P: Allows>(
             map_once(domain, if odd { 2 } else { 1 }, *gref, flags)
         }
         Part::Toggles(kept) => {
-            let frame = if odd { 6 } else { 5 };
-            toggle_once(domain, 0, page(2, false, frame), kept)
+            let granted = grant_once(domain, 0, 2, kept);
+            revoke_once(domain, 0, kept) && granted
         }
-        Part::Leads { second, .. } if odd => toggle_once(domain, 1, via(4), second),
-        Part::Leads { first, .. } => toggle_once(domain, 0, via(3), first),
-        Part::Copies(copying) => copy_once(rt, domain, *copying),
         Part::Churns => map_once(domain, 1, 0, READ_ONLY),
         Part::Accesses(access) => access_once(rt, domain, *access),
     }
@@ -320,9 +259,7 @@ fn at_once<'m, P: Allows + Sync, R: Threads + Wait + Sync>(
 // What the owner knows of this entry.
 fn kept_of(part: Part, gref: u32) -> Kept {
     match part {
-        Part::Owns { first, second } | Part::Leads { first, second } => {
-            if gref == 0 { first } else { second }
-        }
+        Part::Owns { first, second } => { if gref == 0 { first } else { second } }
         Part::Toggles(kept) => kept,
         _ => UNUSED,
     }

@@ -12,15 +12,12 @@ use std::thread::Threads;
 fn untold_read<R: Threads + Wait + Sync>(
     rt: &R,
     alloc: Global,
-    script: &[u8],
-    audit: bool,
+    script: &str,
 ) -> anyhow::Result<Option<usize>> {
     for left in 0..script.len() {
         let limits = (left, usize::MAX);
         let gate = Flags::new(rt, alloc)?;
-        let log = SharedLog::new(alloc)?;
-        let shared = if audit { Some(&log) } else { None };
-        let ended = run_failing(rt, alloc, script, limits, shared, &gate)?;
+        let ended = run_failing(rt, alloc, script, limits, None, &gate)?;
         if !ended.is("".as_bytes(), "read") {
             return Ok(Some(left));
         }
@@ -29,20 +26,18 @@ fn untold_read<R: Threads + Wait + Sync>(
 }
 
 // Each write fails after so many bytes, for each number of them; then the flush alone, and then nothing. The first
-// number after which `run` answers otherwise, or what went out is no beginning of the text.
+// number after which `run` answers otherwise, or what went out is no beginning of the text with its audit lines.
 fn untold_write<R: Threads + Wait + Sync>(
     rt: &R,
     alloc: Global,
-    script: &[u8],
+    script: &str,
     text: &[u8],
-    audit: bool,
 ) -> anyhow::Result<Option<usize>> {
     for left in 0..text.len() + 2 {
         let limits = (usize::MAX, left);
         let gate = Flags::new(rt, alloc)?;
         let log = SharedLog::new(alloc)?;
-        let shared = if audit { Some(&log) } else { None };
-        let ended = run_failing(rt, alloc, script, limits, shared, &gate)?;
+        let ended = run_failing(rt, alloc, script, limits, Some(&log), &gate)?;
         let fault = if left <= text.len() { "write" } else { "" };
         let beginning = &text[..left.min(text.len())];
         if !ended.is(beginning, fault) {
@@ -52,20 +47,17 @@ fn untold_write<R: Threads + Wait + Sync>(
     Ok(None)
 }
 
-/// What a script prints, with its audit lines or without, and whether each read and each write that fails is told.
+/// What a script prints with its audit lines, and whether each read and each write that fails is told.
 pub fn failing_said<R: Threads + Wait + Sync>(
     rt: &R,
     alloc: Global,
     script: &str,
-    audit: bool,
 ) -> anyhow::Result<String> {
-    let script = script.as_bytes();
     let gate = Flags::new(rt, alloc)?;
     let log = SharedLog::new(alloc)?;
-    let shared = if audit { Some(&log) } else { None };
-    let ended = run_text(rt, alloc, script, shared, &gate)?;
-    let read = untold_read(rt, alloc, script, audit)?;
-    let write = untold_write(rt, alloc, script, ended.out.as_slice(), audit)?;
+    let ended = run_text(rt, alloc, script, Some(&log), &gate)?;
+    let read = untold_read(rt, alloc, script)?;
+    let write = untold_write(rt, alloc, script, ended.out.as_slice())?;
     let mut out = ended.said(alloc)?;
     out.push_str(failing_line(alloc, "read", read)?.as_str())?;
     out.push_str(failing_line(alloc, "write", write)?.as_str())?;

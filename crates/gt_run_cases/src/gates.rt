@@ -151,7 +151,7 @@ pub fn gate_said<R: Threads + Wait + Sync>(
     script: &str,
     gate: &Turns<'_>,
 ) -> anyhow::Result<String> {
-    let ended = run_text(rt, alloc, script.as_bytes(), None, gate)?;
+    let ended = run_text(rt, alloc, script, None, gate)?;
     ended.said(alloc)
 }
 
@@ -165,7 +165,7 @@ pub fn records_said<R: Threads + Wait + Sync>(
 ) -> anyhow::Result<String> {
     let log = SharedLog::new(alloc)?;
     let gate = Turns::looking(&log, DomId(2), 2);
-    let ended = run_text(rt, alloc, script.as_bytes(), Some(&log), &gate)?;
+    let ended = run_text(rt, alloc, script, Some(&log), &gate)?;
     let (told, passed) = gate.found();
     let mut out = ended.said(alloc)?;
     let line = if is_raised {

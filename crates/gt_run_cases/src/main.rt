@@ -5,30 +5,25 @@
 //! lines in `stdout`. A word of `args` that begins with `--` says how the scripts after it are run:
 //!
 //! - `--audit`: with their audit lines.
-//! - `--failing`: each read and each write fails after each count of bytes, and a line says whether all were told;
-//!   `--failing-audit` the same with their audit lines.
-//! - `--beginnings`: each beginning of them, from no byte to the whole, with its audit lines.
+//! - `--failing`: each read and each write fails after each count of bytes, and a line says whether all were told.
 //! - `--closed` and `--deaf`: at a gate that gives up, at once or after all its turns.
 //! - `--two-meet` and `--three-meet`: at a gate that lets domains on once so many are there.
 //! - `--told` and `--awaited`: at a gate that looks for both records of domain 2. A line says whether it found them
 //!   where a flag was raised, or where one was awaited.
 //!
-//! After `--many` comes no name: sixteen domains with long lists, which are made here, meet at a gate; and two domains
-//! wait for each other past thousands of flags.
+//! After `--many` comes no name: sixteen domains with long lists, which are made here, meet at a gate.
 #![tactic(auto)]
 
-mod beginnings;
 mod failing;
 mod gates;
 mod many;
 mod running;
 
-use beginnings::beginnings_said;
 use failing::failing_said;
 use gates::{Turns, gate_said, records_said};
 use gt_audit::SharedLog;
 use gt_run::{Flags, run};
-use many::{late_said, many_said};
+use many::many_said;
 use std::alloc::Global;
 use std::fs::{self, File};
 use std::io;
@@ -41,8 +36,7 @@ use std::thread::Threads;
 enum Mode {
     Run,
     Audit,
-    Failing(bool),
-    Beginnings,
+    Failing,
     Closed,
     Deaf,
     Meet(u64),
@@ -54,9 +48,7 @@ enum Mode {
 fn mode_named(word: &str) -> Option<Mode> {
     match word {
         "--audit" => Some(Mode::Audit),
-        "--failing" => Some(Mode::Failing(false)),
-        "--failing-audit" => Some(Mode::Failing(true)),
-        "--beginnings" => Some(Mode::Beginnings),
+        "--failing" => Some(Mode::Failing),
         "--closed" => Some(Mode::Closed),
         "--deaf" => Some(Mode::Deaf),
         "--two-meet" => Some(Mode::Meet(2)),
@@ -97,8 +89,7 @@ fn try_file<R: Runtime + Threads + Wait + Sync>(
     let said = match mode {
         Mode::Run => return run_file(rt, alloc, path, false),
         Mode::Audit => return run_file(rt, alloc, path, true),
-        Mode::Failing(audit) => failing_said(rt, alloc, script, audit)?,
-        Mode::Beginnings => beginnings_said(rt, alloc, script)?,
+        Mode::Failing => failing_said(rt, alloc, script)?,
         Mode::Closed => gate_said(rt, alloc, script, &Turns::closed())?,
         Mode::Deaf => gate_said(rt, alloc, script, &Turns::deaf())?,
         Mode::Meet(count) => gate_said(rt, alloc, script, &Turns::meeting(count))?,
@@ -118,8 +109,7 @@ fn main(rt: HostRuntime) -> anyhow::Result<()> {
             mode = named;
         } else if word.as_str() == "--many" {
             let said = many_said(&rt, alloc)?;
-            let late = late_said(&rt, alloc)?;
-            print!(rt; "== many\n{said}{late}")?;
+            print!(rt; "== many\n{said}")?;
         } else {
             println!(rt; "== {word}")?;
             let path = format!(in alloc; "{word}.gt")?;

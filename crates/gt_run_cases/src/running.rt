@@ -34,13 +34,13 @@ impl Ended {
 pub fn run_failing<R: Threads + Wait + Sync, G: Gate + Sync>(
     rt: &R,
     alloc: Global,
-    script: &[u8],
+    script: &str,
     limits: (usize, usize),
     log: Option<&SharedLog>,
     gate: &G,
 ) -> Result<Ended, AllocError> {
     let (reads, writes) = limits;
-    let mut reader = FailingReader::new(script, reads);
+    let mut reader = FailingReader::new(script.as_bytes(), reads);
     let mut writer = FailingWriter::new(Vec::new(alloc), writes);
     let ended = run(rt, alloc, &mut reader, &mut writer, log, gate);
     Ok(Ended {
@@ -60,7 +60,7 @@ fn fault_text(alloc: Global, ended: &Result<(), RunFault>) -> Result<String, All
 pub fn run_text<R: Threads + Wait + Sync, G: Gate + Sync>(
     rt: &R,
     alloc: Global,
-    script: &[u8],
+    script: &str,
     log: Option<&SharedLog>,
     gate: &G,
 ) -> Result<Ended, AllocError> {
