@@ -72,7 +72,7 @@ static void shares(void)
     gthost_grant_page(&domain[0], 7, 2, 5, 0, &answer);
     WANT(GTHOST_OK, 0, GTHOST_NOTHING);
     gthost_grant_page(&domain[0], 7, 2, 5, 0, &answer);
-    WANT(20, -1, GTHOST_ENTRY);
+    WANT(20, -1, GTHOST_NOTHING);
     gthost_map(&domain[1], 9, 7, GTHOST_MAP_WRITABLE, &answer);
     WANT(1, -2, GTHOST_NOTHING);
     gthost_map(&domain[1], 1, 7, 3, &answer);
