@@ -1,4 +1,7 @@
 //! The calls of a domain.
+ghost use Rattle.std.specs.Prelude.{◌≡◌};
+ghost use Rattle.gt_calls.specs.declared.request.Request.TheVariants as Request;
+ghost use Rattle.gt_c.specs.Calling.{Between, Says, at, outcome};
 
 use crate::handle::Handle;
 use gt_calls::Handle as Name;
@@ -15,7 +18,9 @@ pub struct MapHandle {
     pub key: usize,
 }
 
-fn done(answer: Result<(), Denial>) -> Outcome {
+fn done(answer: Result<(), Denial>) -> Outcome
+    ensures { result ≡ outcome answer }
+{
     match answer {
         Ok(()) => Outcome::Done,
         Err(denial) => Outcome::Denied(denial),
@@ -159,12 +164,9 @@ pub extern "C" fn gthost_grant_bytes(
 
 /// Makes an entry of its own invalid, where it has no pins.
 #[unsafe(no_mangle)]
-pub extern "C" fn gthost_revoke(
-    alloc: Global,
-    domain: &mut Handle,
-    gref: u32,
-    answer: &mut Answer,
-) {
+pub extern "C" fn gthost_revoke(alloc: Global, domain: &mut Handle, gref: u32, answer: &mut Answer)
+    ensures answered { Between domain.old.held.value domain.new.held.value (Says (Request.Revoke (at gref)) answer.new) }
+{
     let Some(mut here) = domain.take(alloc) else {
         *answer = Answer::of(Outcome::NoDomain);
         return;
@@ -180,7 +182,9 @@ pub extern "C" fn gthost_withdraw(
     domain: &mut Handle,
     gref: u32,
     answer: &mut Answer,
-) {
+)
+    ensures answered { Between domain.old.held.value domain.new.held.value (Says (Request.Withdraw (at gref)) answer.new) }
+{
     let Some(mut here) = domain.take(alloc) else {
         *answer = Answer::of(Outcome::NoDomain);
         return;
@@ -191,12 +195,9 @@ pub extern "C" fn gthost_withdraw(
 
 /// Makes an entry of its own read-only, where it has no write pins.
 #[unsafe(no_mangle)]
-pub extern "C" fn gthost_demote(
-    alloc: Global,
-    domain: &mut Handle,
-    gref: u32,
-    answer: &mut Answer,
-) {
+pub extern "C" fn gthost_demote(alloc: Global, domain: &mut Handle, gref: u32, answer: &mut Answer)
+    ensures answered { Between domain.old.held.value domain.new.held.value (Says (Request.Demote (at gref)) answer.new) }
+{
     let Some(mut here) = domain.take(alloc) else {
         *answer = Answer::of(Outcome::NoDomain);
         return;
@@ -207,12 +208,9 @@ pub extern "C" fn gthost_demote(
 
 /// Makes an entry of its own writable.
 #[unsafe(no_mangle)]
-pub extern "C" fn gthost_promote(
-    alloc: Global,
-    domain: &mut Handle,
-    gref: u32,
-    answer: &mut Answer,
-) {
+pub extern "C" fn gthost_promote(alloc: Global, domain: &mut Handle, gref: u32, answer: &mut Answer)
+    ensures answered { Between domain.old.held.value domain.new.held.value (Says (Request.Promote (at gref)) answer.new) }
+{
     let Some(mut here) = domain.take(alloc) else {
         *answer = Answer::of(Outcome::NoDomain);
         return;
@@ -267,7 +265,9 @@ pub extern "C" fn gthost_set_version(
     domain: &mut Handle,
     version: u32,
     answer: &mut Answer,
-) {
+)
+    ensures answered { Between domain.old.held.value domain.new.held.value (Says (Request.SetVersion version) answer.new) }
+{
     let Some(mut here) = domain.take(alloc) else {
         *answer = Answer::of(Outcome::NoDomain);
         return;
