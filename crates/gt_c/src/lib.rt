@@ -4,9 +4,10 @@
 //! the domain out of its handle, makes the call of `gt_seat` on it, puts it back, and writes an [`Answer`]. It takes no
 //! memory for that.
 //!
-//! What holds: a call on a handle of a domain makes just the call of that name, and the answer says its outcome. A call
-//! on a handle of none changes nothing, and is answered `NO_DOMAIN`. C owes only what the types say: pointers are valid,
-//! a handle is zeros or what [`gthost_start`] wrote, and is in one call at a time.
+//! What holds: every call is safe and ends. Revoke, withdraw, demote, promote and set_version make just the call of their
+//! name on the handle's domain, and the answer is the encoding of its outcome; the other exports have no clause yet. C
+//! owes only what the types say: pointers are valid, a handle is zeros or what [`gthost_start`] wrote, and is in one call
+//! at a time.
 //!
 //! It uses `gt_seat`, `gt_allow` and `gt_policy` (rights), `gt_calls`, `gt_entry` and `gt_types`.
 #![tactic(auto)]
