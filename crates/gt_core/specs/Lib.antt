@@ -1,6 +1,7 @@
 pub mod Accesses
 pub mod Alike
 pub mod Effects
+pub mod GoingOn
 pub mod History
 pub mod Legal
 pub mod Rows

@@ -3,6 +3,7 @@
 ghost use Rattle.gt_core.specs.Alike.{bare_handle, IsKnown, AreAlike, IsOfKnown, SameElement, SameEvent};
 ghost use Rattle.std.specs.Prelude.{◌≡◌, ℕ};
 ghost use Rattle.gt_types.specs.declared.DomId.{DomId};
+ghost use Rattle.gt_core.specs.GoingOn.{CallsCanBegin, OpenCallsCanGoOn, RunsStart};
 ghost use Rattle.gt_core.specs.History.{History, Setting};
 ghost use Rattle.gt_core.specs.Legal.{MayDo, grown};
 ghost use Rattle.gt_core.specs.Shown.{shown_at};
@@ -56,4 +57,20 @@ pub fn no_pin_outlives_its_record()
 /// again. It is taken back where no entry of its owner is of the page, and none that is invalid has a live pin.
 pub fn every_page_taken_back_is_out_of_reach()
     ensures { PagesTakenBackAreOutOfReach }
+{}
+
+/// A run can start in each configuration within the limits.
+pub fn every_run_can_start()
+    ensures { RunsStart }
+{}
+
+/// After each history that a core stands for, a domain of the run that is at rest can begin any call, in one way.
+pub fn every_call_can_begin()
+    ensures { CallsCanBegin }
+{}
+
+/// After each history that a core stands for, each open call can make its next step, if that is on words. So no call
+/// is stuck.
+pub fn every_open_call_can_go_on()
+    ensures { OpenCallsCanGoOn }
 {}

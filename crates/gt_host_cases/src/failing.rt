@@ -7,11 +7,11 @@ use std::rt::Runtime;
 
 // Each read fails after so many bytes, for each number of them. The first number after which `play` answers another
 // fault, or writes something.
-fn untold_read(alloc: Global, script: &[u8]) -> Option<usize> {
+fn untold_read(alloc: Global, script: &[u8], audit: bool) -> Option<usize> {
     for left in 0..script.len() {
         let mut reader = FailingReader::new(script, left);
         let mut writer = Vec::new(alloc);
-        let outcome = play(alloc, &mut reader, &mut writer, false);
+        let outcome = play(alloc, &mut reader, &mut writer, audit);
         let is_told = matches!(outcome, Err(PlayFault::Read));
         if !is_told || !writer.is_empty() {
             return Some(left);
@@ -22,12 +22,12 @@ fn untold_read(alloc: Global, script: &[u8]) -> Option<usize> {
 
 // Each write fails after so many bytes, for each number of them; then the flush alone, and then nothing. The first
 // number after which `play` answers otherwise, or what went out is no beginning of the text.
-fn untold_write(alloc: Global, script: &[u8], text: &[u8]) -> Option<usize> {
+fn untold_write(alloc: Global, script: &[u8], text: &[u8], audit: bool) -> Option<usize> {
     for left in 0..text.len() + 2 {
         let is_short = left <= text.len();
         let mut reader = script;
         let mut writer = FailingWriter::new(Vec::new(alloc), left);
-        let outcome = play(alloc, &mut reader, &mut writer, false);
+        let outcome = play(alloc, &mut reader, &mut writer, audit);
         let is_told = match outcome {
             Ok(()) => !is_short,
             Err(fault) => is_short && matches!(fault, PlayFault::Write),
@@ -40,18 +40,19 @@ fn untold_write(alloc: Global, script: &[u8], text: &[u8]) -> Option<usize> {
     None
 }
 
-/// What a script prints, and whether each read and each write that fails is told.
+/// What a script prints, with or without its records, and whether each read and each write that fails is told.
 pub fn failing_said<R: Runtime + AllocGlobal>(
     rt: &R,
     alloc: Global,
     name: &str,
+    audit: bool,
 ) -> anyhow::Result<String> {
     let script = script_named(rt, alloc, name)?;
     let mut text = Vec::new(alloc);
     let mut reader = script.as_slice();
-    play(alloc, &mut reader, &mut text, false)?;
-    let read = untold_read(alloc, script.as_slice());
-    let write = untold_write(alloc, script.as_slice(), text.as_slice());
+    play(alloc, &mut reader, &mut text, audit)?;
+    let read = untold_read(alloc, script.as_slice(), audit);
+    let write = untold_write(alloc, script.as_slice(), text.as_slice(), audit);
     let mut out = String::from_utf8(text)?;
     out.push_str(failing_line(alloc, "read", read)?.as_str())?;
     out.push_str(failing_line(alloc, "write", write)?.as_str())?;

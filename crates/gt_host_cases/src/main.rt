@@ -4,18 +4,23 @@
 //! after the word `--audit` are printed with their records. `args` names them all, and `stdout` has what they must
 //! print: the answers of the calls, line by line, or the script's first fault. Each is played with its audit and
 //! without, and where that changes an answer, or adds a line of no record, a line says so. After the word `--failing`
-//! each read and each write fails after each count of bytes, and a line says whether all of these were told. After the
-//! word `--policy` come policies: `x` is `data/x.te`, as `gthost` lists it. A script or policy is added by its file,
-//! its name in `args` and its lines in `stdout`; that costs no proof.
+//! each read and each write fails after each count of bytes, and a line says whether all of these were told; after
+//! `--failing-audit` the same with the records. After the word `--policy` come policies: `x` is `data/x.te`, as
+//! `gthost` lists it. After `--beginnings` each beginning of a script is played, from no byte to the whole, and what it
+//! prints stands behind its count of bytes where it differs from what one byte less prints; after
+//! `--policy-beginnings` those of a policy are listed. A script or policy is added by its file, its name in `args` and
+//! its lines in `stdout`; that costs no proof.
 //!
 //! Where memory is refused, the program ends with status 1, and what it printed is a beginning of `stdout`.
 #![tactic(auto)]
 
+mod beginnings;
 mod failing;
 mod policies;
 mod scripts;
 
 use anyhow::bail;
+use beginnings::{policy_beginnings, script_beginnings};
 use failing::failing_said;
 use policies::policy_said;
 use scripts::{Played, script_said};
@@ -25,20 +30,22 @@ use scripts::{Played, script_said};
 enum Mode {
     Play,
     Audit,
-    Failing,
+    Failing(bool),
+    Beginnings,
     Policy,
+    PolicyBeginnings,
 }
 
 // The mode that a word names, if it is no name of a file.
 fn mode_named(word: &str) -> Option<Mode> {
-    if word == "--audit" {
-        Some(Mode::Audit)
-    } else if word == "--failing" {
-        Some(Mode::Failing)
-    } else if word == "--policy" {
-        Some(Mode::Policy)
-    } else {
-        None
+    match word {
+        "--audit" => Some(Mode::Audit),
+        "--failing" => Some(Mode::Failing(false)),
+        "--failing-audit" => Some(Mode::Failing(true)),
+        "--beginnings" => Some(Mode::Beginnings),
+        "--policy" => Some(Mode::Policy),
+        "--policy-beginnings" => Some(Mode::PolicyBeginnings),
+        _ => None,
     }
 }
 
@@ -62,8 +69,10 @@ fn main(rt: HostRuntime) -> anyhow::Result<()> {
         let said = match mode {
             Mode::Play => script_said(&rt, alloc, word.as_str(), false)?,
             Mode::Audit => script_said(&rt, alloc, word.as_str(), true)?,
-            Mode::Failing => whole(failing_said(&rt, alloc, word.as_str())?),
+            Mode::Failing(audit) => whole(failing_said(&rt, alloc, word.as_str(), audit)?),
+            Mode::Beginnings => whole(script_beginnings(&rt, alloc, word.as_str())?),
             Mode::Policy => whole(policy_said(&rt, alloc, word.as_str())?),
+            Mode::PolicyBeginnings => whole(policy_beginnings(&rt, alloc, word.as_str())?),
         };
         let text = &said.text;
         print!(rt; "== {word}\n{text}")?;

@@ -4,8 +4,8 @@ use std::alloc::Global;
 use std::fs;
 use std::rt::Runtime;
 
-// What is listed of a text, and the fault as it prints, if there is one.
-fn listed(alloc: Global, mut text: &[u8]) -> anyhow::Result<String> {
+/// What is listed of a text, and the fault as it prints, if there is one.
+pub fn listed(alloc: Global, mut text: &[u8]) -> anyhow::Result<String> {
     let mut written = Vec::new(alloc);
     let outcome = policy(alloc, &mut text, &mut written);
     let mut out = String::from_utf8(written)?;

@@ -48,19 +48,13 @@ pub fn script_named<R: Runtime + AllocGlobal>(
     Ok(fs::read(rt, path.as_str())?)
 }
 
-/// What a script prints, with or without its records. Where its audit prints other lines, one more says so.
-pub fn script_said<R: Runtime + AllocGlobal>(
-    rt: &R,
-    alloc: Global,
-    name: &str,
-    audit: bool,
-) -> anyhow::Result<Played> {
-    let script = script_named(rt, alloc, name)?;
-    let mut said = play_once(alloc, script.as_slice(), audit)?;
+/// What a text prints as a script, with or without its records. Where its audit prints other lines, one more says so.
+pub fn said_of(alloc: Global, script: &[u8], audit: bool) -> anyhow::Result<Played> {
+    let mut said = play_once(alloc, script, audit)?;
     if said.is_refused {
         return Ok(said);
     }
-    let other = play_once(alloc, script.as_slice(), !audit)?;
+    let other = play_once(alloc, script, !audit)?;
     let (text, audited) = if audit {
         (&other, &said)
     } else {
@@ -74,4 +68,15 @@ pub fn script_said<R: Runtime + AllocGlobal>(
             .push_str("with its audit it prints other lines\n")?;
     }
     Ok(said)
+}
+
+/// What a script prints, with or without its records, as [`said_of`] says it.
+pub fn script_said<R: Runtime + AllocGlobal>(
+    rt: &R,
+    alloc: Global,
+    name: &str,
+    audit: bool,
+) -> anyhow::Result<Played> {
+    let script = script_named(rt, alloc, name)?;
+    said_of(alloc, script.as_slice(), audit)
 }

@@ -131,12 +131,13 @@ fn write_rule<W: Write>(out: &mut W, rule: Rule) -> io::Result<()> {
     )
 }
 
-// Whether the text is the rule's name.
+// Whether the text is the rule's name: its number has neither a sign nor a zero before it.
 fn is_named(rule: Rule, name: &str) -> bool {
-    match name.strip_prefix("N") {
-        Some(number) => number.parse::<u8>() == Ok(rule.number()),
-        None => false,
-    }
+    let Some(number) = name.strip_prefix("N") else {
+        return false;
+    };
+    matches!(number.as_bytes().first(), Some(b'1'..=b'9'))
+        && number.parse::<u8>() == Ok(rule.number())
 }
 
 // Writes the rule of this name, or all rules where there is no name, and answers whether there is any.

@@ -7,7 +7,10 @@
 //! What holds: a domain that is let go has left its run, so none keeps a pin; and calls that access no bytes wait for
 //! nobody. What a call answers is left to the tests, which compare it.
 //!
-//! It uses `gt_live`, and what that names: `gt_calls`, `gt_entry`, `gt_frames` and `gt_types`.
+//! [`Running::make`] makes the call of a request and answers as `gt_core` would.
+//!
+//! It uses `gt_live`, and what that names: `gt_calls`, `gt_entry`, `gt_frames` and `gt_types`; and the answers of
+//! `gt_core`.
 #![tactic(auto)]
 
 mod asking;

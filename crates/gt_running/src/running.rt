@@ -4,7 +4,8 @@ ghost use Rattle.gt_live.specs.Domains.{IsOf};
 
 use crate::asking::{Asks, Said};
 use gt_audit::Record;
-use gt_calls::Handle;
+use gt_calls::{Handle, Request};
+use gt_core::{Answer, Bytes};
 use gt_entry::Entry;
 use gt_frames::Read;
 use gt_live::{Domain, Left, Monitor};
@@ -80,6 +81,19 @@ fn read(answer: Result<Read, Denial>) -> Said {
     match answer {
         Ok(read) => Said::Bytes(read.into_bytes()),
         Err(denial) => Said::Denied(denial),
+    }
+}
+
+// The answer of a call as the core gives it.
+fn answer_of(said: Said, mapped: Option<Handle>) -> Answer {
+    match (said, mapped) {
+        (Said::Done, Some(handle)) => Answer::Mapped(handle),
+        (Said::Done, None) => Answer::Done,
+        (Said::Frames(frames), _) => Answer::Frames(frames),
+        (Said::Size(size), _) => Answer::Size(size),
+        (Said::Version(version), _) => Answer::Version(version),
+        (Said::Bytes(bytes), _) => Answer::Bytes(Bytes { bytes }),
+        (Said::Denied(denial), _) => Answer::Denied(denial),
     }
 }
 
@@ -163,6 +177,48 @@ impl<'m, P: Allows> Running<'m, P> {
         }
     }
 
+    /// Makes the call that is asked, and answers as the core would.
+    pub fn make<R: Wait>(&mut self, rt: &R, request: Request<'_>) -> Answer {
+        let monitor = self.monitor;
+        let mut mapped = None;
+        let said = match request {
+            Request::Grant { gref, entry } => done(self.domain.grant(monitor, gref, &entry)),
+            Request::GrantBytes { gref, bytes } => {
+                done(self.domain.grant_bytes(monitor, gref, bytes))
+            }
+            Request::Revoke { gref } => done(self.domain.revoke(monitor, gref)),
+            Request::Withdraw { gref } => done(self.domain.withdraw(monitor, gref)),
+            Request::Demote { gref } => done(self.domain.demote(monitor, gref)),
+            Request::Promote { gref } => done(self.domain.promote(monitor, gref)),
+            Request::Map { dom, gref, flags } => {
+                let answer = self.domain.map(monitor, dom, gref, flags);
+                mapped = answer.ok();
+                done(answer)
+            }
+            Request::Unmap { handle } => done(self.domain.unmap(monitor, handle)),
+            Request::SetVersion { version } => done(self.domain.set_version(monitor, version)),
+            Request::SetupTable { frames: count } => {
+                frames(self.domain.setup_table(monitor, count))
+            }
+            Request::QuerySize { dom } => size(self.domain.query_size(monitor, dom)),
+            Request::GetVersion { dom } => version(self.domain.get_version(monitor, dom)),
+            Request::Load { handle, off, len } => {
+                read(self.domain.load(rt, monitor, handle, off, len))
+            }
+            Request::Store { handle, off, bytes } => {
+                done(self.domain.store(rt, monitor, handle, off, bytes))
+            }
+            Request::Peek { frame, off, len } => {
+                read(self.domain.peek(rt, monitor, frame, off, len))
+            }
+            Request::Poke { frame, off, bytes } => {
+                done(self.domain.poke(rt, monitor, frame, off, bytes))
+            }
+            Request::Copy(args) => done(self.domain.copy(rt, monitor, &args)),
+        };
+        answer_of(said, mapped)
+    }
+
     /// From now on it keeps a record only while it has fewer than so many.
     pub fn keep_at_most(&mut self, records: usize) {
         self.domain.keep_at_most(records);
@@ -180,6 +236,11 @@ impl<'m, P: Allows> Running<'m, P> {
     /// Its records so far.
     pub fn told(&self) -> &[Record] {
         self.domain.trail().records()
+    }
+
+    /// How many records were lost so far.
+    pub fn lost(&self) -> u64 {
+        self.domain.trail().lost()
     }
 
     pub fn finish(self) -> Left {

@@ -1,0 +1,231 @@
+-- Every legal history can go on.
+use Rattle.gt_core.proofs.Words.{◌≡◌, ◌≢◌, ◌==◌, ◌<◌, ℕ, refl, true, false, List, [], ◌∷◌, ◌++◌, length, Option, Some, None, Bool, cond, cond_both, sym, ap, ◌∙◌, subst, reverse, same_Some, none-some, eqb-true, position-Some, position, get_or, set, slice_get, is_some, DomId, domain_of, Handle, Held, HandleMap, Asked, Seen, Nothing, Verdict, Granted, Given, KeptPin, Refused, Step, PinStep, ReadBytes, Action, Makes, Done, Call, Phase, knowledge_of, CallerKnowledge, path, action_at, Goes, Starts, Open, Item, Answer, AnswerDone, Mapped, State, state_of, sees, History, Setting, known_at, seen_by, Underway, values, open_call, DomainsStand, Agrees, CallAgrees, OpenAgrees, StateAgrees, applied, with_underway, with_mapping, Adds, AccessedBy, FrameSet, IsRight, CoreStands, FramesStand, core_of, Settled, Closed, answer_with, ticked_with, ticked_element, MayDo, grown, MappingsAgree, mappings_at, maps_answered_at, begun_of, asked, IsSaid, Request, table_at, Begin, Tick, journal_in, map, WriteBytes, CopyBytes, Denied, Did, Element, eq-eqb, CoreState, unwrap_or, nat_lt, replicate, WriteRecord, IsTrue, all_rightful, frames_of_all, pool_number, AreKept, all_zeros, frame_counts, first_state}
+use Rattle.gt_calls.specs.Machine.{standing_after}
+use Rattle.gt_frames.specs.declared.places.FrameCount.{FrameCount}
+use Rattle.gt_calls.specs.Asking.{FitsAsked, given_by, judged_as}
+use Rattle.gt_calls.proofs.Advancing.{continues, opens as starts-open}
+use Rattle.gt_calls.specs.declared.call.Start.TheVariants.{Open as StartOpen}
+use Rattle.gt_core.specs.GoingOn.{AnsweredSo, CallsCanBegin, IsOnWords, IsReached, MayBeGiven, OpenCallsCanGoOn, RunsStart, begin_answer, beginning, step_after}
+use Rattle.gt_core.specs.Standing.{answer_of, IsOpened}
+use Rattle.gt_core.specs.declared.core_state.Begun.TheVariants.{Open as BegunOpen, Done as BegunDone}
+use Rattle.gt_core.proofs.{Beginning.begin-answers, Beginning.begin-opened, Beginning.not-done, Beginning.opened, Keeping.known-same, Performing.kept-part, Performing.stepped-state, Playing.core-starts, Playing.legal-grows, Starting.get-replicate, Rows.found, Rows.has_id, Rows.not-found, Rows.state_of-set, Steps.Observers.stepped, Steps.Write.frames-begun, Steps.Write.frames-start, Stepping.Begins, Stepping.tick-does, Ticking.Ticks, Ticking.ticks, Values.call-ends, Beginning.place-at}
+use Rattle.gt_core.proofs.Starting.{starts as domains-start}
+
+-- the state of a domain of the run
+
+there : (s : Setting) (h : History) (xs : List State) (d : DomId) → DomainsStand s h xs → domain_of s.domains d ≢ None → (x : State) × (state_of xs d.0 ≡ Some x) × (x.id ≡ d) × Agrees s h x
+there s h xs d st named = by (state_of xs d.0) refl (st.each d) where
+  by : (o : Option State) → state_of xs d.0 ≡ o → StateAgrees s h d o → (x : State) × (state_of xs d.0 ≡ Some x) × (x.id ≡ d) × Agrees s h x
+  by None e a = absurd (named a)
+  by (Some x) e a = (x, e, a.1, a.2)
+
+placed : (xs : List State) (d : ℕ) (x : State) → state_of xs d ≡ Some x → (at : ℕ) × (position (has_id d) xs ≡ Some at) × (x ≡ get_or xs at x)
+placed xs d x is = by (position (has_id d) xs) refl where
+  by : (o : Option ℕ) → position (has_id d) xs ≡ o → (at : ℕ) × (position (has_id d) xs ≡ Some at) × (x ≡ get_or xs at x)
+  by None e = absurd (none-some x (sym (not-found xs d e) ∙ is))
+  by (Some at) e = (at, e, same_Some x (get_or xs at x) (sym is ∙ found xs d at x e))
+
+idle : (s : Setting) (h : History) (d : DomId) (o : Option Open) (c : Option Underway) → CallAgrees s h d o c → c ≡ None → is_some o ≡ false
+idle s h d None c a e = refl
+idle s h d (Some o) None a e = absurd a
+idle s h d (Some o) (Some c) a e = absurd (none-some c (sym e))
+
+opened-by : (s : Setting) (h : History) (d : DomId) (u : Option Open) (v : Option Underway) (c : Underway) → CallAgrees s h d u v → v ≡ Some c → (o : Open) × (u ≡ Some o) × OpenAgrees s h d o c
+opened-by s h d None None c a e = absurd (none-some c e)
+opened-by s h d None (Some z) c a e = absurd a
+opened-by s h d (Some o) None c a e = absurd a
+opened-by s h d (Some o) (Some z) c a e = (o, refl, subst (OpenAgrees s h d o) (same_Some z c e) a)
+
+-- a beginning
+
+abbrev unstarted : DomId → Request → Call
+unstarted d request = record { caller = d; request = asked request; phase = None }
+
+-- a call that no rule answers makes a first step
+opens-so : (k : CallerKnowledge) (d : DomId) (request : Request) → begun_of k d request ≡ None → IsSaid k.header request → (o : Open) × IsOpened k d request o
+opens-so k d request none said = let first = unstarted d request in
+    let p : Phase = standing_after k d (asked request) None Nothing in
+    let new : Call = record { caller = d; request = asked request; phase = Some p } in
+    let start : Starts k d request (StartOpen first) = starts-open k d request (asked request) (λ e. said) (sym (ap (judged_as (asked request)) none)) in
+    let goes : Goes k first Nothing new (action_at d p) = continues k d (asked request) None Nothing (Some p) (action_at d p) refl refl in
+    by new (action_at d p) start goes refl refl refl
+  where
+    by : (new : Call) (action : Action) → Starts k d request (StartOpen (unstarted d request)) → Goes k (unstarted d request) Nothing new action → new.caller ≡ (unstarted d request).caller → new.request ≡ (unstarted d request).request
+        → action ≡ action → (o : Open) × IsOpened k d request o
+    by new (Makes step) start goes caller asks e = (record { call = new; step = step }, opened k d request (unstarted d request) new (Makes step) step start goes refl caller asks)
+    by new (Done v) start goes caller asks e = absurd (not-done k d request (unstarted d request) new (Done v) v start goes refl)
+
+pub calls-can-begin : CallsCanBegin
+calls-can-begin s h d request (core, st) named closed fits said =
+    let t = there s h core.domains d st.domains named in let x = t.0 in let a = t.3 in
+    let p = placed core.domains d.0 x t.1 in
+    let rest : is_some x.underway ≡ false = subst (λ (z : DomId). open_call h z.0 ≡ None → is_some x.underway ≡ false) t.2 (λ e. idle s h x.id x.underway (open_call h x.id.0) a.call e) closed in
+    let k = knowledge_of s.domains s.first_generation s.may x.own x.header x.mappings in
+    let was : k ≡ known_at s h d = known-same s h x a ∙ ap (known_at s h) t.2 in
+    let same : (begun_of k d request ≡ begun_of (known_at s h d) d request) = ap (λ (z : CallerKnowledge). begun_of z d request) was in
+    let header : IsSaid k.header request = subst (λ (z : CallerKnowledge). IsSaid z.header request) (sym was) said in
+    by (begun_of (known_at s h d) d request) x same p.0 p.1 p.2 rest header
+  where
+    by : (v : Option Verdict) (x : State) → begun_of (knowledge_of s.domains s.first_generation s.may x.own x.header x.mappings) d request ≡ v → (at : ℕ) → position (has_id d.0) core.domains ≡ Some at → x ≡ get_or core.domains at x
+        → is_some x.underway ≡ false → IsSaid x.header request → IsRight s h (beginning d request (begin_answer v)) × IsReached s (beginning d request (begin_answer v) ∷ h)
+    by (Some v) x is at place here rest header = let b = begin-answers s h core.domains d at x request v (answer_of v) refl place here rest is st.domains in (
+      b.1,
+      (
+        core,
+        record {
+          legal = legal-grows s h (Begin d request) (Did (beginning d request (Some (answer_of v)))) (named, (refl, refl), b.1) st.legal;
+          domains = b.2;
+          frames = frames-begun s h core.frames d request (BegunDone (answer_of v)) st.frames;
+        },
+      ),
+    )
+    by None x is at place here rest header = let o = opens-so (knowledge_of s.domains s.first_generation s.may x.own x.header x.mappings) d request is header in
+        let b = begin-opened s h core.domains d at x request o.0 (subst FitsAsked (sym o.1.asks) fits) place here rest o.1 st.domains in (
+          b.1,
+          (
+            core_of _ core.frames,
+            record {
+              legal = legal-grows s h (Begin d request) (Did (beginning d request None)) (named, (refl, refl), b.1) st.legal;
+              domains = b.2;
+              frames = frames-begun s h core.frames d request BegunOpen st.frames;
+            },
+          ),
+        )
+
+empty-journal : (n : ℕ) (place : Option ℕ) → journal_in place (replicate n []) ≡ []
+empty-journal n None = refl
+empty-journal n (Some i) = ap (λ (o : Option (List WriteRecord)). unwrap_or o []) (get-replicate n i []) ∙ cond_both (nat_lt i n) (Some []) None (λ (o : Option (List WriteRecord)). unwrap_or o [] ≡ []) (λ e. refl) (λ e. refl)
+
+kept-zeros : (counts : List FrameCount) → AreKept (all_zeros counts)
+kept-zeros counts name = subst (λ (journal : List WriteRecord). IsTrue (all_rightful name.owner name.number journal)) (sym (empty-journal (frames_of_all counts) (pool_number counts name.owner name.number 0))) refl
+
+pub runs-start : RunsStart
+runs-start config may limits = let xs = map (first_state config.first_gen) config.domains.items in let fs = all_zeros (frame_counts config.domains.items) in
+    (core_of xs fs, core-starts config may xs fs (domains-start config may limits) refl (kept-zeros (frame_counts config.domains.items)))
+
+-- a step on words
+
+no-bytes-changed : (x : State) (call : Call) (step : Step) (fs : FrameSet) → IsOnWords step → AccessedBy x call step fs fs
+no-bytes-changed x call (ReadBytes dom frame off len) fs quiet = absurd quiet
+no-bytes-changed x call (WriteBytes dom frame off len) fs quiet = absurd quiet
+no-bytes-changed x call (CopyBytes from to len) fs quiet = absurd quiet
+no-bytes-changed x call step fs quiet = refl
+
+closes : (fs : FrameSet) (xs : List State) (at : ℕ) (d : State) (step : Step) → IsOnWords step → Closed fs xs at d step AnswerDone (set xs at (with_underway None d))
+closes fs xs at d (ReadBytes dom frame off len) quiet = absurd quiet
+closes fs xs at d step quiet = (refl, refl)
+
+-- how the call is answered in a state, whose mappings are kept so
+abbrev EndsIn : State → Action → Option Answer → Type 0
+EndsIn x (Makes next) answer = answer ≡ None
+EndsIn x (Done (KeptPin held)) answer = (handle : Handle) × (answer ≡ Some (Mapped handle)) × ((new : HandleMap Held) × Adds x.mappings new handle held)
+EndsIn x (Done verdict) answer = answer ≡ Some (answer_of verdict)
+
+-- what the step gives
+abbrev Gives : Setting → History → DomId → Step → Option Answer → Type 0
+Gives s h d step answer = IsRight s h (step_after s h d step answer) × IsReached s (step_after s h d step answer ∷ h)
+
+-- where the call is after its step, and the call there
+abbrev moved : Setting → List State → State → Open → Phase
+moved s xs x o = standing_after (knowledge_of s.domains s.first_generation s.may x.own x.header x.mappings) o.call.caller o.call.request o.call.phase (sees xs x.id o.step)
+
+abbrev call_then : Setting → List State → State → Open → Call
+call_then s xs x o = record { caller = o.call.caller; request = o.call.request; phase = Some (moved s xs x o) }
+
+abbrev action_then : Setting → List State → State → Open → Action
+action_then s xs x o = action_at o.call.caller (moved s xs x o)
+
+goes-then : (s : Setting) (xs : List State) (x : State) (o : Open)
+    → Goes (knowledge_of s.domains s.first_generation s.may x.own x.header x.mappings) o.call (sees xs x.id o.step) (call_then s xs x o) (action_then s xs x o)
+goes-then s xs x o = continues (knowledge_of s.domains s.first_generation s.may x.own x.header x.mappings) o.call.caller o.call.request o.call.phase (sees xs x.id o.step) (Some (moved s xs x o)) (action_then s xs x o) refl refl
+
+module _ (s : Setting) (h : History) (xs : List State) (fs : FrameSet) (x : State) (o : Open) (c : Underway) (action : Action) (answer : Option Answer)
+    (st : CoreStands s h (core_of xs fs)) (named : domain_of s.domains x.id ≢ None) (here : state_of xs x.id.0 ≡ Some x) (a : Agrees s h x) (under : x.underway ≡ Some o) (call : open_call h x.id.0 ≡ Some c)
+    (stands : OpenAgrees s h x.id o c) (quiet : IsOnWords o.step) (next : path (known_at s h x.id) x.id c.request (values c ++ seen_by s h x.id o.step ∷ []) ≡ Some action) (ends : EndsIn x action answer) where
+  ticked : (sees xs x.id o.step ≡ seen_by s h x.id o.step) × Ticks s h xs x o c (call_then s xs x o) (action_then s xs x o)
+  ticked = ticks s h xs x o c (sees xs x.id o.step) (call_then s xs x o) (action_then s xs x o) st.legal st.domains here a call stands refl refl refl (goes-then s xs x o)
+
+  same-action : action_then s xs x o ≡ action
+  same-action = same_Some _ _ (sym ticked.1.on.follows ∙ next)
+
+  -- what is left of the states
+  left-by : (at : ℕ) (y : State) → slice_get xs at ≡ Some x → slice_get (applied x.id o.step (sees xs x.id o.step) xs) at ≡ Some y → (z : Action) → action_then s xs x o ≡ z → EndsIn x z answer
+      → (ys : List State) × Settled fs (applied x.id o.step (sees xs x.id o.step) xs) at y o.step (call_then s xs x o) z answer ys
+  left-by at y was now (Makes z) e end = (set (applied x.id o.step (sees xs x.id o.step) xs) at (with_underway (Some (record { call = call_then s xs x o; step = z })) y), (end, refl))
+  left-by at y was now (Done Granted) e end = (set (applied x.id o.step (sees xs x.id o.step) xs) at (with_underway None y), (AnswerDone, end, closes fs (applied x.id o.step (sees xs x.id o.step) xs) at y o.step quiet))
+  left-by at y was now (Done (KeptPin held)) e (handle, is, (new, adds)) =
+      let pin : o.step ≡ PinStep held = (call-ends s h xs x.id c.request (values c) (reverse c.steps) ticked.1.stands.phase o.step ticked.1.i (KeptPin held) (sym ticked.1.acts ∙ e)).is in
+      let same : y.mappings ≡ x.mappings = kept-part (λ (z : State). z.mappings) x.id (PinStep held) (sees xs x.id o.step) xs at x y (λ z r n. refl) was
+      (subst (λ (z : Step). slice_get (applied x.id z (sees xs x.id o.step) xs) at ≡ Some y) pin now) in
+      (set (applied x.id o.step (sees xs x.id o.step) xs) at (with_mapping new y), (Mapped handle, is, (handle, new, refl, subst (λ (m : HandleMap Held). Adds m new handle held) (sym same) adds, refl)))
+  left-by at y was now (Done (Given value)) e end = (set (applied x.id o.step (sees xs x.id o.step) xs) at (with_underway None y), (answer_with value, end, (refl, refl)))
+  left-by at y was now (Done (Refused denial)) e end = (set (applied x.id o.step (sees xs x.id o.step) xs) at (with_underway None y), (Denied denial, end, (refl, refl)))
+
+  element-of : (seen : Seen) (z : Option Answer) → ticked_element x.id (ticked_with o.step seen z) ≡ Did (stepped x.id o.step seen z)
+  element-of seen None = refl
+  element-of seen (Some z) = refl
+
+  goes-on-at : Gives s h x.id o.step answer
+  goes-on-at = let saw = sees xs x.id o.step in let ws = applied x.id o.step saw xs in
+      let p = placed xs x.id.0 x here in let y = stepped-state x.id o.step saw xs p.0 x p.1 in
+      let was : slice_get xs p.0 ≡ Some x = place-at xs x.id.0 p.0 x p.1 p.2 in
+      let l = left-by p.0 y.0 was y.1 (action_then s xs x o) refl (subst (λ (z : Action). EndsIn x z answer) (sym same-action) ends) in
+      let b : Begins s xs x.id p.0 x o saw (call_then s xs x o) (action_then s xs x o) = record { place = p.1; here = p.2; under = under; saw = refl; caller = refl; asks = refl; goes = goes-then s xs x o } in
+      let does = tick-does s fs fs fs xs l.0 x.id p.0 x o saw (call_then s xs x o) (action_then s xs x o) answer (ticked_with o.step saw answer) refl b (no-bytes-changed x o.call o.step fs quiet)
+      (λ d there. subst (λ (z : State). Settled fs ws p.0 z o.step (call_then s xs x o) (action_then s xs x o) answer l.0) (same_Some y.0 d (sym y.1 ∙ there)) l.1) refl h st in
+      let r = subst (λ (z : Element). MayDo s h (Tick x.id) z × CoreStands s (grown h z) (core_of l.0 fs)) (element-of saw answer) does in
+      subst (λ (v : Seen). IsRight s h (stepped x.id o.step v answer) × IsReached s (stepped x.id o.step v answer ∷ h)) ticked.0 (r.0.2, (core_of l.0 fs, r.1))
+
+-- the states with other handles for the same mappings of one domain
+
+rehandled : (s : Setting) (h : History) (xs : List State) (x : State) (at : ℕ) (m : HandleMap Held) → DomainsStand s h xs → position (has_id x.id.0) xs ≡ Some at → x ≡ get_or xs at x → state_of xs x.id.0 ≡ Some x
+    → domain_of s.domains x.id ≢ None → Agrees s h x → MappingsAgree m (mappings_at h x.id.0) (maps_answered_at h x.id.0)
+    → DomainsStand s h (set xs at (record x { mappings = m })) × (state_of (set xs at (record x { mappings = m })) x.id.0 ≡ Some (record x { mappings = m })) × Agrees s h (record x { mappings = m })
+rehandled s h xs x at m st place here was named a agrees = (
+  record { each = each; tables = st.tables; words = st.words; entries = st.entries; lawful = st.lawful },
+  becomes x.id.0 ∙ ap (λ (b : Bool). cond b (Some y) (state_of xs x.id.0)) (eq-eqb x.id.0 x.id.0 refl),
+  now,
+) where
+  y : State
+  y = record x { mappings = m }
+
+  now : Agrees s h (record x { mappings = m })
+  now = record { header = a.header; rows = a.rows; entries = a.entries; generations = a.generations; room = a.room; slots = a.slots; mappings = agrees; call = a.call; given = a.given }
+
+  becomes : (q : ℕ) → state_of (set xs at (record x { mappings = m })) q ≡ cond (x.id.0 == q) (Some (record x { mappings = m })) (state_of xs q)
+  becomes q = let places = position-Some (has_id x.id.0) xs at x place in state_of-set xs at x (record x { mappings = m }) q places.0 (sym here) refl (λ k below. places.2 k below)
+
+  each : (dom : DomId) → StateAgrees s h dom (state_of (set xs at (record x { mappings = m })) dom.0)
+  each dom = subst (StateAgrees s h dom) (sym (becomes dom.0)) (cond_both (x.id.0 == dom.0) (Some (record x { mappings = m })) (state_of xs dom.0) (StateAgrees s h dom)
+      (λ is. let e : x.id ≡ dom = ap (λ (n : ℕ). record { 0 = n }) (eqb-true x.id.0 dom.0 is) in (subst (λ (d : DomId). domain_of s.domains d ≢ None) e named, e, now)) (λ is. st.each dom))
+
+same-step : (a b : Step) → Makes a ≡ Makes b → a ≡ b
+same-step a b e = cc
+
+module _ (s : Setting) (h : History) (core : CoreState) (c : Underway) (step : Step) (action : Action) (answer : Option Answer) (st : CoreStands s h core) (quiet : IsOnWords step) where
+  -- what the call of a domain needs, to go on so
+  abbrev Needs : DomId → Type 0
+  Needs d = (domain_of s.domains d ≢ None) × (open_call h d.0 ≡ Some c) × (path (known_at s h d) d c.request (values c) ≡ Some (Makes step))
+      × (path (known_at s h d) d c.request (values c ++ seen_by s h d step ∷ []) ≡ Some action) × AnsweredSo h d action answer
+
+  goes-on-home : (x : State) → state_of core.domains x.id.0 ≡ Some x → Agrees s h x → Needs x.id → Gives s h x.id step answer
+  goes-on-home x here a (named, call, way, next, so) = let u = opened-by s h x.id x.underway (open_call h x.id.0) c a.call call in let o = u.0 in
+      let same : o.step ≡ step = same-step o.step step (same_Some (Makes o.step) (Makes step) (sym u.2.follows ∙ way)) in
+      let quiet' : IsOnWords o.step = subst IsOnWords (sym same) quiet in
+      let next' = subst (λ (z : Step). path (known_at s h x.id) x.id c.request (values c ++ seen_by s h x.id z ∷ []) ≡ Some action) (sym same) next in
+      subst (λ (z : Step). Gives s h x.id z answer) same (by o u.1 u.2 quiet' next' action refl so)
+    where
+      by : (o : Open) → x.underway ≡ Some o → OpenAgrees s h x.id o c → IsOnWords o.step → path (known_at s h x.id) x.id c.request (values c ++ seen_by s h x.id o.step ∷ []) ≡ Some action
+          → (z : Action) → action ≡ z → AnsweredSo h x.id z answer → Gives s h x.id o.step answer
+      by o under stands quiet next (Done (KeptPin held)) e (handle, is, may) = let p = placed core.domains x.id.0 x here in
+          let r = rehandled s h core.domains x p.0 may.old st.domains p.1 p.2 here named a may.agrees in
+          goes-on-at s h (set core.domains p.0 (record x { mappings = may.old })) core.frames (record x { mappings = may.old }) o c action answer (record { legal = st.legal; domains = r.0; frames = st.frames })
+          named r.1 r.2 under call stands quiet next (subst (λ (w : Action). EndsIn (record x { mappings = may.old }) w answer) (sym e) (handle, is, (may.new, may.adds)))
+      by o under stands quiet next (Makes z) e end = goes-on-at s h core.domains core.frames x o c action answer st named here a under call stands quiet next (subst (λ (w : Action). EndsIn x w answer) (sym e) end)
+      by o under stands quiet next (Done Granted) e end = goes-on-at s h core.domains core.frames x o c action answer st named here a under call stands quiet next (subst (λ (w : Action). EndsIn x w answer) (sym e) end)
+      by o under stands quiet next (Done (Given value)) e end = goes-on-at s h core.domains core.frames x o c action answer st named here a under call stands quiet next (subst (λ (w : Action). EndsIn x w answer) (sym e) end)
+      by o under stands quiet next (Done (Refused denial)) e end = goes-on-at s h core.domains core.frames x o c action answer st named here a under call stands quiet next (subst (λ (w : Action). EndsIn x w answer) (sym e) end)
+
+pub open-calls-can-go-on : OpenCallsCanGoOn
+open-calls-can-go-on s h d c step action answer (core, st) named call way quiet next so = let t = there s h core.domains d st.domains named in
+    subst (λ (z : DomId). Needs s h core c step action answer st quiet z → Gives s h z step answer) t.2 (goes-on-home s h core c step action answer st quiet t.0 (ap (λ (z : DomId). state_of core.domains z.0) t.2 ∙ t.1) t.3) (named, call, way, next, so)

@@ -1,0 +1,92 @@
+-- Every legal history can go on: what a run may begin with, and what each of its domains may do next.
+use Rattle.std.specs.Prelude.{◌≡◌, ◌≢◌, Bool, [], ◌∷◌, Option, Some, None}
+use Rattle.gt_types.specs.Config.{IsWithinLimits}
+use Rattle.gt_types.specs.Names.{domain_of}
+use Rattle.gt_types.specs.declared.DomId.{DomId}
+use Rattle.gt_types.specs.declared.TypeId.{TypeId}
+use Rattle.gt_types.specs.declared.config.Config.{Config}
+use Rattle.gt_types.specs.declared.perms.Perms.{Perms}
+use Rattle.gt_handles.specs.Handles.{HandleMap}
+use Rattle.gt_handles.specs.declared.handles.Handle.{Handle}
+use Rattle.gt_calls.specs.Asking.{FitsAsked, IsSaid, asked, begun_of}
+use Rattle.gt_calls.specs.Path.{path}
+use Rattle.gt_calls.specs.declared.action.Action.{Action}
+use Rattle.gt_calls.specs.declared.action.Action.TheVariants.{Step as Makes, Done as Ends}
+use Rattle.gt_calls.specs.declared.action.Step.{Step}
+use Rattle.gt_calls.specs.declared.action.Step.TheVariants.{Read as ReadBytes, Write as WriteBytes, Copy as CopyBytes}
+use Rattle.gt_calls.specs.declared.action.Verdict.{Verdict}
+use Rattle.gt_calls.specs.declared.action.Verdict.TheVariants.{Mapped as KeptPin}
+use Rattle.gt_calls.specs.declared.held.Held.{Held}
+use Rattle.gt_calls.specs.declared.request.Request.{Request}
+use Rattle.gt_core.specs.Effects.{Adds}
+use Rattle.gt_core.specs.History.{History, Setting, Underway, known_at, mappings_at, maps_answered_at, open_call}
+use Rattle.gt_core.specs.History.{seen_by, table_at, values}
+use Rattle.gt_core.specs.Legal.{IsRight, next_in}
+use Rattle.gt_core.specs.Standing.{CoreStands, MappingsAgree, answer_of, setting_of}
+use Rattle.gt_core.specs.States.{CoreState}
+use Rattle.gt_core.specs.declared.trace.Answer.{Answer}
+use Rattle.gt_core.specs.declared.trace.Answer.TheVariants.{Mapped}
+use Rattle.gt_core.specs.declared.trace.Happened.TheVariants.{Began, Stepped}
+use Rattle.gt_core.specs.declared.trace.Item.{Item}
+
+-- some core stands for the history, which is a legal one (own)
+abbrev pub IsReached : Setting → History → Type 0
+IsReached s h = (core : CoreState) × CoreStands s h core
+
+-- a beginning of a call, with its answer if that ends it (own)
+abbrev pub beginning : DomId → Request → Option Answer → Item
+beginning d request answer = record { actor = d; happened = Began request; answer = answer }
+
+-- a step of a call, which sees what the items before it left, with the call's answer if the step ends it (own)
+abbrev pub step_after : Setting → History → DomId → Step → Option Answer → Item
+step_after s h d step answer = record { actor = d; happened = Stepped step (seen_by s h d step); answer = answer }
+
+-- how a beginning is answered: by its verdict, if there is one (own)
+abbrev pub begin_answer : Option Verdict → Option Answer
+begin_answer None = None
+begin_answer (Some verdict) = Some (answer_of verdict)
+
+-- the step is on words, and reads and writes no bytes (own)
+abbrev pub IsOnWords : Step → Type 0
+IsOnWords (ReadBytes dom frame off len) = ⊥
+IsOnWords (WriteBytes dom frame off len) = ⊥
+IsOnWords (CopyBytes from to len) = ⊥
+IsOnWords step = Unit {0}
+
+-- the handle is one that the domain's next mapping may be answered under: some table of handles for its mappings gives it
+-- next (own)
+pub record MayBeGiven (h : History) (d : DomId) (handle : Handle) (held : Held) : Type 0 where
+  pub old : HandleMap Held
+  pub new : HandleMap Held
+  pub agrees : MappingsAgree old (mappings_at h d.0) (maps_answered_at h d.0)
+  pub adds : Adds old new handle held
+
+-- how a call is answered that comes to this after its step: not yet, where it goes on; under such a handle, where it keeps
+-- its pin; else with its verdict (own)
+abbrev pub AnsweredSo : History → DomId → Action → Option Answer → Type 0
+AnsweredSo h d (Makes next) answer = answer ≡ None
+AnsweredSo h d (Ends (KeptPin held)) answer = (handle : Handle) × (answer ≡ Some (Mapped handle)) × MayBeGiven h d handle held
+AnsweredSo h d (Ends verdict) answer = answer ≡ Some (answer_of verdict)
+
+-- the empty history is one that a core stands for, in each configuration within the limits (own)
+abbrev pub RunsStart : Type 0
+RunsStart = (config : Config) (may : TypeId → TypeId → Perms → Bool) → IsWithinLimits config
+    → IsReached (setting_of config may) []
+
+-- a domain of the run that is at rest can begin each call: that is right, and a core stands for it (own)
+abbrev pub CallsCanBegin : Type 0
+CallsCanBegin =
+    (s : Setting) (h : History) (d : DomId) (request : Request) → IsReached s h → domain_of s.domains d ≢ None
+    → open_call h d.0 ≡ None → FitsAsked (asked request) → IsSaid (table_at s h d) request
+    → let i = beginning d request (begin_answer (begun_of (known_at s h d) d request)) in
+    IsRight s h i × IsReached s (i ∷ h)
+
+-- each open call can make its next step on words, and then comes to what its path gives: that is right, and a core stands
+-- for it (own)
+abbrev pub OpenCallsCanGoOn : Type 0
+OpenCallsCanGoOn =
+    (s : Setting) (h : History) (d : DomId) (c : Underway) (step : Step) (action : Action) (answer : Option Answer)
+    → IsReached s h → domain_of s.domains d ≢ None → open_call h d.0 ≡ Some c
+    → path (known_at s h d) d c.request (values c) ≡ Some (Makes step) → IsOnWords step
+    → next_in s h d c (seen_by s h d step) ≡ Some action → AnsweredSo h d action answer
+    → let i = step_after s h d step answer in IsRight s h i × IsReached s (i ∷ h)

@@ -1,0 +1,5 @@
+pub mod Live
+pub mod Showing
+pub mod Script
+pub mod Dumps
+pub mod Faults

@@ -1,0 +1,47 @@
+//! What each beginning of a text prints.
+use crate::policies::listed;
+use crate::scripts::{said_of, script_named};
+use std::alloc::Global;
+use std::fs;
+use std::rt::Runtime;
+
+// What a beginning of a script prints with its records, or what is listed of one of a policy.
+fn outcome(alloc: Global, text: &[u8], is_policy: bool) -> anyhow::Result<String> {
+    if is_policy {
+        return listed(alloc, text);
+    }
+    Ok(said_of(alloc, text, true)?.text)
+}
+
+// Each outcome that differs from that of the beginning with one byte less, behind its count of bytes.
+fn outcomes(alloc: Global, text: &[u8], is_policy: bool) -> anyhow::Result<String> {
+    let mut out = String::new(alloc);
+    let mut before = String::from_str(alloc, "none")?;
+    for count in 0..text.len() + 1 {
+        let said = outcome(alloc, &text[..count], is_policy)?;
+        if said.as_str() != before.as_str() {
+            let line = format!(in alloc; "from {count} bytes on\n{said}")?;
+            out.push_str(line.as_str())?;
+            before = said;
+        }
+    }
+    Ok(out)
+}
+
+/// What the beginnings of a script print with their records: from the empty one to the whole, each time that it
+/// changes. Where a beginning prints other lines with its records than without, one more line says so.
+pub fn script_beginnings<R: Runtime + AllocGlobal>(
+    rt: &R,
+    alloc: Global,
+    name: &str,
+) -> anyhow::Result<String> {
+    let script = script_named(rt, alloc, name)?;
+    outcomes(alloc, script.as_slice(), false)
+}
+
+/// The same of a policy: what is listed of each beginning.
+pub fn policy_beginnings<R: Runtime>(rt: &R, alloc: Global, name: &str) -> anyhow::Result<String> {
+    let path = format!(in alloc; "{name}.te")?;
+    let text = fs::read(rt, path.as_str())?;
+    outcomes(alloc, text.as_slice(), true)
+}
