@@ -1,0 +1,10 @@
+//! A domain of this run, as a handle stands for it.
+
+use gt_allow::AllowTable;
+use gt_seat::Guest;
+
+/// A domain under the rights of a compiled policy.
+#[derive(Drop)]
+pub struct Here {
+    pub guest: Guest<AllowTable>,
+}

@@ -1,0 +1,9 @@
+use Rattle.gt_calls.specs.declared.request.Request.TheVariants.{GetVersion}
+use Rattle.gt_live.specs.Domains.{Answered, verdict_of_version}
+use Rattle.gt_seat.proofs.Beside.{beside}
+use Rattle.gt_seat.proofs.guest.Guest.get_version.Goals as goal
+
+pub returns-clause-answered : goal.returns-clause-answered
+returns-clause-answered g c =
+    beside (λ m d. Answered g.P.Allows.may m d (GetVersion c.args.dom) (verdict_of_version c.get_version.result) c.get_version.new.self)
+    c.deref.ensures c.self.view_is c.get_version.ensures.answered

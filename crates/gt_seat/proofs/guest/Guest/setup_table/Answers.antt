@@ -1,0 +1,9 @@
+use Rattle.gt_calls.specs.declared.request.Request.TheVariants.{SetupTable}
+use Rattle.gt_live.specs.Domains.{Answered, verdict_of_frames}
+use Rattle.gt_seat.proofs.Beside.{beside}
+use Rattle.gt_seat.proofs.guest.Guest.setup_table.Goals as goal
+
+pub returns-clause-answered : goal.returns-clause-answered
+returns-clause-answered g c =
+    beside (λ m d. Answered g.P.Allows.may m d (SetupTable c.args.frames) (verdict_of_frames c.setup_table.result) c.setup_table.new.self)
+    c.deref.ensures c.self.view_is c.setup_table.ensures.answered

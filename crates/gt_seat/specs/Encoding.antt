@@ -1,0 +1,72 @@
+-- How an answer is laid out for C.
+use Rattle.std.specs.Prelude.{ℕ, ℤ, pos}
+use Rattle.gt_types.specs.declared.DomId.{DomId}
+use Rattle.gt_types.specs.declared.GrantRef.{GrantRef}
+use Rattle.gt_types.specs.declared.TypeId.{TypeId}
+use Rattle.gt_types.specs.declared.Size.{Size}
+use Rattle.gt_types.specs.declared.perms.Perms.{Perms}
+use Rattle.gt_types.specs.declared.denial.Denial.{Denial}
+use Rattle.gt_types.specs.declared.denial.Facts.{Facts}
+use Rattle.gt_types.specs.declared.denial.Facts.TheVariants as facts
+use Rattle.gt_types.specs.declared.denial.Field.{Field}
+use Rattle.gt_types.specs.declared.denial.Field.TheVariants as fields
+use Rattle.gt_types.specs.Denial.{rule_number, status_number}
+use Rattle.gt_seat.specs.declared.answer.Answer.{Answer}
+use Rattle.gt_seat.specs.declared.answer.Outcome.{Outcome}
+use Rattle.gt_seat.specs.declared.answer.Outcome.TheVariants.{Done, Mapped, Frames, Version, Size as SizeOf, Denied, NoDomain}
+
+-- the number of a field of an entry's bytes (own)
+abbrev pub field_number : Field → ℕ
+field_number fields.Length = 1
+field_number fields.Kind = 2
+field_number fields.Reading = 3
+field_number fields.Writing = 4
+field_number fields.Pwt = 5
+field_number fields.Pcd = 6
+field_number fields.Pat = 7
+field_number fields.SubPage = 8
+field_number fields.Reserved = 9
+
+-- an answer that says nothing but its rule and status (own)
+abbrev pub bare : ℕ → ℤ → Answer
+bare rule status =
+    record {
+      rule = rule;
+      status = status;
+      kind = 0;
+      dom = 0;
+      gref = 0;
+      source = 0;
+      target = 0;
+      detail = 0;
+      word = 0;
+      value = 0;
+      more = 0;
+    }
+
+-- Ok with a value: what it is, and its one or two numbers (own)
+abbrev pub given : ℕ → ℕ → ℕ → Answer
+given kind value more = record (bare 0 (pos 0)) { kind = kind; value = value; more = more }
+
+-- an answer with what a refusal rests on (own)
+abbrev pub with_facts : Facts → Answer → Answer
+with_facts facts.None a = a
+with_facts (facts.Policy source target perm) a =
+    record a { kind = 5; source = source.0; target = target.0; detail = perm.0 }
+with_facts (facts.Field field) a = record a { kind = 6; detail = field_number field }
+with_facts (facts.Header dom word) a = record a { kind = 7; dom = dom.0; word = word }
+with_facts (facts.Entry dom gref word) a = record a { kind = 8; dom = dom.0; gref = gref.0; word = word }
+
+-- a refusal (own)
+abbrev pub refusal : Denial → Answer
+refusal d = with_facts d.facts (bare (rule_number d.rule) (status_number d.status))
+
+-- the answer that says this outcome (own)
+abbrev pub encoded : Outcome → Answer
+encoded Done = bare 0 (pos 0)
+encoded (Mapped handle) = given 1 handle.serial handle.key
+encoded (Frames frames) = given 2 frames 0
+encoded (Version version) = given 3 version 0
+encoded (SizeOf size) = given 4 size.frames size.max
+encoded (Denied denial) = refusal denial
+encoded NoDomain = bare 256 (pos 0)

@@ -1,0 +1,173 @@
+//! An answer, in a layout that C reads.
+ghost use Rattle.std.specs.Prelude.{◌≡◌};
+ghost use Rattle.gt_seat.specs.Encoding.{encoded, field_number, given, refusal};
+ghost use Rattle.gt_seat.specs.Decoding.{AnswersAreReadBack};
+
+use bitflags::Flags;
+use gt_calls::Handle;
+use gt_types::{Denial, Facts, Field, Size};
+
+/// What a call answered.
+#[derive(Clone, Copy)]
+pub enum Outcome {
+    /// Ok, without a value.
+    Done,
+    /// Ok: the mapping has this handle.
+    Mapped(Handle),
+    /// Ok: the table has so many frames.
+    Frames(u32),
+    /// Ok: the table has this version.
+    Version(u32),
+    /// Ok: the table has this size.
+    Size(Size),
+    /// A rule stood against the call.
+    Denied(Denial),
+    /// The handle stands for no domain: the call was not made.
+    NoDomain,
+}
+
+/// What a call answered, in a layout that C reads. A field that says nothing is 0.
+#[repr(C)]
+#[derive(Clone, Copy)]
+pub struct Answer {
+    /// 0 if the call is Ok, the number of the rule from 1 to 26 if it is refused, or [`NO_DOMAIN`].
+    pub rule: u32,
+    /// The status of the public header `grant_table.h`: 0, or below it.
+    pub status: i32,
+    /// What else it carries: 0 nothing, 1 a handle, 2 frames, 3 a version, 4 a size, 5 what the policy denies, 6 a field
+    /// of an entry's bytes, 7 a header's word, 8 an entry's word.
+    pub kind: u32,
+    /// The domain whose word it carries.
+    pub dom: u32,
+    /// The entry whose word it carries.
+    pub gref: u32,
+    /// The type that asks.
+    pub source: u32,
+    /// The type that is asked.
+    pub target: u32,
+    /// The permission that lacks, as its bit; or the number of the field, from 1 on.
+    pub detail: u32,
+    /// The word of the deciding look or exchange.
+    pub word: u64,
+    /// The serial of a handle, a number of frames, or a version.
+    pub value: u64,
+    /// The key of a handle, or how many frames a table may have.
+    pub more: u64,
+}
+
+/// The rule of an answer to a call that was not made.
+pub const NO_DOMAIN: u32 = 256;
+
+const DONE: Answer = Answer {
+    rule: 0,
+    status: 0,
+    kind: 0,
+    dom: 0,
+    gref: 0,
+    source: 0,
+    target: 0,
+    detail: 0,
+    word: 0,
+    value: 0,
+    more: 0,
+};
+
+// The number of a field of an entry's bytes.
+fn field_number(field: Field) -> u32
+    ensures { result ≡ field_number field }
+{
+    match field {
+        Field::Length => 1,
+        Field::Kind => 2,
+        Field::Reading => 3,
+        Field::Writing => 4,
+        Field::Pwt => 5,
+        Field::Pcd => 6,
+        Field::Pat => 7,
+        Field::SubPage => 8,
+        Field::Reserved => 9,
+    }
+}
+
+// A refusal.
+fn refusal(denial: Denial) -> Answer
+    ensures { result ≡ refusal denial }
+{
+    let bare = Answer {
+        rule: u32::from(denial.rule.number()),
+        status: i32::from(denial.status.number()),
+        ..DONE
+    };
+    match denial.facts {
+        Facts::None => bare,
+        Facts::Policy {
+            source,
+            target,
+            perm,
+        } => Answer {
+            kind: 5,
+            source: u32::from(source.0),
+            target: u32::from(target.0),
+            detail: u32::from(perm.bits()),
+            ..bare
+        },
+        Facts::Field(field) => Answer {
+            kind: 6,
+            detail: field_number(field),
+            ..bare
+        },
+        Facts::Header { dom, word } => Answer {
+            kind: 7,
+            dom: u32::from(dom.0),
+            word,
+            ..bare
+        },
+        Facts::Entry { dom, gref, word } => Answer {
+            kind: 8,
+            dom: u32::from(dom.0),
+            gref: gref.0,
+            word,
+            ..bare
+        },
+    }
+}
+
+// Ok, with a value.
+fn given(kind: u32, value: u64, more: u64) -> Answer
+    ensures { result ≡ given kind value more }
+{
+    Answer {
+        kind,
+        value,
+        more,
+        ..DONE
+    }
+}
+
+impl Answer {
+    ghost use Rattle.std.specs.Prelude.{◌≡◌};
+    ghost use Rattle.gt_seat.specs.Encoding.{encoded};
+
+    /// The outcome, as C reads it.
+    pub fn of(outcome: Outcome) -> Answer
+        ensures { result ≡ encoded outcome }
+    {
+        match outcome {
+            Outcome::Done => DONE,
+            Outcome::Mapped(handle) => given(1, handle.serial, handle.key as u64),
+            Outcome::Frames(frames) => given(2, u64::from(frames), 0),
+            Outcome::Version(version) => given(3, u64::from(version), 0),
+            Outcome::Size(size) => given(4, u64::from(size.frames), u64::from(size.max)),
+            Outcome::Denied(denial) => refusal(denial),
+            Outcome::NoDomain => Answer {
+                rule: NO_DOMAIN,
+                ..DONE
+            },
+        }
+    }
+}
+
+/// A law: an answer is read back as the outcome that it says. So no two outcomes have one answer.
+pub fn answers_are_read_back()
+    ensures { AnswersAreReadBack }
+{}
