@@ -1,0 +1,2 @@
+pub mod GrantLemmas
+pub mod PieceLemmas
