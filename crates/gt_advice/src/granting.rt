@@ -10,8 +10,8 @@ ghost use Rattle.gt_advice.specs.Granting.{comes_near, near_some};
 use crate::members::{Member, is_same};
 use gt_policy::{Allowance, Permissions, SetElement, Statement, TextPiece};
 
-// Whether class `grant` is among the classes.
-fn has_grant(classes: &[TextPiece]) -> bool
+/// Whether class `grant` is among the classes.
+pub(crate) fn has_grant(classes: &[TextPiece]) -> bool
     ensures { result ≡ has_grant classes.now }
 {
     classes.iter().any(|class| class.as_str() == "grant")
@@ -136,10 +136,10 @@ fn gives_any(allowed: &Allowance, sources: &[Member], targets: &[Member], perm: 
 }
 
 /// Whether a statement grants the permission to some of the sources on some of the targets.
-pub(crate) fn gives_some(
+pub(crate) fn gives_some<'a>(
     statement: &Statement,
-    sources: &[Member],
-    targets: &[Member],
+    sources: &[Member<'a>],
+    targets: &[Member<'a>],
     perm: &str,
 ) -> bool
     ensures { result ≡ gives_some perm.now sources.now targets.now statement.now }

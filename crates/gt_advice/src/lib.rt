@@ -11,8 +11,15 @@
 #![tactic(auto)]
 
 mod asking;
+mod fault;
+mod findings;
 mod granting;
 mod members;
+mod nearest;
+mod places;
+mod report;
 mod texts;
 
 pub use asking::{Answer, Explanation, Question, why};
+pub use findings::{Finding, Kind, check};
+pub use report::{push_json, push_report};
