@@ -42,7 +42,7 @@ pub written_says : (text : List ℕ) (ss : List Statement) → IsWritten text ss
 written_says text ss w = clean text (names_of ss) ss w.short (written_follows text ss w)
 
 -- and the other way round
-follows_written : (text : List ℕ) (names : Names) (ss : List Statement) → length text ≤ 1048576 → Follows no_names [] (lexemes_of text) (Ok (names, ss)) → IsWritten text ss × (names_of ss ≡ names)
+pub follows_written : (text : List ℕ) (names : Names) (ss : List Statement) → length text ≤ 1048576 → Follows no_names [] (lexemes_of text) (Ok (names, ss)) → IsWritten text ss × (names_of ss ≡ names)
 follows_written text names ss short h =
     let r = text_read no_names [] (lexemes_of text) (Ok (names, ss)) h names ss refl in
     let c = added_clean r.0 names r.3 in

@@ -1,0 +1,3 @@
+pub mod CheckLemmas
+pub mod GrantLemmas
+pub mod PieceLemmas

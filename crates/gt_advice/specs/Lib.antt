@@ -1,0 +1,6 @@
+pub mod Check
+pub mod Granting
+pub mod Members
+pub mod Texts
+pub mod Why
+pub mod Report

@@ -1,0 +1,28 @@
+//! Who allows what in a policy text, and what is wrong or useless in it.
+//!
+//! [`why`] answers a question: may a type do this to another, and which allow statements say so. Each
+//! statement is told with its line, and with the attribute by which the types came into its sets.
+//! [`check`] tells a text's first fault, or what is useless in a policy, with hints; [`push_report`]
+//! and [`push_json`] write it.
+//!
+//! What holds: the statements told are exactly those that grant the permission, by the names in them,
+//! or for a denied question those that come near. An error is told exactly where a text is no policy,
+//! at the line of its first fault, and the statements told to allow nothing are exactly those that do.
+//!
+//! It uses `gt_policy` (the statements of a text), `gt_types` (permissions), `gt_streams` (text),
+//! `itoa` (numbers) and `strsim` (nearest names).
+#![tactic(auto)]
+
+mod asking;
+mod fault;
+mod findings;
+mod granting;
+mod members;
+mod nearest;
+mod places;
+mod report;
+mod texts;
+
+pub use asking::{Answer, Explanation, Question, why};
+pub use findings::{Finding, Kind, check};
+pub use report::{push_json, push_report};

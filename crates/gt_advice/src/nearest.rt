@@ -1,0 +1,44 @@
+//! Names that a misspelt one may be meant as.
+use gt_streams::text_of;
+use std::alloc::{AllocError, Global};
+use strsim::osa_distance;
+
+/// The most letters by which a misspelt name differs from the one that is meant.
+const MOST_SLIPS: usize = 2;
+
+// How many letters two names differ by, none where that is too many.
+fn slips(alloc: Global, word: &str, name: &str) -> Result<Option<usize>, AllocError> {
+    if word.len() > name.len().saturating_add(MOST_SLIPS) {
+        return Ok(None);
+    }
+    if name.len() > word.len().saturating_add(MOST_SLIPS) {
+        return Ok(None);
+    }
+    let distance = osa_distance(alloc, word, name)?;
+    if distance == 0 || distance > MOST_SLIPS || distance >= word.len() {
+        return Ok(None);
+    }
+    Ok(Some(distance))
+}
+
+/// The first of the nearest names, of those that differ by one letter or two.
+pub(crate) fn nearest<'a>(
+    alloc: Global,
+    word: &str,
+    names: &[&'a str],
+) -> Result<Option<&'a str>, AllocError> {
+    let mut best: Option<(usize, &'a str)> = None;
+    for name in names {
+        let Some(distance) = slips(alloc, word, name)? else {
+            continue;
+        };
+        let is_nearer = match best {
+            Some((least, _)) => distance < least,
+            None => true,
+        };
+        if is_nearer {
+            best = Some((distance, name));
+        }
+    }
+    Ok(best.map(|(_, name)| name))
+}

@@ -1,0 +1,136 @@
+//! Lines and tokens of a text, by their bytes.
+use std::alloc::{AllocError, Global};
+
+/// Bytes of a text, from one to another.
+#[derive(Clone, Copy, Debug, PartialEq, Eq)]
+pub struct Span {
+    pub start: usize,
+    pub end: usize,
+}
+
+/// The bytes of a line, without its end. A line past the last is empty, at the end of the text.
+pub(crate) fn line_span(bytes: &[u8], line: u32) -> Span {
+    let mut start = 0;
+    let mut ends: u32 = 0;
+    for (i, byte) in bytes.iter().enumerate() {
+        if *byte == b'\n' {
+            ends = ends.saturating_add(1);
+            if ends == line {
+                return Span { start, end: i };
+            }
+            start = i + 1;
+        }
+    }
+    if ends.saturating_add(1) != line {
+        start = bytes.len();
+    }
+    Span {
+        start,
+        end: bytes.len(),
+    }
+}
+
+// Whether a token that began so goes on with this byte: a name with the bytes of names, and a character that is not
+// ASCII with its other bytes.
+fn goes_on(first: u8, byte: u8) -> bool {
+    if first.is_ascii_alphabetic() {
+        byte.is_ascii_alphabetic()
+            || byte.is_ascii_digit()
+            || byte == b'_'
+            || byte == b'-'
+            || byte == b'.'
+    } else {
+        first >= 128 && byte >= 128
+    }
+}
+
+/// The tokens of a line, up to a comment, counted from the line's first byte.
+pub(crate) fn tokens_in(alloc: Global, line: &[u8]) -> Result<Vec<Span>, AllocError> {
+    let mut tokens = Vec::new(alloc);
+    let mut open: Option<(usize, u8)> = None;
+    for (i, byte) in line.iter().enumerate() {
+        if let Some((start, first)) = open {
+            if goes_on(first, *byte) {
+                continue;
+            }
+            tokens.push(Span { start, end: i })?;
+            open = None;
+        }
+        match *byte {
+            b' ' | b'\t' | b'\r' => {}
+            b'#' => return Ok(tokens),
+            first => open = Some((i, first)),
+        }
+    }
+    if let Some((start, _)) = open {
+        tokens.push(Span {
+            start,
+            end: line.len(),
+        })?;
+    }
+    Ok(tokens)
+}
+
+/// The bytes of a span, as far as they go.
+pub(crate) fn bytes_of<'a>(bytes: &'a [u8], span: Span) -> &'a [u8] {
+    match bytes.get(span.start..span.end) {
+        Some(piece) => piece,
+        None => &[],
+    }
+}
+
+/// A place in a line as a column, counted from 1.
+pub(crate) fn column_of(place: usize) -> u32 {
+    match u32::try_from(place) {
+        Ok(place) => place.saturating_add(1),
+        Err(_) => 1,
+    }
+}
+
+/// The tokens of a line, and where it is.
+#[derive(Drop)]
+pub(crate) struct LineTokens {
+    pub span: Span,
+    pub tokens: Vec<Span>,
+}
+
+/// A line with its tokens.
+pub(crate) fn line_tokens(
+    alloc: Global,
+    bytes: &[u8],
+    line: u32,
+) -> Result<LineTokens, AllocError> {
+    let span = line_span(bytes, line);
+    let tokens = tokens_in(alloc, bytes_of(bytes, span))?;
+    Ok(LineTokens { span, tokens })
+}
+
+/// A text up to a place in one of its lines.
+pub(crate) fn front_of<'a>(bytes: &'a [u8], line: &LineTokens, place: usize) -> &'a [u8] {
+    bytes_of(
+        bytes,
+        Span {
+            start: 0,
+            end: line.span.start.saturating_add(place),
+        },
+    )
+}
+
+/// The column of a token of a line that is this word, after so many others that are; that of the line's first token if
+/// there is none.
+pub(crate) fn column_of_word(bytes: &[u8], line: &LineTokens, word: &[u8], skipped: usize) -> u32 {
+    let text = bytes_of(bytes, line.span);
+    let mut found: usize = 0;
+    for token in &line.tokens {
+        if bytes_of(text, *token) == word {
+            if found == skipped {
+                return column_of(token.start);
+            }
+            found = found.saturating_add(1);
+        }
+    }
+    match line.tokens.first() {
+        Some(token) => column_of(token.start),
+        None => 1,
+    }
+}

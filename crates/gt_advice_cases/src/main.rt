@@ -1,0 +1,54 @@
+//! Asks worked policies who allows what, and checks them, and prints what is said.
+//!
+//! The words of the command line are names of policies `data/NAME.te`, which are checked. After the word `--why` they
+//! come in fours: a name, and the source, target and permission that are asked for, with `-` for any type. `args` has
+//! the words, and `stdout` what they must print. A policy is added by its file, its name in `args` and its lines in
+//! `stdout`; a question by its words and lines. That costs no proof.
+#![tactic(auto)]
+
+mod questions;
+mod reports;
+
+use questions::answer_said;
+use reports::report_said;
+use std::fs;
+
+// Where the questions begin.
+fn questions_from(words: &[String]) -> usize {
+    for (i, word) in words.iter().enumerate() {
+        if word.as_str() == "--why" {
+            return i;
+        }
+    }
+    words.len()
+}
+
+fn main(rt: HostRuntime) -> anyhow::Result<()> {
+    let alloc = rt.alloc();
+    let words: Vec<String> = std::env::args(&rt)?.collect(alloc)?;
+    let start = questions_from(words.as_slice());
+    for name in words.iter().take(start).skip(1) {
+        let path = format!(in alloc; "{name}.te")?;
+        let text = fs::read_to_string(&rt, path.as_str())?;
+        let said = report_said(alloc, path.as_str(), text.as_str())?;
+        print!(rt; "== {name}\n{said}")?;
+    }
+    let asked = words.get(start..).unwrap_or(&[]);
+    for question in asked.get(1..).unwrap_or(&[]).chunks(4) {
+        let [name, source, target, perm] = question else {
+            break;
+        };
+        let path = format!(in alloc; "{name}.te")?;
+        let text = fs::read_to_string(&rt, path.as_str())?;
+        let said = answer_said(
+            alloc,
+            path.as_str(),
+            text.as_str(),
+            source.as_str(),
+            target.as_str(),
+            perm.as_str(),
+        )?;
+        print!(rt; "== {name} {source} {target} {perm}\n{said}")?;
+    }
+    Ok(())
+}

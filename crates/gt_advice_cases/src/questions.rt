@@ -1,0 +1,43 @@
+//! What is answered.
+use gt_advice::{Answer, Question, why};
+use std::alloc::Global;
+
+// The type that a word asks for, none for any.
+fn wanted(word: &str) -> Option<&str> {
+    if word == "-" { None } else { Some(word) }
+}
+
+// What is said of a question about a name that there is not.
+fn refusal(answer: Answer) -> &'static str {
+    match answer {
+        Answer::Allowed => "",
+        Answer::Denied => "",
+        Answer::NoSource => "no such source\n",
+        Answer::NoTarget => "no such target\n",
+        Answer::NoPermission => "no such permission\n",
+    }
+}
+
+/// The lines of an answer, or the policy's fault as it prints.
+pub fn answer_said(
+    alloc: Global,
+    file: &str,
+    text: &str,
+    source: &str,
+    target: &str,
+    perm: &str,
+) -> anyhow::Result<String> {
+    let question = Question {
+        source: wanted(source),
+        target: wanted(target),
+        perm,
+    };
+    match why(alloc, file, text, &question) {
+        Ok(explanation) => {
+            let mut said = String::from_utf8(explanation.lines)?;
+            said.push_str(refusal(explanation.answer))?;
+            Ok(said)
+        }
+        Err(fault) => Ok(format!(in alloc; "{fault}\n")?),
+    }
+}

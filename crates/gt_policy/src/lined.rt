@@ -1,0 +1,71 @@
+//! The statements of a text, as they are written.
+ghost use Rattle.std.specs.Prelude.{◌≡◌, ◌≤◌, length, IfOk, IfErr, Some, None, Err};
+ghost use Rattle.gt_policy.specs.Lined.{HeedsLined, LinedIs, IsLined};
+ghost use Rattle.gt_policy.specs.Shown.{fault_shown, out_of_memory};
+ghost use Rattle.gt_policy.specs.Whole.{Says};
+ghost use Rattle.gt_policy.specs.declared.fault.TokenFault.{TokenFault};
+
+use crate::fault::ReadError;
+use crate::items::Items;
+use crate::lexer::Lexer;
+use crate::parse::{PolicyFault, PolicyFaultKind, fault_of};
+use crate::statements::Statement;
+use crate::symbols::SymbolTable;
+use gt_types::LONGEST_TEXT;
+use std::alloc::Global;
+
+/// A statement, with the line of its first token.
+#[derive(Drop)]
+pub struct LinedStatement<'a> {
+    pub line: u32,
+    pub statement: Statement<'a>,
+}
+
+// The statements that are left, each with its line.
+fn lined<'a>(
+    alloc: Global,
+    lexer: &mut Lexer<'a>,
+    seen: &mut SymbolTable<'a>,
+) -> Result<Items<LinedStatement<'a>>, ReadError<'a>>
+    ensures { HeedsLined result seen.new seen.old lexer.old }
+{
+    let mut read = Items::new(alloc);
+    let mut line = lexer.line();
+    'text: while let Some(statement) = lexer.statement(alloc, seen)? {
+        read.push(LinedStatement { line, statement })?;
+        line = lexer.line();
+    }
+    Ok(read)
+}
+
+fn lined_of<'a>(alloc: Global, text: &'a [u8]) -> Result<Items<LinedStatement<'a>>, ReadError<'a>>
+    requires { length text.now ≤ LONGEST_TEXT }
+    ensures { LinedIs result text.entry.now }
+{
+    let mut seen = SymbolTable::new(alloc);
+    let mut lexer = Lexer::new(text);
+    lined(alloc, &mut lexer, &mut seen)
+}
+
+/// The statements of a text, each with the line that it begins on, or the text's first fault. A name that is not
+/// declared is none here: [`Policy::parse`](crate::Policy::parse) finds it. Where memory is refused the fault is
+/// [`PolicyFaultKind::Memory`], with line 0.
+pub fn statements_of<'a>(
+    alloc: Global,
+    text: &'a str,
+) -> Result<Items<LinedStatement<'a>>, PolicyFault>
+    ensures ok { IfOk result (λ statements. IsLined text.entry.now statements) }
+    ensures fault { IfErr result (λ e. (f : TokenFault) → fault_shown e ≡ Some f → Says text.entry.now (Err f)) }
+    ensures memory { IfErr result (λ e. fault_shown e ≡ None → e ≡ out_of_memory) }
+{
+    if text.len() > LONGEST_TEXT {
+        return Err(PolicyFault {
+            line: 1,
+            kind: PolicyFaultKind::Limit,
+        });
+    }
+    match lined_of(alloc, text.as_bytes()) {
+        Ok(statements) => Ok(statements),
+        Err(error) => Err(fault_of(alloc, error)),
+    }
+}
