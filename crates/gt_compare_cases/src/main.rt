@@ -1,0 +1,74 @@
+//! Asks running domains and the core the same, and compares all that both answer.
+//!
+//! The words of the command line are names. `data/x.gt` is for the name `x`: the head of a script, a line `====`, and
+//! bodies parted by lines `----`. Each body is a script with that head, whose lines are all `do`. Its calls are made
+//! one after the other on one thread, by the domains of a monitor and by a core of the same configuration. After each
+//! call these are compared:
+//!
+//! - the answer, with the word that a refusal rests on;
+//! - every byte of every frame of every domain;
+//! - what the last domain of the script finds in the first entries of each domain when it maps them: the header, or the
+//!   entry's word with its kind, owner part, pins and generation. A script that grants nothing to its last domain is
+//!   changed by none of this.
+//!
+//! At the end the lines that these answers print, and the records of the domains but the last, are compared with the
+//! text of `gt_host::play` with its audit. What is printed of a name are the scripts, the calls and those of them that
+//! were Ok, or the first difference. A script is added by its lines in a file, and costs no proof. Others are made by
+//! `bench/compare.sh`, as many as are asked for.
+#![tactic(auto)]
+
+mod asking;
+mod comparing;
+mod texts;
+
+use comparing::compare;
+use std::alloc::Global;
+use std::fs;
+use std::rt::Runtime;
+use std::sync::Wait;
+
+/// What came of the scripts of a file.
+#[derive(Drop)]
+struct Tally {
+    scripts: usize,
+    calls: usize,
+    done: usize,
+}
+
+// Compares the bodies one after the other, to the first one that differs.
+fn compare_all<R: Wait>(rt: &R, alloc: Global, text: &str) -> anyhow::Result<String> {
+    let mut tally = Tally {
+        scripts: 0,
+        calls: 0,
+        done: 0,
+    };
+    let (head, bodies) = text.split_once("====\n").unwrap_or(("", text));
+    'bodies: for body in bodies.split("----\n") {
+        let script = format!(in alloc; "{head}{body}")?;
+        let said = compare(rt, alloc, script.as_str())?;
+        tally.scripts = tally.scripts.saturating_add(1);
+        tally.calls = tally.calls.saturating_add(said.calls);
+        tally.done = tally.done.saturating_add(said.done);
+        if let Some(difference) = said.difference {
+            return Ok(format!(in alloc; "script {}: {difference}\n", tally.scripts)?);
+        }
+    }
+    let Tally {
+        scripts,
+        calls,
+        done,
+    } = tally;
+    Ok(format!(in alloc; "{scripts} scripts, {calls} calls, {done} of them ok\n")?)
+}
+
+fn main(rt: HostRuntime) -> anyhow::Result<()> {
+    let alloc = rt.alloc();
+    let words: Vec<String> = std::env::args(&rt)?.collect(alloc)?;
+    'names: for word in words.iter().skip(1) {
+        let path = format!(in alloc; "{word}.gt")?;
+        let text = fs::read_to_string(&rt, path.as_str())?;
+        let said = compare_all(&rt, alloc, text.as_str())?;
+        print!(rt; "{word}: {said}")?;
+    }
+    Ok(())
+}
