@@ -64,13 +64,13 @@ pub fn every_run_can_start()
     ensures { RunsStart }
 {}
 
-/// After each history that a core stands for, a domain of the run that is at rest can begin any call, in one way.
+/// After each history that a core stands for, a domain of the run that is at rest can begin a call. The entry that it
+/// gives has to fit its types, and the bytes of a grant by bytes have to spell an entry.
 pub fn every_call_can_begin()
     ensures { CallsCanBegin }
 {}
 
-/// After each history that a core stands for, each open call can make its next step, if that is on words. So no call
-/// is stuck.
+/// After each history that a core stands for, each open call can make its next step, if that is on words.
 pub fn every_open_call_can_go_on()
     ensures { OpenCallsCanGoOn }
 {}
