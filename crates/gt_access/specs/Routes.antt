@@ -31,17 +31,17 @@ use Rattle.gt_frames.specs.declared.writ.Ground.TheVariants.{Owned, Granted, For
 
 -- pins
 
--- what the owner's record was when the pin was taken (own)
+-- what the owner's record was when the pin was taken
 abbrev pub record_of : Held → EntryRecord
 record_of p = record { generation = generation_of p.word; entry = p.entry }
 
--- the view has this pin, of the entry that it was taken from (own)
+-- the view has this pin, of the entry that it was taken from
 pub record HasPin (k : Layout) (v : View) (p : Held) : Type 0 where
   pub run : HasDomain k p.dom
   pub inside : p.gref.0 < TABLE_ENTRIES
   pub held : IsIn (p.dir, record_of p) (pins (steps_on (position_in k.ids p.dom) p.gref.0 v))
 
--- a pin that serves this direction: to write, a write pin (own)
+-- a pin that serves this direction: to write, a write pin
 abbrev pub Serves : Dir → Held → Type 0
 Serves Read p = Unit {0}
 Serves Write p = p.dir ≡ Write
@@ -65,7 +65,7 @@ pub record IsPinnedOn (k : Layout) (s : SeatOf) (dir : Dir) (via p : Held) : Typ
   pub leads : LeadsTo via.entry p
 
 -- the seat's domain reaches this range of the frame by the route: the frame is its own, or a pin of the frame's owner
--- permits it, or, for a copy, a pin of a transitive entry forwards it to one that permits the domain between (own)
+-- permits it, or, for a copy, a pin of a transitive entry forwards it to one that permits the domain between
 abbrev pub Reaches : Layout → SeatOf → Dir → Use → FrameName → ℕ → ℕ → Route → Type 0
 Reaches k s dir purpose name off len Own = s.dom ≡ name.owner
 Reaches k s dir purpose name off len (Direct p) = IsPinnedFor k s s.dom dir purpose name off len p
@@ -74,27 +74,27 @@ Reaches k s dir purpose name off len (Through via p) =
 
 -- rights
 
--- the access goes through no mapping, or the policy allows what the mapping's map asked (own)
+-- the access goes through no mapping, or the policy allows what the mapping's map asked
 abbrev pub MayAccess : List DomainConfig → (TypeId → TypeId → Perms → Bool) → DomId → Route → Type 0
 MayAccess domains may caller Own = Unit {0}
 MayAccess domains may caller (Direct p) =
     IsAllowed may (triples (label_of domains caller) (label_of domains p.dom) (map_perms p.dir))
 MayAccess domains may caller (Through via p) = ⊥
 
--- the domain that an end of a copy names (own)
+-- the domain that an end of a copy names
 abbrev pub named_by : DomId → Route → DomId
 named_by caller Own = caller
 named_by caller (Direct p) = p.dom
 named_by caller (Through via p) = via.dom
 
--- this pair, where the route goes through a transitive entry (own)
+-- this pair, if the route goes through a transitive entry
 abbrev pub pair_beyond : Route → DomId × DomId → List (DomId × DomId)
 pair_beyond Own pair = []
 pair_beyond (Direct p) pair = []
 pair_beyond (Through via p) pair = pair ∷ []
 
 -- the pairs for which a copy asks: the domains named; past a transitive source its frame's owner and the
--- destination named; past a transitive destination the owners of both frames (own)
+-- destination named; past a transitive destination the owners of both frames
 abbrev pub pairs_asked : DomId → Pins → List (DomId × DomId)
 pairs_asked caller p =
     (named_by caller p.source, named_by caller p.dest)
@@ -108,13 +108,13 @@ MayCopyEach domains may (pair ∷ pairs) =
     IsAllowed may (triples (label_of domains pair.0) (label_of domains pair.1) (copy ∷ []))
     × MayCopyEach domains may pairs
 
--- the policy allows the copy by these routes (own)
+-- the policy allows the copy by these routes
 abbrev pub MayCopy : List DomainConfig → (TypeId → TypeId → Perms → Bool) → DomId → Pins → Type 0
 MayCopy domains may caller p = MayCopyEach domains may (pairs_asked caller p)
 
 -- writs
 
--- the writ of a domain by this route: it is made of the entries that the route's pins were taken from (own)
+-- the writ of a domain by this route: it is made of the entries that the route's pins were taken from
 abbrev pub writ_by : DomId → Route → Writ
 writ_by caller Own = record { writer = caller; basis = Owned }
 writ_by caller (Direct p) = record { writer = caller; basis = Granted p.entry }

@@ -28,7 +28,7 @@ impl From<Memory> for Refused {
     }
 }
 
-/// Reads a range of the frame of this name into `room`, which is empty and has room for it. `None` where
+/// Reads a range of the frame of this name into `room`, which is empty and has room for it. `None` if
 /// there is no such frame, or another one is in its place.
 #[tactic(auto, using(crate::proofs::Covering::reaches_named))]
 pub fn read_by<R: Wait, P: Allows>(

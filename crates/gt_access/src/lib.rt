@@ -7,7 +7,7 @@
 //! receipt.
 //!
 //! [`read_by`], [`write_by`] and [`copy_by`] lock the frames that the routes lead to and free them
-//! again. They alone may wait. A frame under another name than the one wanted, or none, is
+//! again. Only they may wait. A frame under another name than the one wanted, or none, is
 //! [`Refused::Gone`].
 //!
 //! It uses `gt_frames` (frames, pool), `gt_words` (seats and their views), `gt_calls` (routes),

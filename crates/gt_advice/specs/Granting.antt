@@ -40,19 +40,19 @@ gives_source w s a = (has_grant a.classes && lists_word a.perms w) && holds s.na
 abbrev pub gives : List ℕ → List Member → Member → Allowance → Bool
 gives w targets s a = gives_source w s a && list_any (λ t. reaches s t a) targets
 
--- a statement grants it to some of the sources on some of the targets (own)
+-- a statement grants it to some of the sources on some of the targets
 abbrev pub gives_some : List ℕ → List Member → List Member → Statement → Bool
 gives_some w sources targets (DeclareType v ms) = false
 gives_some w sources targets (DeclareAttribute v) = false
 gives_some w sources targets (GiveAttributes m ms) = false
 gives_some w sources targets (Allow a) = list_any (λ s. gives w targets s a) sources
 
--- some of the targets is reached, and the permission is listed or the source set holds the source (own)
+-- some of the targets is reached, and the permission is listed or the source set holds the source
 abbrev pub comes_near : List ℕ → List Member → Member → Allowance → Bool
 comes_near w targets s a =
     (has_grant a.classes && (lists_word a.perms w || holds s.names a.source)) && list_any (λ t. reaches s t a) targets
 
--- a statement that comes near (own)
+-- a statement that comes near
 abbrev pub near_some : List ℕ → List Member → List Member → Statement → Bool
 near_some w sources targets (DeclareType v ms) = false
 near_some w sources targets (DeclareAttribute v) = false

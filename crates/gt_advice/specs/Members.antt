@@ -19,22 +19,22 @@ names_given t (Allow a) = []
 abbrev pub names_of : List LinedStatement → List ℕ → List (List ℕ)
 names_of xs t = t ∷ flat_map (λ x. names_given t x.statement) xs
 
--- a type with the names that stand for it (own)
+-- a type with the names that stand for it
 abbrev pub member_of : List LinedStatement → List ℕ → Member
 member_of xs t = record { name = t; names = names_of xs t }
 
--- the type is asked for: by its name, or as any (own)
+-- the type is asked for: by its name, or as any
 abbrev pub is_asked : Option (List ℕ) → List ℕ → Bool
 is_asked (Some wanted) t = bytes_eq t wanted
 is_asked None t = true
 
--- the type that a statement declares, if it is asked for (own)
+-- the type that a statement declares, if it is asked for
 abbrev pub members_in : List LinedStatement → Option (List ℕ) → Statement → List Member
 members_in xs asked (DeclareType w ms) = if is_asked asked w then member_of xs w ∷ [] else []
 members_in xs asked (DeclareAttribute w) = []
 members_in xs asked (GiveAttributes m ms) = []
 members_in xs asked (Allow a) = []
 
--- the declared types that are asked for, in the order of their declarations (own)
+-- the declared types that are asked for, in the order of their declarations
 abbrev pub members_of : List LinedStatement → Option (List ℕ) → List Member
 members_of xs asked = flat_map (λ x. members_in xs asked x.statement) xs

@@ -5,7 +5,7 @@ use Rattle.gt_advice.specs.declared.findings.Finding.{Finding}
 use Rattle.gt_advice.specs.declared.findings.Kind.{Kind}
 use Rattle.gt_advice.specs.declared.findings.Kind.TheVariants.{Fault, OtherClass, OtherPermission, AllowsNothing, NeverAsked}
 
--- how bad a finding is (own)
+-- how bad a finding is
 abbrev pub severity_text : Kind → List ℕ
 severity_text Fault = codes "error"
 severity_text OtherClass = codes "warning"
@@ -13,7 +13,7 @@ severity_text OtherPermission = codes "warning"
 severity_text AllowsNothing = codes "warning"
 severity_text NeverAsked = codes "warning"
 
--- `FILE:LINE:COLUMN: SEVERITY: MESSAGE` (own)
+-- `FILE:LINE:COLUMN: SEVERITY: MESSAGE`
 abbrev pub heading_text : List ℕ → Finding → List ℕ
 heading_text file x = file ++ codes ":" ++ decimal x.line ++ codes ":" ++ decimal x.column ++ codes ": "
     ++ severity_text x.kind ++ codes ": " ++ x.message.items ++ codes "\n"

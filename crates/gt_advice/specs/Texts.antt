@@ -23,7 +23,7 @@ item_text (With m) = m.name
 item_text (Without m) = codes "-" ++ m.name
 item_text Itself = codes "self"
 
--- an item with no `-` (own)
+-- an item with no `-`
 abbrev pub is_kept : SetElement → Bool
 is_kept (With m) = true
 is_kept (Without m) = false
@@ -33,7 +33,7 @@ is_kept Itself = true
 abbrev pub is_plain : List SetElement → Bool
 is_plain items = (length items == 1) && list_all is_kept items
 
--- items, each with a space before it (own)
+-- items, each with a space before it
 abbrev pub items_text : List SetElement → List ℕ
 items_text items = flat_map (λ i. codes " " ++ item_text i) items
 
@@ -41,7 +41,7 @@ items_text items = flat_map (λ i. codes " " ++ item_text i) items
 abbrev pub set_text : List SetElement → List ℕ
 set_text items = if is_plain items then items_text items else codes " {" ++ items_text items ++ codes " }"
 
--- words, each with a text before it (own)
+-- words, each with a text before it
 abbrev pub words_text : List ℕ → List (List ℕ) → List ℕ
 words_text before words = flat_map (λ w. before ++ w) words
 
@@ -60,56 +60,56 @@ abbrev pub allow_text : Allowance → List ℕ
 allow_text a = codes "allow" ++ set_text a.source ++ set_text a.target ++ codes ":" ++ list_text a.classes
     ++ perms_text a.perms ++ codes ";"
 
--- an item is this very type (own)
+-- an item is this very type
 abbrev pub names_type : List ℕ → SetElement → Bool
 names_type t (With m) = bytes_eq m.name t
 names_type t (Without m) = false
 names_type t Itself = false
 
--- ` by NAME`, of the attribute that an item names (own)
+-- ` by NAME`, of the attribute that an item names
 abbrev pub item_by_text : SetElement → List ℕ
 item_by_text (With m) = codes " by " ++ m.name
 item_by_text (Without m) = []
 item_by_text Itself = []
 
--- the same, if there is an item (own)
+-- the same, if there is an item
 abbrev pub by_text : Option SetElement → List ℕ
 by_text (Some i) = item_by_text i
 by_text None = []
 
--- by which attribute a type came into a set: the first that it has; nothing where it is named itself (own)
+-- by which attribute a type came into a set: the first that it has; nothing if it is named itself
 abbrev pub way_text : Member → List SetElement → List ℕ
 way_text m items = if list_any (λ i. names_type m.name i) items then []
     else by_text (find (λ i. puts_in m.names i) items)
 
--- a type that the set holds, and by which attribute (own)
+-- a type that the set holds, and by which attribute
 abbrev pub held_text : List SetElement → Member → List ℕ
 held_text items m = if holds m.names items then codes " " ++ m.name ++ way_text m items else []
 
--- those of the types that the set holds (own)
+-- those of the types that the set holds
 abbrev pub all_held_text : List SetElement → List Member → List ℕ
 all_held_text items members = flat_map (λ m. held_text items m) members
 
--- ` self` for a set that says it (own)
+-- ` self` for a set that says it
 abbrev pub self_text : List SetElement → List ℕ
 self_text items = if list_any is_self items then codes " self" else []
 
--- which of the sources and targets the sets of a statement hold (own)
+-- which of the sources and targets the sets of a statement hold
 abbrev pub note_text : List Member → List Member → Allowance → List ℕ
 note_text sources targets a = codes "  #" ++ all_held_text a.source sources ++ codes " ->"
     ++ all_held_text a.target targets ++ self_text a.target ++ codes "\n"
 
--- `FILE:LINE: ` (own)
+-- `FILE:LINE: `
 abbrev pub place_text : List ℕ → ℕ → List ℕ
 place_text file line = file ++ codes ":" ++ decimal line ++ codes ": "
 
--- the line of an allow statement (own)
+-- the line of an allow statement
 abbrev pub entry_of : List ℕ → ℕ → List Member → List Member → Statement → List ℕ
 entry_of file line sources targets (DeclareType w ms) = []
 entry_of file line sources targets (DeclareAttribute w) = []
 entry_of file line sources targets (GiveAttributes m ms) = []
 entry_of file line sources targets (Allow a) = place_text file line ++ allow_text a ++ note_text sources targets a
 
--- the same, of a statement with its line (own)
+-- the same, of a statement with its line
 abbrev pub entry_text : List ℕ → List Member → List Member → LinedStatement → List ℕ
 entry_text file sources targets x = entry_of file x.line sources targets x.statement

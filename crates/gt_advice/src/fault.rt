@@ -1,4 +1,4 @@
-//! Where a fault of a text stands, and what would fit there.
+//! If a fault of a text stands, and what would fit there.
 use crate::nearest::nearest;
 use crate::places::{LineTokens, Span, bytes_of, column_of, column_of_word, front_of, line_tokens};
 use gt_policy::{Policy, PolicyFault, PolicyFaultKind};
@@ -31,7 +31,7 @@ pub(crate) const PERMISSIONS: [&str; 7] = [
     "query",
 ];
 
-/// Where a fault stands in its line, and what is said of it.
+/// If a fault stands in its line, and what is said of it.
 #[derive(Drop)]
 pub struct Explained {
     pub column: u32,
@@ -102,7 +102,7 @@ fn misfit(alloc: Global, bytes: &[u8], line: &LineTokens) -> Result<usize, Memor
     Ok(low)
 }
 
-// Appends one more of the things that are expected, behind the others.
+// Appends one more of the things that are expected, after the others.
 fn push_expected(out: &mut Vec<u8>, shown: &str) -> Result<(), AllocError> {
     if out.is_empty() {
         push_text(out, "expected ")?;
@@ -229,7 +229,7 @@ fn push_declared<'a>(
     Ok(())
 }
 
-// The words behind `type` and `attribute`, line by line.
+// The words after `type` and `attribute`, line by line.
 fn declared_in<'a>(alloc: Global, text: &'a str) -> Result<Vec<Declared<'a>>, AllocError> {
     let mut names = Vec::new(alloc);
     let mut number: u32 = 1;
@@ -279,7 +279,7 @@ fn explain_twice(
     })
 }
 
-/// Where the fault of a text stands in its line, and what is said of it.
+/// If the fault of a text stands in its line, and what is said of it.
 pub(crate) fn explain(alloc: Global, text: &str, fault: &PolicyFault) -> Result<Explained, Memory> {
     let bytes = text.as_bytes();
     let line = line_tokens(alloc, bytes, fault.line)?;

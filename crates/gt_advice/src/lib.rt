@@ -6,7 +6,7 @@
 //! and [`push_json`] write it.
 //!
 //! What holds: the statements told are exactly those that grant the permission, by the names in them,
-//! or for a denied question those that come near. An error is told exactly where a text is no policy,
+//! or for a denied question those that come near. An error is told exactly if a text is no policy,
 //! at the line of its first fault, and the statements told to allow nothing are exactly those that do.
 //!
 //! It uses `gt_policy` (the statements of a text), `gt_types` (permissions), `gt_streams` (text),

@@ -6,7 +6,7 @@ use strsim::osa_distance;
 /// The most letters by which a misspelt name differs from the one that is meant.
 const MOST_SLIPS: usize = 2;
 
-// How many letters two names differ by, none where that is too many.
+// How many letters two names differ by, none if that is too many.
 fn slips(alloc: Global, word: &str, name: &str) -> Result<Option<usize>, AllocError> {
     if word.len() > name.len().saturating_add(MOST_SLIPS) {
         return Ok(None);

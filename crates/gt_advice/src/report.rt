@@ -42,7 +42,7 @@ fn push_heading(out: &mut Vec<u8>, file: &str, finding: &Finding) -> Result<(), 
 }
 
 // Appends the line of a finding, and a caret below its column. A tab stays a tab, so that the caret stands right
-// whatever a tab's width; what is before a token is ASCII, where each character takes one column.
+// whatever a tab's width; what is before a token is ASCII, if each character takes one column.
 fn push_excerpt(out: &mut Vec<u8>, text: &[u8], finding: &Finding) -> Result<(), AllocError> {
     let line = bytes_of(text, line_span(text, finding.line));
     if line.is_empty() {

@@ -13,7 +13,7 @@ use questions::answer_said;
 use reports::report_said;
 use std::fs;
 
-// Where the questions begin.
+// If the questions begin.
 fn questions_from(words: &[String]) -> usize {
     for (i, word) in words.iter().enumerate() {
         if word.as_str() == "--why" {

@@ -8,25 +8,25 @@ use Rattle.gt_policy.specs.Resolving.{no_perms}
 use Rattle.gt_policy.specs.Rows.{Lane, reaches}
 
 -- the number of types, and for each pair of them the permissions that the source has
--- on the target: source by source, and in each by target (own)
+-- on the target: source by source, and in each by target
 pub record Table : Type 0 where
   pub count : ℕ
   pub sets : List Perms
 
--- the set at a place holds this one permission (own)
+-- the set at a place holds this one permission
 abbrev pub holds_at : List Perms → ℕ → Perms → Bool
 holds_at sets place perm = is_permission perm && lists_perm (slice_index_or sets place no_perms) perm
 
--- the table answers yes: both types are among its types, and the set of the two holds the permission (own)
+-- the table answers yes: both types are among its types, and the set of the two holds the permission
 abbrev pub looks : Table → ℕ → ℕ → Perms → Bool
 looks table s t perm = (nat_lt s table.count && nat_lt t table.count) && holds_at table.sets (s * table.count + t) perm
 
--- the sets of one source, for so many targets (own)
+-- the sets of one source, for so many targets
 abbrev pub IsRow : List Lane → ℕ → List Perms → Type 0
 IsRow row count sets =
     (length sets ≡ count) × ((t : ℕ) (perm : Perms) → t < count → holds_at sets t perm ≡ reaches row t perm)
 
--- the sets of so many sources, each for as many targets as there are types (own)
+-- the sets of so many sources, each for as many targets as there are types
 abbrev pub AreRows : (ℕ → ℕ → Perms → Bool) → ℕ → ℕ → List Perms → Type 0
 AreRows may count sources sets =
     (length sets ≡ sources * count)

@@ -17,15 +17,15 @@ use Rattle.gt_audit.specs.declared.record.Record.{Record}
 abbrev pub domain_text : DomId → DomId → List ℕ
 domain_text caller dom = decimal (resolved caller dom).0
 
--- ` DOM REF` (own)
+-- ` DOM REF`
 abbrev pub entry_text : DomId → DomId → GrantRef → List ℕ
 entry_text caller dom gref = codes " " ++ domain_text caller dom ++ codes " " ++ decimal gref.0
 
--- what an end of a copy is given by: a grant reference or a frame (own)
+-- what an end of a copy is given by: a grant reference or a frame
 abbrev pub kind_text : Bool → List ℕ
 kind_text is_reference = if is_reference then codes "gref" else codes "frame"
 
--- ` KIND DOM PTR OFF` (own)
+-- ` KIND DOM PTR OFF`
 abbrev pub end_text : DomId → Bool → CopyEnd → List ℕ
 end_text caller is_reference end =
     codes " " ++ kind_text is_reference ++ codes " " ++ domain_text caller end.dom ++ codes " " ++ decimal end.ptr
@@ -38,7 +38,7 @@ copy_text caller source dest len flags =
     codes "copy" ++ end_text caller (bit_and flags 1 == 1) source ++ end_text caller (bit_and flags 2 == 2) dest
     ++ codes " " ++ decimal len ++ codes " " ++ decimal flags
 
--- what was asked (own)
+-- what was asked
 abbrev pub hypercall_text : DomId → Hypercall → List ℕ
 hypercall_text caller (Map dom gref flags) = codes "map" ++ entry_text caller dom gref ++ codes " " ++ decimal flags
 hypercall_text caller (Unmap None) = codes "unmap - -"
@@ -49,11 +49,11 @@ hypercall_text caller (GetVersion dom) = codes "getversion" ++ codes " " ++ doma
 hypercall_text caller (SetVersion version) = codes "version" ++ codes " " ++ decimal version
 hypercall_text caller (SetupTable frames) = codes "setup" ++ codes " " ++ decimal frames
 
--- `audit ID CALL : ` (own)
+-- `audit ID CALL : `
 abbrev pub asked_text : DomId → Hypercall → List ℕ
 asked_text caller call = codes "audit " ++ decimal caller.0 ++ codes " " ++ hypercall_text caller call ++ codes " : "
 
--- what was answered; `called` is what types are called (own)
+-- what was answered; `called` is what types are called
 abbrev pub reply_text : (TypeId → List ℕ) → Reply → List ℕ
 reply_text called Done = codes "ok"
 reply_text called (Frames frames) = frames_text frames
@@ -61,10 +61,10 @@ reply_text called (Size size) = size_text size
 reply_text called (Version version) = version_text version
 reply_text called (Denied d) = denial_text called d
 
--- `audit ID CALL : ANSWER` (own)
+-- `audit ID CALL : ANSWER`
 abbrev pub line_text : (TypeId → List ℕ) → Record → List ℕ
 line_text called r = asked_text r.dom r.call ++ reply_text called r.reply ++ codes "\n"
 
--- `lost K`, where some record was lost (own)
+-- `lost K`, if some record was lost
 abbrev pub lost_text : ℕ → List ℕ
 lost_text lost = if lost == 0 then [] else codes "lost " ++ decimal lost ++ codes "\n"

@@ -1,9 +1,9 @@
-//! Audit: what is recorded of an answered hypercall, the line that prints it, and where records are
+//! Audit: what is recorded of an answered hypercall, the line that prints it, and if records are
 //! kept.
 //!
 //! A [`Record`] is a plain value: who called, what was asked, and the answer. [`line`] prints it. A
 //! domain keeps its own records in a [`Trail`]. Domains that run in threads also push theirs into a
-//! [`SharedLog`], where any thread may read them while others push.
+//! [`SharedLog`], if any thread may read them while others push.
 //!
 //! What holds: a line is exactly the text of its record, with the names of types that it is given. A
 //! record is appended to its trail or counted as lost, and no other record changes. A token of a shared

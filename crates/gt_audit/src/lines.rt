@@ -200,7 +200,7 @@ pub fn line(alloc: Global, told: &Record, names: &[String]) -> Result<String, Me
     }
 }
 
-/// Appends the line that says how many records were lost; nothing where none was. After an Err a part of
+/// Appends the line that says how many records were lost; nothing if none was. After an Err a part of
 /// the line may be there.
 pub fn push_lost(out: &mut Vec<u8>, lost: u64) -> Result<(), AllocError>
     ensures text { OnOk result (out.new.items ≡ out.old.items ++ lost_text lost) }

@@ -18,7 +18,7 @@ pub enum Hypercall {
         gref: GrantRef,
         flags: u32,
     },
-    /// The domain and the reference whose entry was mapped; None where the handle names no mapping.
+    /// The domain and the reference whose entry was mapped; None if the handle names no mapping.
     Unmap {
         subject: Option<(DomId, GrantRef)>,
     },

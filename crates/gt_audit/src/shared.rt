@@ -37,7 +37,7 @@ impl SharedLog {
         })
     }
 
-    /// Adds a record of this domain under this number. Where memory is refused it comes back. It may wait
+    /// Adds a record of this domain under this number. If memory is refused it comes back. It may wait
     /// while another thread makes room.
     pub fn push(
         &self,

@@ -43,7 +43,7 @@ impl<'l> Told<'l> {
         }
     }
 
-    /// Pushes a record under this number. Where memory is refused, here or by the log, it is lost; the count
+    /// Pushes a record under this number. If memory is refused, here or by the log, it is lost; the count
     /// of those stops at [`u64::MAX`].
     pub fn tell(&mut self, rt: &impl Wait, number: u64, told: Record)
         ensures { TellsUnder self.old number told self.new }

@@ -58,7 +58,7 @@ impl Trail {
     }
 
     /// Makes room for so many more records, and writes it once, so that the pages are there before the records come.
-    /// What it keeps stays, also where memory is refused.
+    /// What it keeps stays, also if memory is refused.
     ///
     /// # Errors
     ///
@@ -75,7 +75,7 @@ impl Trail {
         Ok(())
     }
 
-    /// Appends a record. Where memory is refused, or the trail keeps no more, the list stays, and one more is lost; the
+    /// Appends a record. If memory is refused, or the trail keeps no more, the list stays, and one more is lost; the
     /// count stops at [`u64::MAX`].
     #[inline(always)]
     pub fn push(&mut self, told: Record)

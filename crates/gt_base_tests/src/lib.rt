@@ -1,7 +1,7 @@
 //! Tests of the crates at the bottom, over what they make public.
 //!
 //! They say what no contract says: printed texts, worked values of the public header, and that each call
-//! which takes memory succeeds where there is enough.
+//! which takes memory succeeds if there is enough.
 #![tactic(auto)]
 
 #[cfg(test)]

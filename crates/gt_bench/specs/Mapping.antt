@@ -10,7 +10,7 @@ use Rattle.gt_words.specs.Views.{IsIn, LivePin, last_of, pins, steps_on}
 use Rattle.gt_words.specs.declared.view.View.{View}
 use Rattle.gt_bench.specs.declared.mapper.Target.{Target}
 
--- the seat has published no entry from the reference n on (own)
+-- the seat has published no entry from the reference n on
 abbrev pub IsUnusedFrom : ℕ → View → Type 0
 IsUnusedFrom n v = (r : ℕ) → n ≤ r → last_of r v ≡ record { generation = 0; entry = Invalid }
 
@@ -34,11 +34,11 @@ MayMap b x v =
     (id_at b.layout.ids v.position ≡ x.named)
     ⊎ KeepsVia b.layout (position_in b.layout.ids x.granter) x.gref.0 x.named v
 
--- the seat has the pins that it had, but for those of entries of the domain t (own)
+-- the seat has the pins that it had, but for those of entries of the domain t
 abbrev pub KeepsPinsBeyond : ℕ → View → View → Type 0
 KeepsPinsBeyond t v w = (t' r' : ℕ) → t ≢ t' → pins (steps_on t' r' w) ≡ pins (steps_on t' r' v)
 
--- the seat can map the target (own)
+-- the seat can map the target
 pub record CanMap (b : Board) (s : SeatOf) (x : Target) : Type 0 where
   pub seat : IsSeatOf b s
   pub entry : IsEntryOf b x.granter x.gref

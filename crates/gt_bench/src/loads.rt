@@ -44,7 +44,7 @@ const SHARED: GrantRef = GrantRef(64);
 /// How far the entries of threads lie apart.
 const APART: u32 = 64;
 
-/// How far they lie apart where they are neighbours.
+/// How far they lie apart if they are neighbours.
 const ADJACENT: u32 = 1;
 
 const UNUSED: Row = Row {

@@ -33,7 +33,7 @@ struct Sight {
     entry: Entry,
 }
 
-// Looks at an entry and reads its body: the second word of a sub-page alone.
+// Looks at an entry and reads its body: the second word only of a sub-page.
 #[inline(always)]
 fn look(words: &Words, seat: &mut Seat, dom: DomId, gref: GrantRef) -> Sight
     requires seat { IsSeatOf words.now seat.old }
@@ -56,7 +56,7 @@ fn look(words: &Words, seat: &mut Seat, dom: DomId, gref: GrantRef) -> Sight
     Sight { word, entry }
 }
 
-// Looks at an entry and reads its frame, as a map does. None where it is no page, since nothing else can be mapped.
+// Looks at an entry and reads its frame, as a map does. None if it is no page, since nothing else can be mapped.
 #[inline(always)]
 fn look_at_page(words: &Words, seat: &mut Seat, dom: DomId, gref: GrantRef) -> Option<Sight>
     requires seat { IsSeatOf words.now seat.old }
@@ -78,7 +78,7 @@ fn look_at_page(words: &Words, seat: &mut Seat, dom: DomId, gref: GrantRef) -> O
     Some(Sight { word, entry })
 }
 
-// Tries once to map the entry, where it is a page of the table and granted to the domain named.
+// Tries once to map the entry, if it is a page of the table and granted to the domain named.
 fn map(words: &Words, seat: &mut Seat, target: Target) -> Option<Pin>
     requires seat { IsSeatOf words.now seat.old }
     requires entry { IsEntryOf words.now target.granter target.gref }
@@ -147,7 +147,7 @@ pub(crate) fn map_and_unmap(words: &Words, mapper: Mapper, rounds: u32) -> u32
 }
 
 /// A mapper of the target that keeps a transitive entry to it pinned: the entry `gref` of the domain that the target
-/// names. None where that is no such entry, or the pin was missed.
+/// names. None if that is no such entry, or the pin was missed.
 pub(crate) fn through_via(
     words: &Words,
     mut seat: Seat,

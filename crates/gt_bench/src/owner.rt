@@ -15,7 +15,7 @@ pub struct Row {
     pub generation: u32,
 }
 
-// Stores the body of an entry that is to be published: the second word of a sub-page alone.
+// Stores the body of an entry that is to be published: the second word only of a sub-page.
 #[inline(always)]
 fn store_body(words: &Words, seat: &mut Seat, gref: GrantRef, entry: Entry)
     requires seat { IsSeatOf words.now seat.old }
@@ -33,7 +33,7 @@ fn store_body(words: &Words, seat: &mut Seat, gref: GrantRef, entry: Entry)
     }
 }
 
-/// Publishes an entry in place of the invalid one, and answers whether it did: not where the old one is not invalid, or
+/// Publishes an entry in place of the invalid one, and answers whether it did: not if the old one is not invalid, or
 /// worn.
 pub(crate) fn publish(
     words: &Words,
@@ -63,7 +63,7 @@ pub(crate) fn publish(
     true
 }
 
-/// Revokes the entry, and answers whether it did: not where it has pins, or is invalid.
+/// Revokes the entry, and answers whether it did: not if it has pins, or is invalid.
 pub(crate) fn revoke(words: &Words, seat: &mut Seat, gref: GrantRef, row: &mut Row) -> bool
     requires seat { IsSeatOf words.now seat.old }
     requires reference { gref.0 < TABLE_ENTRIES }
@@ -94,7 +94,7 @@ pub(crate) fn page(dom: DomId) -> Entry
 }
 
 /// Revokes the entry and grants it to the domain again, so many times, each time with as many tries as it takes.
-/// Answers how often: less where the entry is worn.
+/// Answers how often: less if the entry is worn.
 pub(crate) fn revoke_and_grant(
     words: &Words,
     mut seat: Seat,

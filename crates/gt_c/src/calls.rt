@@ -162,7 +162,7 @@ pub extern "C" fn gthost_grant_bytes(
     domain.put(here);
 }
 
-/// Makes an entry of its own invalid, where it has no pins.
+/// Makes an entry of its own invalid, if it has no pins.
 #[unsafe(no_mangle)]
 pub extern "C" fn gthost_revoke(alloc: Global, domain: &mut Handle, gref: u32, answer: &mut Answer)
     ensures answered { Between domain.old.held.value domain.new.held.value (Says (Request.Revoke (at gref)) answer.new) }
@@ -193,7 +193,7 @@ pub extern "C" fn gthost_withdraw(
     domain.put(here);
 }
 
-/// Makes an entry of its own read-only, where it has no write pins.
+/// Makes an entry of its own read-only, if it has no write pins.
 #[unsafe(no_mangle)]
 pub extern "C" fn gthost_demote(alloc: Global, domain: &mut Handle, gref: u32, answer: &mut Answer)
     ensures answered { Between domain.old.held.value domain.new.held.value (Says (Request.Demote (at gref)) answer.new) }
@@ -276,7 +276,7 @@ pub extern "C" fn gthost_set_version(
     domain.put(here);
 }
 
-/// Gives its table so many frames, where it has fewer.
+/// Gives its table so many frames, if it has fewer.
 #[unsafe(no_mangle)]
 pub extern "C" fn gthost_setup_table(
     alloc: Global,

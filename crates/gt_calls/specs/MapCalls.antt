@@ -19,7 +19,7 @@ use Rattle.gt_calls.specs.Following.{Goes}
 use Rattle.gt_calls.specs.Machine.{ended_as, leg_step}
 use Rattle.gt_calls.specs.Rules.{CallerKnowledge}
 
--- a map under way: what it asks, and where its leg is (own)
+-- a map under way: what it asks, and where its leg is
 pub record MapCall : Type 0 where
   pub caller : DomId
   pub dom : DomId
@@ -28,23 +28,23 @@ pub record MapCall : Type 0 where
   pub leg : Leg
   pub at : LegPhase
 
--- the call that a map under way is (own)
+-- the call that a map under way is
 abbrev pub call_of : MapCall → Call
 call_of m = record { caller = m.caller; request = Map m.dom m.gref m.flags; phase = Some (Walking Mapping m.leg m.at) }
 
--- the same before its first step (own)
+-- the same before its first step
 abbrev pub unmoved : MapCall → Call
 unmoved m = record { caller = m.caller; request = Map m.dom m.gref m.flags; phase = None }
 
--- the same at its end (own)
+-- the same at its end
 abbrev pub ended : MapCall → Verdict → Call
 ended m verdict = record { caller = m.caller; request = Map m.dom m.gref m.flags; phase = Some (ended_as verdict) }
 
--- a map begins as its call does, with the step of its leg (own)
+-- a map begins as its call does, with the step of its leg
 abbrev pub BeginsAs : CallerKnowledge → MapCall → Type 0
 BeginsAs k m = Goes k (unmoved m) Nothing (call_of m) (Makes (leg_step m.leg m.at))
 
--- a map goes on as its call does: to the next step of its leg, or to its end (own)
+-- a map goes on as its call does: to the next step of its leg, or to its end
 abbrev pub GoesOnAs : CallerKnowledge → MapCall → Seen → LegNext → Type 0
 GoesOnAs k m seen (Going at) = Goes k (call_of m) seen (call_of (record m { at = at })) (Makes (leg_step m.leg at))
 GoesOnAs k m seen (LegRefused denial) = Goes k (call_of m) seen (ended m (Refused denial)) (Done (Refused denial))

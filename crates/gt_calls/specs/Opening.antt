@@ -35,11 +35,11 @@ abbrev pub IsAllowed : (TypeId → TypeId → Perms → Bool) → List Triple �
 IsAllowed may [] = Unit {0}
 IsAllowed may (t ∷ ts) = (may t.source t.target t.perm ≡ true) × IsAllowed may ts
 
--- the caller's table has the reference (own)
+-- the caller's table has the reference
 abbrev pub IsInTable : CallerKnowledge → GrantRef → Type 0
 IsInTable k gref = gref.0 < size_of k.header
 
--- a grant: the reference holds no entry and is not worn, and the table may have the entry given (own)
+-- a grant: the reference holds no entry and is not worn, and the table may have the entry given
 pub record OpensGrant (k : CallerKnowledge) (gref : GrantRef) (entry : Entry) : Type 0 where
   pub in_table : IsInTable k gref
   pub free : is_invalid (k.entry gref.0) ≡ true
@@ -47,19 +47,19 @@ pub record OpensGrant (k : CallerKnowledge) (gref : GrantRef) (entry : Entry) : 
   pub may_stand : cannot_stand entry k.header.version ≡ false
   pub not_worn : k.generation gref.0 ≢ LAST_GENERATION
 
--- a revocation or withdrawal: the reference holds an entry (own)
+-- a revocation or withdrawal: the reference holds an entry
 pub record OpensRevoke (k : CallerKnowledge) (gref : GrantRef) : Type 0 where
   pub in_table : IsInTable k gref
   pub valid : is_invalid (k.entry gref.0) ≡ false
 
--- a demotion or promotion: the reference holds an entry that is not so already and not worn (own)
+-- a demotion or promotion: the reference holds an entry that is not so already and not worn
 pub record OpensTurn (k : CallerKnowledge) (change : Change) (gref : GrantRef) : Type 0 where
   pub in_table : IsInTable k gref
   pub valid : is_invalid (k.entry gref.0) ≡ false
   pub not_already : is_already change (k.entry gref.0) ≡ false
   pub not_worn : k.generation gref.0 ≢ LAST_GENERATION
 
--- a map: the domain is of the run, the flags are known, the policy allows it, and there is room (own)
+-- a map: the domain is of the run, the flags are known, the policy allows it, and there is room
 pub record OpensMap (k : CallerKnowledge) (caller dom : DomId) (flags : ℕ) : Type 0 where
   pub of_run : IsOfRun k (resolved caller dom)
   pub flags_known : (flags ≡ 2) ⊎ (flags ≡ 6)
@@ -67,37 +67,37 @@ pub record OpensMap (k : CallerKnowledge) (caller dom : DomId) (flags : ℕ) : T
   pub room : k.in_use < MAX_MAPPINGS
   pub serials_left : k.maps_answered < END_OF_SERIALS
 
--- an unmap: the handle has this mapping, which the policy allows to give up (own)
+-- an unmap: the handle has this mapping, which the policy allows to give up
 pub record OpensUnmap (k : CallerKnowledge) (caller : DomId) (handle : Handle) : Type 0 where
   pub mapping : Held
   pub found : k.mapping handle ≡ Some mapping
   pub allowed : IsAllowed k.may (rights_to_unmap k caller mapping.dom)
 
--- a load: the range is inside a frame, and the handle has this mapping (own)
+-- a load: the range is inside a frame, and the handle has this mapping
 pub record OpensLoad (k : CallerKnowledge) (handle : Handle) (off len : ℕ) : Type 0 where
   pub mapping : Held
   pub found : k.mapping handle ≡ Some mapping
   pub range : off + len ≤ FRAME_SIZE
 
--- a store: the same, and the mapping lets write (own)
+-- a store: the same, and the mapping lets write
 pub record OpensStore (k : CallerKnowledge) (handle : Handle) (off len : ℕ) : Type 0 where
   pub mapping : Held
   pub found : k.mapping handle ≡ Some mapping
   pub writable : mapping.dir ≡ Write
   pub range : off + len ≤ FRAME_SIZE
 
--- a peek or poke: the range is inside a frame of the caller's own (own)
+-- a peek or poke: the range is inside a frame of the caller's own
 pub record OpensOwn (k : CallerKnowledge) (caller : DomId) (frame off len : ℕ) : Type 0 where
   pub range : off + len ≤ FRAME_SIZE
   pub framed : frame < frames_of k.domains caller
 
--- an end of a copy by a frame number is the caller's own, and a frame that it has (own)
+-- an end of a copy by a frame number is the caller's own, and a frame that it has
 pub record IsOwnEnd (k : CallerKnowledge) (caller : DomId) (end : End) : Type 0 where
   pub owned : (resolved caller end.domid).0 ≡ caller.0
   pub framed : end.ptr < frames_of k.domains caller
 
 -- a copy: its domains are of the run, its flags are known, its ranges are inside frames, its frame numbers are the
--- caller's, and the policy allows it for the domains named (own)
+-- caller's, and the policy allows it for the domains named
 pub record OpensCopy (k : CallerKnowledge) (caller : DomId) (c : CopyArgs) : Type 0 where
   pub source_of_run : IsOfRun k (resolved caller c.source.domid)
   pub dest_of_run : IsOfRun k (resolved caller c.dest.domid)
@@ -108,24 +108,24 @@ pub record OpensCopy (k : CallerKnowledge) (caller : DomId) (c : CopyArgs) : Typ
   pub own_dest : is_dest_granted c ≡ false → IsOwnEnd k caller c.dest
   pub allowed : IsAllowed k.may (rights_to_copy k (resolved caller c.source.domid) (resolved caller c.dest.domid))
 
--- a new version: it is 1 or 2 and another than the table's, whose entries are all invalid (own)
+-- a new version: it is 1 or 2 and another than the table's, whose entries are all invalid
 pub record OpensVersion (k : CallerKnowledge) (version : ℕ) : Type 0 where
   pub version_known : (version ≡ 1) ⊎ (version ≡ 2)
   pub another : version ≢ k.header.version
   pub empty : (r : ℕ) → r < size_of k.header → is_invalid (k.entry r) ≡ true
 
--- a larger table: the policy allows it, and it has more frames than now and not too many (own)
+-- a larger table: the policy allows it, and it has more frames than now and not too many
 pub record OpensSetup (k : CallerKnowledge) (caller : DomId) (frames : ℕ) : Type 0 where
   pub allowed : IsAllowed k.may (rights_to_setup k caller)
   pub larger : k.header.frames < frames
   pub within : frames ≤ MAX_TABLE_FRAMES
 
--- a question of a table: its domain is of the run, and the policy allows it (own)
+-- a question of a table: its domain is of the run, and the policy allows it
 pub record OpensQuery (k : CallerKnowledge) (caller dom : DomId) : Type 0 where
   pub of_run : IsOfRun k (resolved caller dom)
   pub allowed : IsAllowed k.may (rights_to_query k caller (resolved caller dom))
 
--- what is so of each call that no rule answers at its beginning (own)
+-- what is so of each call that no rule answers at its beginning
 abbrev pub Opens : CallerKnowledge → DomId → Asked → Type 0
 Opens k caller (Grant gref entry) = OpensGrant k gref entry
 Opens k caller (Revoke gref) = OpensRevoke k gref

@@ -568,7 +568,7 @@ pub const COPIES: [Row; 15] = [
     ),
 ];
 
-/// Where the caller may copy to the middle domain alone: a Via asks for the owners of both frames.
+/// If the caller may copy only to the middle domain: a Via asks for the owners of both frames.
 pub const TO_MIDDLE: [Row; 1] = [(
     CALLER,
     Request::Copy(CopyArgs {

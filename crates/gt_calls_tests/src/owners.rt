@@ -21,7 +21,7 @@ pub const MAPPING: Held = Held {
     word: 0x1000_3000_0001,
 };
 
-// The same pin where the entry has one read pin more.
+// The same pin if the entry has one read pin more.
 const BUSY: Held = Held {
     word: 0x1000_3000_0011,
     ..MAPPING

@@ -27,7 +27,7 @@ pub enum Asked {
     Refused,
 }
 
-// The next tick, made again where memory was refused.
+// The next tick, made again if memory was refused.
 fn ticked(core: &mut Core<Rights>, dom: DomId) -> anyhow::Result<Ticked> {
     if let Ok(ticked) = core.tick(dom) {
         return Ok(ticked);
@@ -48,7 +48,7 @@ fn ended(core: &mut Core<Rights>, dom: DomId) -> anyhow::Result<Answer> {
     bail!("a call of the core does not end")
 }
 
-// A whole call of the core, begun again where memory was refused.
+// A whole call of the core, begun again if memory was refused.
 fn on_core(core: &mut Core<Rights>, dom: DomId, request: Request<'_>) -> anyhow::Result<Answer> {
     let begun = match core.begin(dom, request) {
         Ok(begun) => Ok(begun),
@@ -120,7 +120,7 @@ impl<'m> Both<'m> {
         }
     }
 
-    /// Whether both answer the same, where a call that was refused memory is made again.
+    /// Whether both answer the same, if a call that was refused memory is made again.
     pub fn agrees<R: Wait>(
         &mut self,
         rt: &R,

@@ -112,7 +112,7 @@ enum Came {
     Differs(Shows),
 }
 
-// What a call is answered on both. Where the monitor was refused memory, both show what they did before, and the call
+// What a call is answered on both. If the monitor was refused memory, both show what they did before, and the call
 // is made again.
 fn answered<R: Wait>(
     rt: &R,

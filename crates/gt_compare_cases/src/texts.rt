@@ -59,7 +59,7 @@ fn records_compared(
 }
 
 /// The first thing in which the text of `play` differs: the lines of the answers, or the records of a domain but the
-/// last. Where memory was refused, records are counted alone: a call that was refused has one more, and a record that
+/// last. If memory was refused, only records are counted: a call that was refused has one more, and a record that
 /// found none counts as lost.
 pub fn text_difference(
     alloc: Global,

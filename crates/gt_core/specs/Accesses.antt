@@ -21,18 +21,18 @@ use Rattle.gt_frames.specs.Frames.{bytes_at}
 use Rattle.gt_frames.specs.Sets.{FrameSet, frame_at, has_range, admits, AreKept, WritesTo}
 use Rattle.gt_core.specs.States.{State}
 
--- the name of the frame of a place (own)
+-- the name of the frame of a place
 abbrev pub name_of : Place → FrameName
 name_of at = record { owner = at.owner; number = at.frame }
 
--- the ground of a write by a route: the frame is the writer's own, or the entries of the route's pins let it (own)
+-- the ground of a write by a route: the frame is the writer's own, or the entries of the route's pins let it
 abbrev pub ground_of : Route → Ground
 ground_of Own = Owned
 ground_of (Direct p) = Granted p.entry
 ground_of (Through via p) = Forwarded via.entry via.dom p.entry
 
 -- the route by which a call writes: by the pin of a store's mapping, or by those of a copy's destination; else to the
--- caller's own frame (own)
+-- caller's own frame
 abbrev pub route_of : HandleMap Held → Call → Route
 route_of mappings call = by call.request
   where
@@ -41,29 +41,29 @@ route_of mappings call = by call.request
     by (Copy c) = (pins_by_call call).dest
     by request = Own
 
--- the writ is that of a domain's call: the caller writes, by the route of the call (own)
+-- the writ is that of a domain's call: the caller writes, by the route of the call
 abbrev pub IsWritOf : State → Call → Writ → Type 0
 IsWritOf d call w = (w.writer ≡ call.caller) × (w.basis ≡ ground_of (route_of d.mappings call))
 
--- the step writes bytes (own)
+-- the step writes bytes
 abbrev pub IsWriting : Step → Type 0
 IsWriting (WriteBytes dom frame off len) = Unit {0}
 IsWriting (CopyBytes from to len) = Unit {0}
 IsWriting step = ⊥
 
--- a request for so many bytes (own)
+-- a request for so many bytes
 abbrev pub IsLoadOf : Asked → ℕ → Type 0
 IsLoadOf (Load handle off len) n = len ≡ n
 IsLoadOf (Peek frame off len) n = len ≡ n
 IsLoadOf request n = ⊥
 
--- where the step reads, its range is there, and its call asks for as many bytes (own)
+-- if the step reads, its range is there, and its call asks for as many bytes
 abbrev pub IsReadable : FrameSet → Call → Step → Type 0
 IsReadable fs call (ReadBytes dom frame off len) =
     IsTrue (has_range fs (record { owner = dom; number = frame }) off len) × IsLoadOf call.request len
 IsReadable fs call step = Unit {0}
 
--- where the step writes, its ranges are there, and the writ of the domain's call is for the one that it writes (own)
+-- if the step writes, its ranges are there, and the writ of the domain's call is for the one that it writes
 abbrev pub IsAdmitted : FrameSet → State → Call → Step → Type 0
 IsAdmitted fs d call (WriteBytes dom frame off len) =
     (w : Writ) → IsWritOf d call w
@@ -73,13 +73,13 @@ IsAdmitted fs d call (CopyBytes from to len) =
     × ((w : Writ) → IsWritOf d call w → IsTrue (admits fs (name_of to) w to.off len))
 IsAdmitted fs d call step = Unit {0}
 
--- the frames after the domain's call writes these bytes to one of them, by its writ (own)
+-- the frames after the domain's call writes these bytes to one of them, by its writ
 abbrev pub WritesByRight : State → Call → FrameSet → FrameSet → FrameName → ℕ → List ℕ → Type 0
 WritesByRight d call old new name off bytes =
     (w : Writ) × IsWritOf d call w × WritesTo old new name w off bytes × AreKept new
 
 -- the frames after a step: it writes what its call was given, or for a copy what the source range held, or changes
--- none (own)
+-- none
 abbrev pub AccessedBy : State → Call → Step → FrameSet → FrameSet → Type 0
 AccessedBy d call (WriteBytes dom frame off len) old new =
     WritesByRight d call old new (record { owner = dom; number = frame }) off d.given

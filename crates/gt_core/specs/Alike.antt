@@ -28,15 +28,15 @@ use Rattle.gt_core.specs.Legal.{IsRight}
 
 -- the same but for keys
 
--- a handle without its key (own)
+-- a handle without its key
 abbrev pub bare_handle : Handle → Handle
 bare_handle handle = record { serial = handle.serial; key = 0 }
 
--- bytes lent, wherever they are in memory (own)
+-- bytes lent, wherever they are in memory
 abbrev pub bare_bytes : Bor (List ℕ) → Bor (List ℕ)
 bare_bytes bytes = record { ref_ptr = (0, 0); now = bytes.now }
 
--- a request without the key of its handle (own)
+-- a request without the key of its handle
 abbrev pub bare_request : Request → Request
 bare_request (requests.GrantBytes gref bytes) = requests.GrantBytes gref (bare_bytes bytes)
 bare_request (requests.Unmap handle) = requests.Unmap (bare_handle handle)
@@ -45,79 +45,79 @@ bare_request (requests.Store handle off bytes) = requests.Store (bare_handle han
 bare_request (requests.Poke frame off bytes) = requests.Poke frame off (bare_bytes bytes)
 bare_request request = request
 
--- an event without the key of its request's handle (own)
+-- an event without the key of its request's handle
 abbrev pub bare_event : Event → Event
 bare_event (Begin d request) = Begin d (bare_request request)
 bare_event (Tick d) = Tick d
 
--- a step without the key of the handle whose mapping it gives up (own)
+-- a step without the key of the handle whose mapping it gives up
 abbrev pub bare_step : Step → Step
 bare_step (Unpin p (ByMapping handle)) = Unpin p (ByMapping (bare_handle handle))
 bare_step step = step
 
--- what happened, without a key (own)
+-- what happened, without a key
 abbrev pub bare_happened : Happened → Happened
 bare_happened (Began request) = Began (bare_request request)
 bare_happened (Stepped step seen) = Stepped (bare_step step) seen
 
--- what an answer says: its bytes, or the answer itself, without a key (own)
+-- what an answer says: its bytes, or the answer itself, without a key
 abbrev pub told : Answer → Answer ⊎ List ℕ
 told (Mapped handle) = inl (Mapped (bare_handle handle))
 told (Bytes b) = inr b.bytes.items
 told answer = inl answer
 
--- what an item says but for keys: its domain, what happened, and what its answer says (own)
+-- what an item says but for keys: its domain, what happened, and what its answer says
 pub record ToldItem : Type 0 where
   pub actor : DomId
   pub happened : Happened
   pub answer : Option (Answer ⊎ List ℕ)
 
--- that of this item (own)
+-- that of this item
 abbrev pub told_item : Item → ToldItem
 told_item i = record { actor = i.actor; happened = bare_happened i.happened; answer = option_map told i.answer }
 
--- what the items say, each (own)
+-- what the items say, each
 unfoldable pub told_items : History → List ToldItem
 told_items [] = []
 told_items (i ∷ before) = told_item i ∷ told_items before
 
--- the histories are the same but for keys, item by item (own)
+-- the histories are the same but for keys, item by item
 abbrev pub SameHistory : History → History → Type 0
 SameHistory one other = told_items one ≡ told_items other
 
--- the events are the same but for keys (own)
+-- the events are the same but for keys
 abbrev pub SameEvent : Event → Event → Type 0
 SameEvent one other = bare_event one ≡ bare_event other
 
--- the elements are the same but for keys (own)
+-- the elements are the same but for keys
 abbrev pub SameElement : Element → Element → Type 0
 SameElement (Did i) (Did j) = told_item i ≡ told_item j
 SameElement one other = one ≡ other
 
 -- handles that were answered
 
--- a map of the domain was answered this handle (own)
+-- a map of the domain was answered this handle
 unfoldable pub IsGiven : History → ℕ → Handle → Type 0
 IsGiven [] d handle = ⊥
 IsGiven (i ∷ before) d handle = ((i.actor.0 ≡ d) × (i.answer ≡ Some (Mapped handle))) ⊎ IsGiven before d handle
 
--- the handle is one that the domain was answered, or its serial is one that no map is answered (own)
+-- the handle is one that the domain was answered, or its serial is one that no map is answered
 abbrev pub IsKnown : History → ℕ → Handle → Type 0
 IsKnown h d handle = IsGiven h d handle ⊎ (END_OF_SERIALS ≤ handle.serial)
 
--- a handle that is asked for is known (own)
+-- a handle that is asked for is known
 abbrev pub AsksKnown : History → ℕ → Asked → Type 0
 AsksKnown h d (Unmap handle) = IsKnown h d handle
 AsksKnown h d (Load handle off len) = IsKnown h d handle
 AsksKnown h d (Store handle off len) = IsKnown h d handle
 AsksKnown h d request = Unit {0}
 
--- an event asks for no handle but one that is known to its domain (own)
+-- an event asks for no handle but one that is known to its domain
 abbrev pub IsOfKnown : History → Event → Type 0
 IsOfKnown h (Begin d request) = AsksKnown h d.0 (asked request)
 IsOfKnown h (Tick d) = Unit {0}
 
--- an item asks so (own)
+-- an item asks so
 abbrev pub HappensKnown : History → Item → Type 0
 HappensKnown h i = IsOfHappened i.happened
   where
@@ -125,12 +125,12 @@ HappensKnown h i = IsOfHappened i.happened
     IsOfHappened (Began request) = AsksKnown h i.actor.0 (asked request)
     IsOfHappened (Stepped step seen) = Unit {0}
 
--- the items came about one after the other by what may happen, and their requests ask for known handles alone (own)
+-- the items came about one after the other by what may happen, and their requests ask only for known handles
 unfoldable pub IsRun : Setting → History → Type 0
 IsRun s [] = Unit {0}
 IsRun s (i ∷ before) = IsRight s before i × HappensKnown before i × IsRun s before
 
--- two runs have come to the same but for keys (own)
+-- two runs have come to the same but for keys
 pub record AreAlike (s : Setting) (one other : History) : Type 0 where
   pub first : IsRun s one
   pub second : IsRun s other

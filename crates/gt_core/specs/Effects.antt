@@ -23,7 +23,7 @@ use Rattle.gt_core.specs.States.{State, changed_in}
 pub use Rattle.gt_calls.specs.Changes.{own_after}
 use Rattle.gt_handles.specs.Handles.{HandleMap, value_of, count_of, Updates}
 
--- one pin more or less of a kind, or another body word (own)
+-- one pin more or less of a kind, or another body word
 abbrev pub slot_after : CountsChange → PinCounts → PinCounts
 slot_after (Pinned Read) slot = record slot { reads = min (slot.reads + 1) MAX_PINS }
 slot_after (Pinned Write) slot = record slot { writes = min (slot.writes + 1) MAX_PINS }
@@ -32,27 +32,27 @@ slot_after (Unpinned Write) slot = record slot { writes = slot.writes - 1 }
 slot_after (Stored SecondHalf word) slot = record slot { second = word }
 slot_after (Stored FirstHalf word) slot = record slot { first = word }
 
--- the state after a change of the pins or a body word of entry r (own)
+-- the state after a change of the pins or a body word of entry r
 abbrev pub with_slot : ℕ → CountsChange → State → State
 with_slot r change x = record x { slots = changed_at r (slot_after change) x.slots }
 
--- the state after an owner's change of entry r (own)
+-- the state after an owner's change of entry r
 abbrev pub with_own : ℕ → Change → State → State
 with_own r change x = record x { own = changed_at r (own_after change) x.own }
 
--- the state with another header of its table, as far as its word has room (own)
+-- the state with another header of its table, as far as its word has room
 abbrev pub with_header : ℕ → ℕ → State → State
 with_header version frames x = record x { header = record { version = version % 4; frames = frames % 256 } }
 
--- the state with this call under way, or none (own)
+-- the state with this call under way, or none
 abbrev pub with_underway : Option Open → State → State
 with_underway underway x = record x { underway = underway }
 
--- the state with this call under way, and the bytes given to it (own)
+-- the state with this call under way, and the bytes given to it
 abbrev pub with_call : Open → List ℕ → State → State
 with_call call given x = record x { underway = Some call; given = given }
 
--- these handles are the old ones and a new one, under the next serial, which names this mapping (own)
+-- these handles are the old ones and a new one, under the next serial, which names this mapping
 pub record Adds (old new : HandleMap Held) (handle : Handle) (m : Held) : Type 0 where
   pub serial : handle.serial ≡ old.given
   pub fresh : value_of old handle ≡ None
@@ -60,22 +60,22 @@ pub record Adds (old new : HandleMap Held) (handle : Handle) (m : Held) : Type 0
   pub updates : Updates old new handle (Some m)
   pub count : count_of new ≡ count_of old + 1
 
--- the state with these mappings, after the call that made one is answered (own)
+-- the state with these mappings, after the call that made one is answered
 abbrev pub with_mapping : HandleMap Held → State → State
 with_mapping mappings x = record x { mappings = mappings; underway = None }
 
--- the mapping under this handle goes, if there is one (own)
+-- the mapping under this handle goes, if there is one
 abbrev pub taken : Handle → HandleMap Held → HandleMap Held
 taken handle mappings =
     if is_some (value_of mappings handle) then record mappings { slots = slice_set mappings.slots handle.key None }
     else mappings
 
--- the state after its holder gave up a pin: a mapping goes, a call has none to lose (own)
+-- the state after its holder gave up a pin: a mapping goes, a call has none to lose
 abbrev pub without_mapping : Holder → State → State
 without_mapping (ByMapping handle) x = record x { mappings = taken handle x.mappings }
 without_mapping (ByLeg number) x = x
 
--- the states after a step of domain d that saw this (own)
+-- the states after a step of domain d that saw this
 abbrev pub applied : DomId → Step → Seen → List State → List State
 applied d (Pin p) Taken xs = changed_in p.dom.0 (with_slot p.gref.0 (Pinned p.dir)) xs
 applied d (Unpin p holder) seen xs =

@@ -29,24 +29,24 @@ use Rattle.gt_core.specs.declared.trace.Answer.TheVariants.{Mapped}
 use Rattle.gt_core.specs.declared.trace.Happened.TheVariants.{Began, Stepped}
 use Rattle.gt_core.specs.declared.trace.Item.{Item}
 
--- some core stands for the history, which is a legal one (own)
+-- some core stands for the history, which is a legal one
 abbrev pub IsReached : Setting → History → Type 0
 IsReached s h = (core : CoreState) × CoreStands s h core
 
--- a beginning of a call, with its answer if that ends it (own)
+-- a beginning of a call, with its answer if that ends it
 abbrev pub beginning : DomId → Request → Option Answer → Item
 beginning d request answer = record { actor = d; happened = Began request; answer = answer }
 
--- a step of a call, which sees what the items before it left, with the call's answer if the step ends it (own)
+-- a step of a call, which sees what the items before it left, with the call's answer if the step ends it
 abbrev pub step_after : Setting → History → DomId → Step → Option Answer → Item
 step_after s h d step answer = record { actor = d; happened = Stepped step (seen_by s h d step); answer = answer }
 
--- how a beginning is answered: by its verdict, if there is one (own)
+-- how a beginning is answered: by its verdict, if there is one
 abbrev pub begin_answer : Option Verdict → Option Answer
 begin_answer None = None
 begin_answer (Some verdict) = Some (answer_of verdict)
 
--- the step is on words, and reads and writes no bytes (own)
+-- the step is on words, and reads and writes no bytes
 abbrev pub IsOnWords : Step → Type 0
 IsOnWords (ReadBytes dom frame off len) = ⊥
 IsOnWords (WriteBytes dom frame off len) = ⊥
@@ -54,26 +54,26 @@ IsOnWords (CopyBytes from to len) = ⊥
 IsOnWords step = Unit {0}
 
 -- the handle is one that the domain's next mapping may be answered under: some table of handles for its mappings gives it
--- next (own)
+-- next
 pub record MayBeGiven (h : History) (d : DomId) (handle : Handle) (held : Held) : Type 0 where
   pub old : HandleMap Held
   pub new : HandleMap Held
   pub agrees : MappingsAgree old (mappings_at h d.0) (maps_answered_at h d.0)
   pub adds : Adds old new handle held
 
--- how a call is answered that comes to this after its step: not yet, where it goes on; under such a handle, where it keeps
--- its pin; else with its verdict (own)
+-- how a call is answered that comes to this after its step: not yet, if it goes on; under such a handle, if it keeps
+-- its pin; else with its verdict
 abbrev pub AnsweredSo : History → DomId → Action → Option Answer → Type 0
 AnsweredSo h d (Makes next) answer = answer ≡ None
 AnsweredSo h d (Ends (KeptPin held)) answer = (handle : Handle) × (answer ≡ Some (Mapped handle)) × MayBeGiven h d handle held
 AnsweredSo h d (Ends verdict) answer = answer ≡ Some (answer_of verdict)
 
--- the empty history is one that a core stands for, in each configuration within the limits (own)
+-- the empty history is one that a core stands for, in each configuration within the limits
 abbrev pub RunsStart : Type 0
 RunsStart = (config : Config) (may : TypeId → TypeId → Perms → Bool) → IsWithinLimits config
     → IsReached (setting_of config may) []
 
--- a domain of the run that is at rest can begin each call: that is right, and a core stands for it (own)
+-- a domain of the run that is at rest can begin each call: that is right, and a core stands for it
 abbrev pub CallsCanBegin : Type 0
 CallsCanBegin =
     (s : Setting) (h : History) (d : DomId) (request : Request) → IsReached s h → domain_of s.domains d ≢ None
@@ -82,7 +82,7 @@ CallsCanBegin =
     IsRight s h i × IsReached s (i ∷ h)
 
 -- each open call can make its next step on words, and then comes to what its path gives: that is right, and a core stands
--- for it (own)
+-- for it
 abbrev pub OpenCallsCanGoOn : Type 0
 OpenCallsCanGoOn =
     (s : Setting) (h : History) (d : DomId) (c : Underway) (step : Step) (action : Action) (answer : Option Answer)

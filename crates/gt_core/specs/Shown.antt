@@ -8,14 +8,14 @@ use Rattle.gt_core.specs.declared.core_state.Shown.{Shown}
 use Rattle.gt_calls.specs.Rules.{size_of}
 use Rattle.gt_core.specs.History.{History, Setting, entry_at, generation_at, reads_at, writes_at, table_at}
 
--- what the rows of an entry show (own)
+-- what the rows of an entry show
 abbrev pub shown_in : Option Own → Option PinCounts → Option Shown
 shown_in None slot = None
 shown_in (Some own) None = None
 shown_in (Some own) (Some slot) =
     Some (record { entry = own.entry; generation = own.generation; reads = slot.reads; writes = slot.writes })
 
--- what an entry shows after these items (own)
+-- what an entry shows after these items
 abbrev pub entry_shown : Setting → History → DomId → ℕ → Shown
 entry_shown s h dom r =
     record {
@@ -25,7 +25,7 @@ entry_shown s h dom r =
       writes = writes_at h dom.0 r;
     }
 
--- the same, but nothing past the table, or for no domain of the run (own)
+-- the same, but nothing past the table, or for no domain of the run
 abbrev pub shown_at : Setting → History → DomId → ℕ → Option Shown
 shown_at s h dom r =
     if is_some (domain_of s.domains dom) && nat_lt r (size_of (table_at s h dom))

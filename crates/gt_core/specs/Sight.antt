@@ -17,55 +17,55 @@ use Rattle.gt_core.specs.States.{State}
 use Rattle.gt_calls.specs.Rules.{control_with, entry_in, generation_in}
 pub use Rattle.gt_core.specs.History.{exchange_sees}
 
--- the read pins in a slot, 0 where there is none (own)
+-- the read pins in a slot, 0 if there is none
 abbrev pub slot_reads : Option PinCounts → ℕ
 slot_reads None = 0
 slot_reads (Some slot) = slot.reads
 
--- the write pins in a slot, 0 where there is none (own)
+-- the write pins in a slot, 0 if there is none
 abbrev pub slot_writes : Option PinCounts → ℕ
 slot_writes None = 0
 slot_writes (Some slot) = slot.writes
 
--- a body word in a slot, 0 where there is none (own)
+-- a body word in a slot, 0 if there is none
 abbrev pub slot_body : Option PinCounts → Half → ℕ
 slot_body None which = 0
 slot_body (Some slot) SecondHalf = slot.second
 slot_body (Some slot) FirstHalf = slot.first
 
--- the read pins in slot r (own)
+-- the read pins in slot r
 abbrev pub reads_in : List PinCounts → ℕ → ℕ
 reads_in slots r = slot_reads (slice_get slots r)
 
--- the write pins in slot r (own)
+-- the write pins in slot r
 abbrev pub writes_in : List PinCounts → ℕ → ℕ
 writes_in slots r = slot_writes (slice_get slots r)
 
--- a body word in slot r (own)
+-- a body word in slot r
 abbrev pub body_in : List PinCounts → ℕ → Half → ℕ
 body_in slots r which = slot_body (slice_get slots r) which
 
--- the control word made of an owner's row and a slot (own)
+-- the control word made of an owner's row and a slot
 abbrev pub control_in : List Own → List PinCounts → ℕ → ℕ
 control_in own slots r =
     control_word (control_with (entry_in own r) (generation_in 0 own r) (reads_in slots r) (writes_in slots r))
 
--- the header word of domain d, 0 where there is no such state (own)
+-- the header word of domain d, 0 if there is no such state
 abbrev pub header_seen : List State → ℕ → ℕ
 header_seen [] d = 0
 header_seen (x ∷ xs) d = if x.id.0 == d then header_word x.header else header_seen xs d
 
--- the control word of entry r of domain d, 0 where there is no such state (own)
+-- the control word of entry r of domain d, 0 if there is no such state
 abbrev pub control_seen : List State → ℕ → ℕ → ℕ
 control_seen [] d r = 0
 control_seen (x ∷ xs) d r = if x.id.0 == d then control_in x.own x.slots r else control_seen xs d r
 
--- a body word of entry r of domain d, 0 where there is no such state (own)
+-- a body word of entry r of domain d, 0 if there is no such state
 abbrev pub body_seen : List State → ℕ → ℕ → Half → ℕ
 body_seen [] d r which = 0
 body_seen (x ∷ xs) d r which = if x.id.0 == d then body_in x.slots r which else body_seen xs d r which
 
--- what a step of the domain sees (own)
+-- what a step of the domain sees
 abbrev pub sees : List State → DomId → Step → Seen
 sees xs d (LookHeader dom) = Word (header_seen xs dom.0)
 sees xs d (LookControl dom gref) = Word (control_seen xs dom.0 gref.0)

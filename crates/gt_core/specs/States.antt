@@ -18,7 +18,7 @@ use Rattle.gt_core.specs.declared.underway.Open.{Open}
 use Rattle.gt_frames.specs.Sets.{FrameSet}
 
 -- what the core keeps of a domain: its header, what its owner knows of each entry, the pins and body words of each
--- entry, its mappings by handle, its call under way, and the bytes given to that call to be written (own)
+-- entry, its mappings by handle, its call under way, and the bytes given to that call to be written
 pub record State : Type 0 where
   pub id : DomId
   pub header : Header
@@ -28,22 +28,22 @@ pub record State : Type 0 where
   pub underway : Option Open
   pub given : List ℕ
 
--- what the core keeps of a run: its domains, and their frames (own)
+-- what the core keeps of a run: its domains, and their frames
 pub record CoreState : Type 0 where
   pub domains : List State
   pub frames : FrameSet
 
--- these domains and frames (own)
+-- these domains and frames
 abbrev pub core_of : List State → FrameSet → CoreState
 core_of domains frames = record { domains = domains; frames = frames }
 
--- what the call under way asks (own)
+-- what the call under way asks
 abbrev pub asked_in : Option Open → Option Asked
 asked_in None = None
 asked_in (Some o) = Some o.call.request
 
 -- the calls that ask for memory: a map for its mapping, a load or peek for its answer, a store or poke for what it was
--- given (own)
+-- given
 abbrev pub asks_memory : Asked → Bool
 asks_memory (Map dom gref flags) = true
 asks_memory (Load handle off len) = true
@@ -52,32 +52,32 @@ asks_memory (Peek frame off len) = true
 asks_memory (Poke frame off len) = true
 asks_memory _ = false
 
--- the bytes that a call keeps while it is under way: those given to a store or a poke (own)
+-- the bytes that a call keeps while it is under way: those given to a store or a poke
 abbrev pub kept_by : Asked → List ℕ → List ℕ
 kept_by (Store handle off len) given = given
 kept_by (Poke frame off len) given = given
 kept_by request given = []
 
--- a map is under way (own)
+-- a map is under way
 abbrev pub IsMapping : Option Asked → Type 0
 IsMapping (Some (Map dom gref flags)) = Unit {0}
 IsMapping _ = ⊥
 
--- a load or peek under way is of so many bytes (own)
+-- a load or peek under way is of so many bytes
 abbrev pub IsLoading : Option Asked → ℕ → Type 0
 IsLoading (Some (Load handle off len)) n = n ≡ len
 IsLoading (Some (Peek frame off len)) n = n ≡ len
 IsLoading _ n = Unit {0}
 
 -- the room that a call's answer wants was made when it began: for one more mapping, under a serial that is left, or for
--- the bytes of a load or peek (own)
+-- the bytes of a load or peek
 abbrev pub HasRoom : Option Asked → HandleMap Held → Option ℕ → Type 0
 HasRoom (Some (Map dom gref flags)) mappings bytes = (1 ≤ mappings.room) × (mappings.given + 1 < 2 ^ 64)
 HasRoom (Some (Load handle off len)) mappings bytes = bytes ≡ Some len
 HasRoom (Some (Peek frame off len)) mappings bytes = bytes ≡ Some len
 HasRoom _ mappings bytes = Unit {0}
 
--- a domain at rest (own)
+-- a domain at rest
 abbrev pub first_state : ℕ → DomainConfig → State
 first_state first_gen d =
     record {
@@ -90,12 +90,12 @@ first_state first_gen d =
       given = [];
     }
 
--- the first state with this number (own)
+-- the first state with this number
 abbrev pub state_of : List State → ℕ → Option State
 state_of [] d = None
 state_of (x ∷ xs) d = if x.id.0 == d then Some x else state_of xs d
 
--- the first state with this number, changed (own)
+-- the first state with this number, changed
 abbrev pub changed_in : ℕ → (State → State) → List State → List State
 changed_in d f [] = []
 changed_in d f (x ∷ xs) = if x.id.0 == d then f x ∷ xs else x ∷ changed_in d f xs

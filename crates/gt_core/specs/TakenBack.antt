@@ -14,7 +14,7 @@ use Rattle.gt_core.specs.declared.trace.Happened.TheVariants.{Stepped}
 use Rattle.gt_core.specs.History.{History, Setting, Pin, entry_at, live, pinned_by, reads_at, writes_at}
 use Rattle.gt_core.specs.Legal.{IsLegalHistory, Legal, history_after}
 
--- the items of a legal trace are a legal history: so what holds of each of those holds of each run that is played (own)
+-- the items of a legal trace are a legal history: so what holds of each of those holds of each run that is played
 abbrev pub LegalTracesAreHistories : Type 0
 LegalTracesAreHistories =
     (s : Setting) (events : List Event) (trace : List Element) → Legal s events trace
@@ -22,7 +22,7 @@ LegalTracesAreHistories =
 
 -- pins of an earlier record
 
--- the item revokes entry r of domain t, or publishes it (own)
+-- the item revokes entry r of domain t, or publishes it
 abbrev pub EndsPins : ℕ → ℕ → Item → Type 0
 EndsPins t r i = (i.actor.0 ≡ t) × ends i.happened
   where
@@ -31,18 +31,18 @@ EndsPins t r i = (i.actor.0 ≡ t) × ends i.happened
     ends (Stepped (Exchange gref looked (Publish entry)) Taken) = gref.0 ≡ r
     ends _ = ⊥
 
--- the pin is on entry r of domain t (own)
+-- the pin is on entry r of domain t
 abbrev pub IsPinOn : ℕ → ℕ → Pin → Type 0
 IsPinOn t r p = (p.held.dom.0 ≡ t) × (p.held.gref.0 ≡ r)
 
--- one of the later items took the pin, after the items base: of the entry as it was just before it (own)
+-- one of the later items took the pin, after the items base: of the entry as it was just before it
 unfoldable pub IsTakenSince : History → History → Pin → Type 0
 IsTakenSince [] base p = ⊥
 IsTakenSince (i ∷ later) base p =
     (pinned_by i.actor i.happened i.answer (later ++ base) (live (later ++ base)) ≡ p ∷ []) ⊎ IsTakenSince later base p
 
 -- once a revocation of an entry stood, or a publication, each live pin on that entry was taken since: so no access is
--- justified by a pin of an earlier record of that entry (own)
+-- justified by a pin of an earlier record of that entry
 abbrev pub PinsAreTakenSince : Type 0
 PinsAreTakenSince =
     (s : Setting) (later before : History) (i : Item) (t r : ℕ) → IsLegalHistory s (later ++ i ∷ before)
@@ -50,13 +50,13 @@ PinsAreTakenSince =
 
 -- pages
 
--- domain t has taken its frame f back: no entry of it is of that frame, and none that is invalid has a live pin (own)
+-- domain t has taken its frame f back: no entry of it is of that frame, and none that is invalid has a live pin
 abbrev pub IsTakenBack : History → ℕ → ℕ → Type 0
 IsTakenBack h t f =
     (r : ℕ) → (is_of_frame (entry_at h t r) f ≡ false)
     × (entry_at h t r ≡ Invalid → (reads_at h t r ≡ 0) × (writes_at h t r ≡ 0))
 
--- the item publishes an entry of frame f of domain t (own)
+-- the item publishes an entry of frame f of domain t
 abbrev pub Grants : ℕ → ℕ → Item → Type 0
 Grants t f i = (i.actor.0 ≡ t) × grants i.happened
   where
@@ -64,7 +64,7 @@ Grants t f i = (i.actor.0 ≡ t) × grants i.happened
     grants (Stepped (Exchange gref looked (Publish entry)) Taken) = is_of_frame entry f ≡ true
     grants _ = ⊥
 
--- the item is an access of another domain to frame f of domain t: it reads or writes some of its bytes (own)
+-- the item is an access of another domain to frame f of domain t: it reads or writes some of its bytes
 abbrev pub IsForeignAccess : ℕ → ℕ → Item → Type 0
 IsForeignAccess t f i = (i.actor.0 ≢ t) × touches i.happened
   where
@@ -75,7 +75,7 @@ IsForeignAccess t f i = (i.actor.0 ≢ t) × touches i.happened
         ((from.owner.0 ≡ t) × (from.frame ≡ f)) ⊎ ((to.owner.0 ≡ t) × (to.frame ≡ f))
     touches _ = ⊥
 
--- a page that an owner takes back is not readable by anybody from then on, nor writable, until it grants it again (own)
+-- a page that an owner takes back is not readable by anybody from then on, nor writable, until it grants it again
 abbrev pub PagesTakenBackAreOutOfReach : Type 0
 PagesTakenBackAreOutOfReach =
     (s : Setting) (later before : History) (i : Item) (t f : ℕ) → IsLegalHistory s (i ∷ (later ++ before))

@@ -89,12 +89,12 @@ impl<P: Allows> Core<P> {
         self.machine.begin(dom, request)
     }
 
-    /// Makes the next step of the domain's open call, with its answer where that is the last one. A refused call has
+    /// Makes the next step of the domain's open call, with its answer if that is the last one. A refused call has
     /// left entries, mappings, tables and frames as they were, and holds no pin.
     ///
     /// # Errors
     ///
-    /// `Memory`, only where that step is the access of a store, a poke or a copy, of which its frame keeps a record.
+    /// `Memory`, only if that step is the access of a store, a poke or a copy, of which its frame keeps a record.
     /// The core is as it was then, and the next tick tries again.
     pub fn tick(&mut self, dom: DomId) -> Result<Ticked, Memory>
         ensures stands { IfOk result (λ t. Does (setting_in P.may self.old) self.old.state
@@ -117,7 +117,7 @@ impl<P: Allows> Core<P> {
         self.machine.show(dom, gref)
     }
 
-    /// The domain and the reference of the entry that the domain has mapped under this handle: None where the handle
+    /// The domain and the reference of the entry that the domain has mapped under this handle: None if the handle
     /// names no mapping of it (one that was given up, for example), or for no domain of the run.
     pub fn subject(&self, dom: DomId, handle: Handle) -> Option<(DomId, GrantRef)>
         ensures { (h : History) → CoreStands (setting_in P.may self.now) h self.now.state →
@@ -169,7 +169,7 @@ fn one_event<'a, P: Allows>(core: &mut Core<P>, event: Event<'a>) -> Result<Elem
 ///
 /// # Errors
 ///
-/// The first fault of the configuration, or `Memory` where it has none; the trace is lost then.
+/// The first fault of the configuration, or `Memory` if it has none; the trace is lost then.
 pub fn play<'a, P: Allows + Drop>(
     alloc: Global,
     config: Config,
@@ -198,7 +198,7 @@ impl<P: Allows + Drop> Core<P> {
     ///
     /// # Errors
     ///
-    /// The first fault of the configuration, or `Memory` where it has none.
+    /// The first fault of the configuration, or `Memory` if it has none.
     pub fn new(alloc: Global, config: Config, rights: P) -> Result<Core<P>, StartFault>
         ensures stands { IfOk result (λ core. CoreStands (setting_of config (P.may rights)) [] core.state) }
         ensures kept { IfOk result (λ core. AreKept core.state.frames) }

@@ -40,7 +40,7 @@ fn store_header(domains: &mut [DomainState], dom: DomId, version: u32, frames: u
     }
 }
 
-/// What a step of the domain that saw this does to the words, and to the actor's mappings where it gives one up.
+/// What a step of the domain that saw this does to the words, and to the actor's mappings if it gives one up.
 pub fn apply(domains: &mut [DomainState], actor: DomId, step: Step, seen: Seen)
     ensures { domains.new ≡ applied actor step seen domains.old }
 {

@@ -54,7 +54,7 @@ pub fn no_pin_outlives_its_record()
 {}
 
 /// A page that an owner takes back is not readable by anybody from then on, nor writable, until the owner grants it
-/// again. It is taken back where no entry of its owner is of the page, and none that is invalid has a live pin.
+/// again. It is taken back if no entry of its owner is of the page, and none that is invalid has a live pin.
 pub fn every_page_taken_back_is_out_of_reach()
     ensures { PagesTakenBackAreOutOfReach }
 {}

@@ -5,8 +5,8 @@
 //! an access to bytes. [`play`] plays a list of events.
 //!
 //! What holds: what it does is a legal trace, for every list of events. Each step shows what the steps
-//! before it left. A foreign byte is read or written only where a live pin lets it and the policy
-//! allows it. A revocation is taken exactly where no pin on its entry is live. A refusal names the
+//! before it left. A foreign byte is read or written only if a live pin lets it and the policy
+//! allows it. A revocation is taken exactly if no pin on its entry is live. A refusal names the
 //! first rule that stood. `specs/Legal.antt` says it, over histories (`specs/History.antt`) and over
 //! the rules and paths of calls, which `gt_calls` judges. `specs/Standing.antt` says when a core stands
 //! for a history.

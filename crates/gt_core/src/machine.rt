@@ -87,7 +87,7 @@ fn answer_of(verdict: Verdict) -> Answer
     }
 }
 
-// What a tick answers for a step that saw this: with the call's answer, where the call is over.
+// What a tick answers for a step that saw this: with the call's answer, if the call is over.
 fn told(step: Step, seen: Seen, answer: Option<Answer>) -> Ticked
     ensures { result ≡ ticked_with step seen answer }
 {
@@ -319,7 +319,7 @@ impl<P: Allows + Drop> Machine<P> {
     ///
     /// # Errors
     ///
-    /// The first fault of the configuration, or `Memory` where it has none.
+    /// The first fault of the configuration, or `Memory` if it has none.
     pub fn new(alloc: Global, config: Config, rights: P) -> Result<Machine<P>, StartFault>
         ensures domains { IfOk result (λ m. DomainsStand (setting_of config (P.may rights)) [] m.domains.items) }
         ensures frames { IfOk result (λ m. m.frames ≡ all_zeros (frame_counts config.domains.items)) }

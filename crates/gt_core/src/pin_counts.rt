@@ -97,7 +97,7 @@ impl PinCounts {
     }
 }
 
-// One pin more, where there is room.
+// One pin more, if there is room.
 fn more(pins: u16) -> u16
     requires { pins ≤ MAX_PINS }
     ensures value { result ≡ min (pins + 1) MAX_PINS }

@@ -122,7 +122,7 @@ const PAGE: [(Doing, &str); 7] = [
     (Do(OWNER, REVOKE), "ok"),
 ];
 
-// Part of a page is copied inside its bytes alone.
+// Part of a page is copied only inside its bytes.
 const SUB_PAGE: [(Doing, &str); 6] = [
     (Do(OWNER, GRANT_PART), "ok"),
     (

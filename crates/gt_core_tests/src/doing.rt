@@ -102,9 +102,9 @@ pub enum Doing<'a> {
     Steps(DomId, Request<'a>),
     /// A whole call: its steps as letters with what each saw, and its answer.
     Path(DomId, Request<'a>),
-    /// The beginning of a call alone.
+    /// Only the beginning of a call.
     Begin(DomId, Request<'a>),
-    /// So many ticks of the domain, or fewer where its call ends: the answer, if it ended.
+    /// So many ticks of the domain, or fewer if its call ends: the answer, if it ended.
     Tick(DomId, u32),
     /// A look at an owner's entry from outside.
     Show(u32),
@@ -165,7 +165,7 @@ fn shown_said(alloc: Global, shown: Option<Shown>) -> Result<String, AllocError>
     format!(in alloc; "{entry:?} gen={generation} reads={reads} writes={writes} status={status:x}")
 }
 
-// The answer of the open call, where it ends within so many ticks.
+// The answer of the open call, if it ends within so many ticks.
 fn ended(core: &mut Core<Triples>, dom: DomId, ticks: u32) -> Result<Option<Answer>, Fail> {
     for _ in 0..ticks {
         if let Ticked::Done(_, _, answer) = core.tick(dom)? {
@@ -286,7 +286,7 @@ pub fn said(alloc: Global, core: &mut Core<Triples>, doing: Doing<'_>) -> Result
     }
 }
 
-/// What each event did, a line each: its domain, `begins` or what its step saw, and the answer where the call ended.
+/// What each event did, a line each: its domain, `begins` or what its step saw, and the answer if the call ended.
 pub fn trace_said(alloc: Global, trace: &[Element]) -> Result<String, AllocError> {
     let mut out = String::new(alloc);
     for element in trace {

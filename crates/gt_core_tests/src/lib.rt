@@ -1,6 +1,6 @@
 //! Tests of the machine over events, over what its crate makes public.
 //!
-//! They say what no contract says: worked runs with the answer of each call, and that a call goes on where
+//! They say what no contract says: worked runs with the answer of each call, and that a call goes on if
 //! memory is refused.
 #![tactic(auto)]
 

@@ -10,7 +10,7 @@ use std::alloc::Global;
 use std::process::Abort;
 use std::test::Fail;
 
-// A machine of three domains in which bytes may be copied between these pairs. It is asked for twice where memory was
+// A machine of three domains in which bytes may be copied between these pairs. It is asked for twice if memory was
 // refused.
 fn started(
     rt: &impl Abort,
@@ -26,7 +26,7 @@ fn started(
     }
 }
 
-// The next tick, asked for twice where memory was refused: that leaves the core as it was.
+// The next tick, asked for twice if memory was refused: that leaves the core as it was.
 fn ticked(rt: &impl Abort, core: &mut Core<Triples>, dom: DomId) -> Result<Ticked, Fail> {
     let before = core.show(OWNER, GrantRef(0));
     match core.tick(dom) {
@@ -38,7 +38,7 @@ fn ticked(rt: &impl Abort, core: &mut Core<Triples>, dom: DomId) -> Result<Ticke
     }
 }
 
-// The answer of the open call, where it has one.
+// The answer of the open call, if it has one.
 fn ended(rt: &impl Abort, core: &mut Core<Triples>, dom: DomId) -> Result<Option<Answer>, Fail> {
     for _ in 0..71 {
         if let Ticked::Done(_, _, answer) = ticked(rt, core, dom)? {

@@ -23,7 +23,7 @@ pub type Run = (
     &'static [(Doing<'static>, &'static str)],
 );
 
-// The calls on the owner's entry 0, where nothing else is said; the page is of frame 5 and for the peer.
+// The calls on the owner's entry 0, if nothing else is said; the page is of frame 5 and for the peer.
 pub const GRANT: Request = Request::Grant {
     gref: GrantRef(0),
     entry: Entry::Page {

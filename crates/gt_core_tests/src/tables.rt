@@ -102,7 +102,7 @@ pub const SUB_PAGE_BEHIND_AN_OLDER_HEADER: [(Doing, &str); 5] = [
     (Tick(PEER, 1), "N12 100020000009"),
 ];
 
-// Calls on tables: one step each, and none where they change nothing.
+// Calls on tables: one step each, and none if they change nothing.
 pub const STEPS_ON_HEADERS: [(Doing, &str); 10] = [
     (
         Steps(PEER, Request::QuerySize { dom: OWNER }),

@@ -138,7 +138,7 @@ N15 100020000003",
     (Do(OWNER, Request::Revoke { gref: GrantRef(4) }), "ok"),
 ];
 
-// The owner behind a transitive entry may be copied from.
+// The owner after a transitive entry may be copied from.
 pub const OWNERS_MAY: [(Doing, &str); 4] = [
     (
         Do(

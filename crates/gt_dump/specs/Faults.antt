@@ -5,12 +5,12 @@ use Rattle.gt_streams.specs.declared.fault.ReadFault.TheVariants as reads
 use Rattle.gt_dump.specs.declared.fault.DumpFault.{DumpFault}
 use Rattle.gt_dump.specs.declared.fault.DumpFault.TheVariants as faults
 
--- the fault of a read (own)
+-- the fault of a read
 abbrev pub read_fault : ReadFault → DumpFault
 read_fault reads.Memory = faults.Memory
 read_fault reads.Read = faults.Read
 
--- the word that is printed (own)
+-- the word that is printed
 abbrev pub dump_fault_text : DumpFault → List ℕ
 dump_fault_text faults.Memory = codes "memory"
 dump_fault_text faults.Read = codes "read"

@@ -11,27 +11,27 @@ use Rattle.gt_entry.specs.declared.entry.Entry.{Entry}
 abbrev pub frame_place : ℕ → ℕ
 frame_place version = if version == 2 then 8 else 4
 
--- the bytes of an entry with another frame number, below 256, its lowest byte first (own)
+-- the bytes of an entry with another frame number, below 256, its lowest byte first
 abbrev pub with_frame : ℕ → ℕ → List ℕ → List ℕ
 with_frame version number bytes =
     take (frame_place version) bytes
     ++ (number ∷ take (frame_place version - 1) (0 ∷ 0 ∷ 0 ∷ 0 ∷ 0 ∷ 0 ∷ 0 ∷ []))
 
--- the bytes for a script, whose domains have 64 frames at most: a number past those is taken modulo 64 (own)
+-- the bytes for a script, whose domains have 64 frames at most: a number past those is taken modulo 64
 abbrev pub renumbered : ℕ → Entry → List ℕ → List ℕ
 renumbered version entry bytes =
     if nat_lt (frame_of entry) MAX_FRAMES then bytes else with_frame version (frame_of entry % MAX_FRAMES) bytes
 
--- the true number of a frame that is renumbered (own)
+-- the true number of a frame that is renumbered
 abbrev pub frame_note : Entry → List ℕ
 frame_note entry = if nat_lt (frame_of entry) MAX_FRAMES then [] else part_text (codes "frame") (frame_of entry)
 
--- a comment with these notes, and none where there is no note (own)
+-- a comment with these notes, and none if there is no note
 abbrev pub comment_text : List ℕ → List ℕ
 comment_text [] = []
 comment_text (first ∷ rest) = codes " #" ++ (first ∷ rest)
 
--- `do DOM bytes REF HEX`, and in a comment the entry's true frame and its live bits (own)
+-- `do DOM bytes REF HEX`, and in a comment the entry's true frame and its live bits
 abbrev pub call_text : DomId → ℕ → ℕ → Entry → List ℕ → List ℕ → List ℕ
 call_text dom version ref entry plain live =
     codes "do " ++ decimal dom.0 ++ codes " bytes " ++ decimal ref ++ codes " "

@@ -15,7 +15,7 @@ use std::io::{Read, Write};
 // The most bytes of a dump: 16 frames.
 const MOST_BYTES: usize = 65_536;
 
-// The bytes of the entry at this reference: fewer where the dump ends in it.
+// The bytes of the entry at this reference: fewer if the dump ends in it.
 fn entry_at<'d>(version: u8, dump: &'d [u8], gref: usize) -> &'d [u8]
     requires few { length dump.now ≤ most_bytes }
     requires within { gref ≤ most_bytes }
@@ -53,7 +53,7 @@ fn push_dump(alloc: Global, out: &mut Vec<u8>, asked: Asked, dump: &[u8]) -> Res
 }
 
 /// Writes the text of a dump: a line for each entry of at most 16 frames. After a failed write a beginning of it went
-/// out; nothing where the dump is longer, or where memory is refused.
+/// out; nothing if the dump is longer, or if memory is refused.
 pub fn write_dump<W: Write>(
     alloc: Global,
     asked: Asked,

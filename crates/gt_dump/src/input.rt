@@ -18,7 +18,7 @@ fn digits_of(alloc: Global, input: &[u8]) -> Result<Vec<u8>, AllocError>
         .collect(alloc)
 }
 
-/// The bytes that the input says: its own, or, where it is `hex`, those that its hexadecimal digits say, two digits for
+/// The bytes that the input says: its own, or, if it is `hex`, those that its hexadecimal digits say, two digits for
 /// each. An Err says that it is no such text, that it has more than 1,048,576 bytes, or that memory was refused.
 pub fn bytes_of(alloc: Global, hex: bool, input: Vec<u8>) -> Result<Vec<u8>, DumpFault>
     ensures says { IfOk result (λ bytes. Says hex input.items bytes.items) }

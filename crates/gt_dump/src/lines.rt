@@ -98,7 +98,7 @@ fn is_left_out(asked: Asked, bytes: &[u8]) -> bool
     !asked.all && bytes.len() == entry_size(asked.version) && is_zero(bytes)
 }
 
-/// Appends the text of an entry: its line, or nothing where it is left out. After an Err a part of
+/// Appends the text of an entry: its line, or nothing if it is left out. After an Err a part of
 /// the line may be there.
 pub fn push_told(
     alloc: Global,

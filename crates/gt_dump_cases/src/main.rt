@@ -1,8 +1,8 @@
 //! Tells dumps of grant tables, and prints what `gt_dump` writes for each.
 //!
 //! A word of the command line is one case: the version of the table, the file with its dump, and then
-//! `hex` where the file is hexadecimal text, `all` where entries of zeros are told too, and `script`
-//! where the lines are to be calls of domain 1. `args` has the cases, `data/` the dumps, which
+//! `hex` if the file is hexadecimal text, `all` if entries of zeros are told too, and `script`
+//! if the lines are to be calls of domain 1. `args` has the cases, `data/` the dumps, which
 //! `bench/entries.c` makes from Xen's header, and `stdout` what must be printed. Its lines were
 //! written from what that program names. A case is added there; that costs no proof.
 //!

@@ -13,7 +13,7 @@ use Rattle.gt_entry.specs.Words.{flag}
 abbrev pub field : List ℕ → ℕ → ℕ → ℕ
 field bytes at n = little_number n (drop at bytes)
 
--- the bytes with a number in the n bytes from this place on (own)
+-- the bytes with a number in the n bytes from this place on
 abbrev pub with_field : List ℕ → ℕ → ℕ → ℕ → List ℕ
 with_field bytes at n number = take at bytes ++ (little_bytes n number ++ drop (at + n) bytes)
 
@@ -21,7 +21,7 @@ with_field bytes at n number = take at bytes ++ (little_bytes n number ++ drop (
 abbrev pub flags_of : List ℕ → ℕ
 flags_of bytes = field bytes 0 2
 
--- so many bytes (own)
+-- so many bytes
 abbrev pub AreBytes : ℕ → List ℕ → Type 0
 AreBytes n bytes = (length bytes ≡ n) × All (λ byte. byte < 256) bytes
 
@@ -45,7 +45,7 @@ IsLaidOutV2 bytes (Sub dom ro frame off len) =
 IsLaidOutV2 bytes (Via dom ro dom2 gref) =
     (flags_of bytes ≡ 3 + flag ro) × (field bytes 2 2 ≡ dom.0) × (field bytes 4 2 ≡ dom2.0) × (field bytes 8 4 ≡ gref.0)
 
--- the padding of version 2 is zero (own)
+-- the padding of version 2 is zero
 abbrev pub IsZeroPadded : List ℕ → Entry → Type 0
 IsZeroPadded bytes Invalid = Unit {0}
 IsZeroPadded bytes (Page dom ro frame) = field bytes 4 4 ≡ 0
@@ -66,7 +66,7 @@ pub record SpellsV2 (bytes : List ℕ) (entry : Entry) : Type 0 where
 abbrev pub Spells : ℕ → List ℕ → Entry → Type 0
 Spells version bytes entry = MatchBool (version == 2) (SpellsV2 bytes entry) ((version ≡ 1) × SpellsV1 bytes entry)
 
--- a bit of the flags, by its value, is set (own)
+-- a bit of the flags, by its value, is set
 abbrev pub is_set : ℕ → ℕ → Bool
 is_set flags bit = flags / bit % 2 == 1
 
@@ -81,7 +81,7 @@ entry_size version = if version == 2 then 16 else 8
 -- the field is refused of so many bytes with these flags in a table of this version: a length that
 -- is not the version's, as is any in a version that no table has; a type that is no page or, in
 -- version 2, no transitive entry; a bit of the hypervisor's or of the cache's; the sub-page bit in
--- version 1 or of a transitive entry; a bit that is not defined (own)
+-- version 1 or of a transitive entry; a bit that is not defined
 abbrev pub is_refused : ℕ → ℕ → ℕ → Field → Bool
 is_refused version size flags Length = not (is_table_version version && (size == entry_size version))
 is_refused version size flags Kind = (flags % 4 == 0) || (flags % 4 == 2) || ((flags % 4 == 3) && not (version == 2))
@@ -93,14 +93,14 @@ is_refused version size flags Pat = is_set flags 128
 is_refused version size flags SubPage = is_set flags 256 && (not (version == 2) || (flags % 4 == 3))
 is_refused version size flags Reserved = nat_lt 0 (flags / 512)
 
--- the fields of the flags in the order in which they are looked at (own)
+-- the fields of the flags in the order in which they are looked at
 abbrev pub flag_fields : List Field
 flag_fields = Kind ∷ Reading ∷ Writing ∷ Pwt ∷ Pcd ∷ Pat ∷ SubPage ∷ Reserved ∷ []
 
--- the first field of the flags that is refused in a table of this version (own)
+-- the first field of the flags that is refused in a table of this version
 abbrev pub refused_flag : ℕ → ℕ → Option Field
 refused_flag version flags = find (is_refused version (entry_size version) flags) flag_fields
 
--- the first field that is refused of the bytes, the length before all others (own)
+-- the first field that is refused of the bytes, the length before all others
 abbrev pub first_refused : ℕ → List ℕ → Option Field
 first_refused version bytes = find (is_refused version (length bytes) (flags_of bytes)) (Length ∷ flag_fields)

@@ -6,7 +6,7 @@ use Rattle.gt_entry.specs.declared.entry.Entry.{Entry}
 use Rattle.gt_entry.specs.declared.entry.Entry.TheVariants.{Invalid}
 use Rattle.gt_entry.specs.Entries.{with_ro}
 
--- the entry after a change: the one published, nothing, or the same with another readonly bit (own)
+-- the entry after a change: the one published, nothing, or the same with another readonly bit
 abbrev pub changed_entry : Change → Entry → Entry
 changed_entry (Publish entry) old = entry
 changed_entry Revoke old = Invalid
@@ -14,7 +14,7 @@ changed_entry Withdraw old = Invalid
 changed_entry Demote old = with_ro true old
 changed_entry Promote old = with_ro false old
 
--- how much a change raises the generation (own)
+-- how much a change raises the generation
 abbrev pub raise_of : Change → ℕ
 raise_of (Publish entry) = 1
 raise_of Revoke = 0

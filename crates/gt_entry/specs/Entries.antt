@@ -17,21 +17,21 @@ is_read_only (Page dom ro frame) = ro
 is_read_only (Sub dom ro frame off len) = ro
 is_read_only (Via dom ro dom2 gref) = ro
 
--- the same entry with another readonly bit (own)
+-- the same entry with another readonly bit
 abbrev pub with_ro : Bool → Entry → Entry
 with_ro ro Invalid = Invalid
 with_ro ro (Page dom old frame) = Page dom ro frame
 with_ro ro (Sub dom old frame off len) = Sub dom ro frame off len
 with_ro ro (Via dom old dom2 gref) = Via dom ro dom2 gref
 
--- the frame of its owner that the entry is of, 0 where it is of none (grant_table.h)
+-- the frame of its owner that the entry is of, 0 if it is of none (grant_table.h)
 abbrev pub frame_of : Entry → ℕ
 frame_of Invalid = 0
 frame_of (Page dom ro frame) = frame
 frame_of (Sub dom ro frame off len) = frame
 frame_of (Via dom ro dom2 gref) = 0
 
--- each number of the entry fits its type, as it does in every value of the program (own)
+-- each number of the entry fits its type, as it does in every value of the program
 abbrev pub IsEntry : Entry → Type 0
 IsEntry Invalid = Unit {0}
 IsEntry (Page dom ro frame) = (dom.0 < 65536) × (frame < 2 ^ 64)

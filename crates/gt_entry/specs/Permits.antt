@@ -13,7 +13,7 @@ abbrev pub allows_direction : Bool → Dir → Bool
 allows_direction ro Read = true
 allows_direction ro Write = not ro
 
--- whether the bytes are wanted for a copy (own)
+-- whether the bytes are wanted for a copy
 abbrev pub is_copying : Use → Bool
 is_copying ForMap = false
 is_copying ForCopy = true

@@ -8,29 +8,29 @@ use Rattle.gt_entry.specs.declared.control.Kind.TheVariants.{Via as KindVia}
 use Rattle.gt_entry.specs.declared.control.Control.{Control}
 use Rattle.gt_entry.specs.Words.{flag}
 
--- what the low four bits of the entry's control word are (own)
+-- what the low four bits of the entry's control word are
 abbrev pub low_bits : Entry → ℕ
 low_bits Invalid = 0
 low_bits (Page dom ro frame) = 1 + flag ro
 low_bits (Sub dom ro frame off len) = 9 + flag ro
 low_bits (Via dom ro dom2 gref) = 3 + flag ro
 
--- the domain that the entry names, 0 where it is invalid (own)
+-- the domain that the entry names, 0 if it is invalid
 abbrev pub named_domain : Entry → ℕ
 named_domain Invalid = 0
 named_domain (Page dom ro frame) = dom.0
 named_domain (Sub dom ro frame off len) = dom.0
 named_domain (Via dom ro dom2 gref) = dom.0
 
--- the control word of the entry at a generation, with no pins (own)
+-- the control word of the entry at a generation, with no pins
 abbrev pub idle_word_of : Entry → ℕ → ℕ
 idle_word_of e generation = low_bits e + 268435456 * named_domain e + 17592186044416 * generation
 
--- the control word of the entry at a generation, with these read and write pins (own)
+-- the control word of the entry at a generation, with these read and write pins
 abbrev pub word_of : Entry → ℕ → ℕ → ℕ → ℕ
 word_of e generation reads writes = idle_word_of e generation + 16 * reads + 65536 * writes
 
--- the parts of that word (own)
+-- the parts of that word
 abbrev pub control_with : Entry → ℕ → ℕ → ℕ → Control
 control_with Invalid generation reads writes =
     record {
@@ -48,28 +48,28 @@ control_with (Sub dom ro frame off len) generation reads writes =
 control_with (Via dom ro dom2 gref) generation reads writes =
     record { kind = KindVia; ro = ro; reads = reads; writes = writes; dom = dom; generation = generation }
 
--- body word 0: the frame number, or in bits 0 to 15 the next domain and in 16 to 47 its reference (own)
+-- body word 0: the frame number, or in bits 0 to 15 the next domain and in 16 to 47 its reference
 abbrev pub first_body : Entry → ℕ
 first_body Invalid = 0
 first_body (Page dom ro frame) = frame
 first_body (Sub dom ro frame off len) = frame
 first_body (Via dom ro dom2 gref) = dom2.0 + gref.0 * 65536
 
--- body word 1, of a sub-page alone: in bits 0 to 15 where it begins, in 16 to 31 its length (own)
+-- body word 1, only of a sub-page: in bits 0 to 15 where it begins, in 16 to 31 its length
 abbrev pub second_body : Entry → ℕ
 second_body (Sub dom ro frame off len) = off + len * 65536
 second_body Invalid = 0
 second_body (Page dom ro frame) = 0
 second_body (Via dom ro dom2 gref) = 0
 
--- the body words spell the entry: the second counts for a sub-page alone, and neither for an invalid entry (own)
+-- the body words spell the entry: the second counts only for a sub-page, and neither for an invalid entry
 abbrev pub IsSpelled : Entry → ℕ → ℕ → Type 0
 IsSpelled Invalid first second = Unit {0}
 IsSpelled (Page dom ro frame) first second = first ≡ frame
 IsSpelled (Sub dom ro frame off len) first second = (first ≡ frame) × (second ≡ off + len * 65536)
 IsSpelled (Via dom ro dom2 gref) first second = first ≡ dom2.0 + gref.0 * 65536
 
--- the entry that a control of this kind and two body words spell (own)
+-- the entry that a control of this kind and two body words spell
 abbrev pub entry_with : Kind → Control → ℕ → ℕ → Entry
 entry_with KindInvalid c first second = Invalid
 entry_with KindPage c first second = Page c.dom c.ro first
@@ -77,6 +77,6 @@ entry_with KindSub c first second = Sub c.dom c.ro first (second % 65536) (secon
 entry_with KindVia c first second =
     Via c.dom c.ro (record { 0 = first % 65536 }) (record { 0 = first / 65536 % 2 ^ 32 })
 
--- the entry that a control and two body words spell (own)
+-- the entry that a control and two body words spell
 abbrev pub entry_of : Control → ℕ → ℕ → Entry
 entry_of c first second = entry_with c.kind c first second

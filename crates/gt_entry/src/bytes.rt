@@ -154,7 +154,7 @@ fn flags_of(kind: u16, ro: bool) -> u16
     if ro { kind + READONLY } else { kind }
 }
 
-/// The 8 bytes that spell the entry in a table of version 1; None where none do: for an invalid
+/// The 8 bytes that spell the entry in a table of version 1; None if none do: for an invalid
 /// entry, a sub-page, a transitive entry, and a frame number of more than 32 bits.
 pub fn encode_v1(entry: &Entry) -> Option<[u8; 8]>
     ensures spelled { IfSome result (λ bytes. SpellsV1 bytes entry.now) }

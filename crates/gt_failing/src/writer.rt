@@ -44,7 +44,7 @@ impl FailingWriter {
         }
     }
 
-    // The end, where it has come.
+    // The end, if it has come.
     fn is_at_end(&self) -> io::Result<bool> {
         if self.left != 0 {
             return Ok(false);

@@ -6,12 +6,12 @@ use Rattle.gt_types.specs.declared.config.DomainConfig.{DomainConfig}
 use Rattle.gt_frames.specs.declared.places.FrameCount.{FrameCount}
 use Rattle.gt_frames.specs.declared.places.FrameName.{FrameName}
 
--- how many frames each domain has (own)
+-- how many frames each domain has
 abbrev pub frame_counts : List DomainConfig → List FrameCount
 frame_counts ds = map (λ (d : DomainConfig). record { owner = d.id; frames = d.frames }) ds
 
--- the pool number of a frame, where the frames of these domains begin at this one: they run
--- over the frames of the first domain, then of the second, and so on (own)
+-- the pool number of a frame, if the frames of these domains begin at this one: they run
+-- over the frames of the first domain, then of the second, and so on
 abbrev pub pool_number : List FrameCount → DomId → ℕ → ℕ → Option ℕ
 pool_number [] owner number at = None
 pool_number (d ∷ ds) owner number at =
@@ -19,19 +19,19 @@ pool_number (d ∷ ds) owner number at =
     then (if nat_lt number d.frames then Some (at + number) else None)
     else pool_number ds owner number (at + d.frames)
 
--- how many frames these domains have (own)
+-- how many frames these domains have
 abbrev pub frames_of : List FrameCount → ℕ
 frames_of [] = 0
 frames_of (d ∷ ds) = d.frames + frames_of ds
 
--- the frame of this domain with this number (own)
+-- the frame of this domain with this number
 abbrev pub name_in : FrameCount → ℕ → FrameName
 name_in d number = record { owner = d.owner; number = number }
 
--- the frames of these domains, by name, in the order of their pool numbers (own)
+-- the frames of these domains, by name, in the order of their pool numbers
 abbrev pub names_of : List FrameCount → List FrameName
 names_of ds = flat_map (λ (d : FrameCount). map (name_in d) (range_with_len 0 d.frames)) ds
 
--- the names are the same (own)
+-- the names are the same
 abbrev pub is_name : FrameName → FrameName → Bool
 is_name a b = (a.owner.0 == b.owner.0) && (a.number == b.number)

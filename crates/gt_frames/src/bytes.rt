@@ -1,4 +1,4 @@
-//! The bytes of a record, kept where contracts see a list.
+//! The bytes of a record, kept if contracts see a list.
 ghost use Rattle.std.specs.Prelude.{◌≡◌};
 
 use std::marker::Model;

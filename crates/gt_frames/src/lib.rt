@@ -7,7 +7,7 @@
 //!
 //! [`Frame::read`], [`Frame::write`], [`Frame::copy_between`] and [`Frame::copy_within`] do exactly
 //! what their receipts [`Read`], [`Written`] and [`Copied`] say, overlap included. Nothing else makes a
-//! receipt, and none can be cloned. Where memory is refused nothing changes; reading takes none. The
+//! receipt, and none can be cloned. If memory is refused nothing changes; reading takes none. The
 //! caller shows who may write, by a writ that covers the range.
 //!
 //! [`Frames`] are all frames of a run for one thread: a write or a copy names its frames by owner and

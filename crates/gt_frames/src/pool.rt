@@ -41,7 +41,7 @@ impl Model for Pool {
 #[derive(Drop)]
 pub struct Ends<'p> {
     dest: MutexGuard<'p, Frame>,
-    // None where both ends are one frame.
+    // None if both ends are one frame.
     source: Option<MutexGuard<'p, Frame>>,
 }
 
@@ -94,7 +94,7 @@ impl Pool {
         find(&self.domains, name)
     }
 
-    /// Locks a frame. `None` where there is no such frame, or another one is in its place.
+    /// Locks a frame. `None` if there is no such frame, or another one is in its place.
     pub fn lock(&self, rt: &impl Wait, name: FrameName) -> Option<MutexGuard<'_, Frame>>
         ensures frame { IfSome result (λ g. name_of (mutex_guard_value g) ≡ name) }
         ensures kept { IfSome result (λ g. IsKept (mutex_guard_value g)) }
@@ -124,7 +124,7 @@ impl Pool {
     }
 
     /// Locks the frames at both ends of a copy: the one with the lower pool number first, and one
-    /// lock where both are one frame. `None` where there is no such frame, or another one is in
+    /// lock if both are one frame. `None` if there is no such frame, or another one is in
     /// its place.
     pub fn lock_both(&self, rt: &impl Wait, source: FrameName, dest: FrameName) -> Option<Ends<'_>>
         ensures source { IfSome result (λ e. name_of (source_of e) ≡ source) }

@@ -7,7 +7,7 @@ use crate::FrameBytes;
 use gt_entry::Entry;
 use gt_types::{Dir, DomId, Range, Use};
 
-/// By what a domain may write to a frame. (own)
+/// By what a domain may write to a frame.
 #[derive(Clone, Copy, Debug, PartialEq, Eq)]
 pub enum Ground {
     /// The frame is the writer's own.
@@ -24,7 +24,7 @@ pub enum Ground {
 }
 
 /// Who writes, and by what. It is a plain value that anybody makes; that it covers the range
-/// written is a condition of the writing calls. (own)
+/// written is a condition of the writing calls.
 #[derive(Clone, Copy, Debug, PartialEq, Eq)]
 pub struct Writ {
     pub writer: DomId,

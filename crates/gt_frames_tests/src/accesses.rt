@@ -101,7 +101,7 @@ fn first_bytes<R: Wait>(
     Ok(read_by(rt, run, seat, Route::Own, name, range, room))
 }
 
-// Where a copy of four bytes begins and ends, frame and offset, whether it is made, and the first bytes of the frame
+// If a copy of four bytes begins and ends, frame and offset, whether it is made, and the first bytes of the frame
 // written then.
 const COPIES: [((u64, u16), (u64, u16), bool, &str); 5] = [
     ((0, 0), (0, 1), true, "[1, 1, 2, 3, 4, 0]"),

@@ -12,7 +12,7 @@ fn writ(of: Spot) -> Writ {
     }
 }
 
-// Writes these bytes as the owner, where the frame has that range.
+// Writes these bytes as the owner, if the frame has that range.
 fn wrote(frames: &mut Frames, to: Spot, bytes: &[u8]) -> bool {
     let Ok(len) = u16::try_from(bytes.len()) else {
         return false;
@@ -22,7 +22,7 @@ fn wrote(frames: &mut Frames, to: Spot, bytes: &[u8]) -> bool {
         && frames.write(to.frame, &writ, to.off, bytes).is_ok()
 }
 
-// Copies as the owner of the second place, where both frames have those ranges.
+// Copies as the owner of the second place, if both frames have those ranges.
 fn copied(frames: &mut Frames, from: Spot, to: Spot, len: u16) -> bool {
     let writ = writ(to);
     frames.has_range(from.frame, Range { off: from.off, len })
@@ -43,7 +43,7 @@ fn first_bytes(
     }
 }
 
-// Where a copy begins and ends, its length, whether it is made, and the first bytes of the frame written then: two
+// If a copy begins and ends, its length, whether it is made, and the first bytes of the frame written then: two
 // frames of a domain, forth and back, one frame upwards and downwards over itself, and two frames of two domains, forth
 // and back.
 const COPIES: [(Spot, Spot, u16, bool, &str); 11] = [

@@ -22,7 +22,7 @@ fn first_bytes<R: Wait>(
     }
 }
 
-// Writes these bytes as the owner, where there is such a frame.
+// Writes these bytes as the owner, if there is such a frame.
 fn wrote<R: Wait>(rt: &R, pool: &Pool, to: FrameName, bytes: &[u8]) -> bool {
     let writ = Writ {
         writer: to.owner,
@@ -36,7 +36,7 @@ fn wrote<R: Wait>(rt: &R, pool: &Pool, to: FrameName, bytes: &[u8]) -> bool {
     }
 }
 
-// Copies four bytes as the owner of the second frame, where there are such frames.
+// Copies four bytes as the owner of the second frame, if there are such frames.
 fn copied<R: Wait>(rt: &R, pool: &Pool, from: Spot, to: Spot) -> bool {
     let writ = Writ {
         writer: to.frame.owner,
@@ -50,7 +50,7 @@ fn copied<R: Wait>(rt: &R, pool: &Pool, from: Spot, to: Spot) -> bool {
     }
 }
 
-// Where a copy begins and ends, whether it is made, and the first bytes of the frame written then: both ends one frame,
+// If a copy begins and ends, whether it is made, and the first bytes of the frame written then: both ends one frame,
 // upwards and downwards over itself, two frames of a domain and of two domains, the lower pool number as source and as
 // destination, and frames that are not there.
 const COPIES: [(Spot, Spot, bool, &str); 7] = [

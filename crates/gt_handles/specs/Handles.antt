@@ -5,19 +5,19 @@ use Rattle.std.specs.Coded.{Coded, code_by, coded×, coded_ℕ, coded_list, code
 use Rattle.gt_handles.specs.declared.handles.Handle.{Handle}
 use Rattle.gt_handles.specs.declared.handles.Slot.{Slot}
 
--- what is at each key, how many serials were given, and how many more values fit with no allocation (own)
+-- what is at each key, how many serials were given, and how many more values fit with no allocation
 pub record HandleMap (T : Type 0) : Type 0 where
   pub slots : List (Option (Slot T))
   pub given : ℕ
   pub room : ℕ
 
--- a slot is stored as the pair of its fields (own)
+-- a slot is stored as the pair of its fields
 abbrev pub slot_code : {T : Type 0} → Coded T → Coded (Slot T)
 slot_code {T} code =
     code_by (ℕ × T) (coded× coded_ℕ code) (λ s. (s.serial, s.value)) (λ p. record { serial = p.0; value = p.1 })
     (λ _. refl)
 
--- the map is stored as the tuple of its fields (own)
+-- the map is stored as the tuple of its fields
 abbrev pub kept_code : {T : Type 0} → Coded T → Coded (HandleMap T)
 kept_code {T} code =
     code_by
@@ -27,54 +27,54 @@ kept_code {T} code =
     (λ p. record { slots = p.0; given = p.1.0; room = p.1.1 })
     (λ _. refl)
 
--- both are one handle (own)
+-- both are one handle
 abbrev pub same_handle : Handle → Handle → Bool
 same_handle a b = (a.serial == b.serial) && (a.key == b.key)
 
 module _ {T : Type 0} where
-  -- the value of a slot under this serial (own)
+  -- the value of a slot under this serial
   abbrev pub under : ℕ → Option (Slot T) → Option T
   under serial None = None
   under serial (Some slot) = if slot.serial == serial then Some slot.value else None
 
-  -- the value under a handle (own)
+  -- the value under a handle
   abbrev pub value_of : HandleMap T → Handle → Option T
   value_of s h = under h.serial (slice_index_or s.slots h.key None)
 
-  -- how many handles have a value (own)
+  -- how many handles have a value
   abbrev pub count_of : HandleMap T → ℕ
   count_of s = count_by is_some s.slots
 
-  -- the new map has this under the handle, and every other handle keeps what it had (own)
+  -- the new map has this under the handle, and every other handle keeps what it had
   abbrev pub Updates : HandleMap T → HandleMap T → Handle → Option T → Type 0
   Updates old new h what =
       (other : Handle) → value_of new other ≡ (if same_handle other h then what else value_of old other)
 
-  -- the handle was given, and has no value: it has none for good (own)
+  -- the handle was given, and has no value: it has none for good
   pub record IsSpent (s : HandleMap T) (h : Handle) : Type 0 where
     pub given : h.serial < s.given
     pub gone : value_of s h ≡ None
 
-  -- what was spent stays so (own)
+  -- what was spent stays so
   abbrev pub KeepsSpent : HandleMap T → HandleMap T → Type 0
   KeepsSpent old new = (h : Handle) → IsSpent old h → IsSpent new h
 
-  -- no handle of a lower key has a value (own)
+  -- no handle of a lower key has a value
   abbrev pub IsLeast : HandleMap T → ℕ → Type 0
   IsLeast s key = (lower : Handle) → lower.key < key → value_of s lower ≡ None
 
-  -- no handle has a value (own)
+  -- no handle has a value
   pub record IsEmpty (s : HandleMap T) : Type 0 where
     pub count : count_of s ≡ 0
     pub none : (h : Handle) → value_of s h ≡ None
 
-  -- each handle with a value has a serial that was given, and that no other such handle has (own)
+  -- each handle with a value has a serial that was given, and that no other such handle has
   pub record IsSound (s : HandleMap T) : Type 0 where
     pub given : (h : Handle) (x : T) → value_of s h ≡ Some x → h.serial < s.given
     pub one : (a b : Handle) (x y : T) → value_of s a ≡ Some x → value_of s b ≡ Some y → a.serial ≡ b.serial
         → a.key ≡ b.key
 
-  -- each slot has a serial that was given and that no other slot has, and no key below the lowest has a value (own)
+  -- each slot has a serial that was given and that no other slot has, and no key below the lowest has a value
   pub record IsInOrder (slots : List (Option (Slot T))) (next lowest : ℕ) : Type 0 where
     pub given : (key : ℕ) (slot : Slot T) → slice_index_or slots key None ≡ Some slot → slot.serial < next
     pub one : (a b : ℕ) (x y : Slot T) → slice_index_or slots a None ≡ Some x → slice_index_or slots b None ≡ Some y

@@ -268,7 +268,7 @@ module _ {T : Type 0} where
     and-false true = refl
     and-false false = refl
 
-    -- there was no value where one was inserted
+    -- there was no value if one was inserted
     vacant : (old new : HandleMap T) (h : Handle) (v : T) → value_of old h ≡ None → Updates old new h (Some v)
         → Under h.serial (slice_index_or new.slots h.key None) v → (o : Option (Slot T))
         → slice_index_or old.slots h.key None ≡ o → p (slice_index_or old.slots h.key None) ≡ false

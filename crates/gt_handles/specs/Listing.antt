@@ -6,79 +6,79 @@ use Rattle.gt_handles.specs.declared.handles.Handle.{Handle}
 use Rattle.gt_handles.specs.declared.handles.Slot.{Slot}
 
 module _ {T : Type 0} where
-  -- the value that a list has first under a handle (own)
+  -- the value that a list has first under a handle
   abbrev pub listed : List (Handle × T) → Handle → Option T
   listed [] handle = None
   listed (m ∷ ms) handle = if same_handle m.0 handle then Some m.1 else listed ms handle
 
-  -- the list without the first value under this handle (own)
+  -- the list without the first value under this handle
   abbrev pub unlisted : Handle → List (Handle × T) → List (Handle × T)
   unlisted handle [] = []
   unlisted handle (m ∷ ms) = if same_handle m.0 handle then ms else m ∷ unlisted handle ms
 
-  -- no two values of the list are under one handle (own)
+  -- no two values of the list are under one handle
   abbrev pub AreApart : List (Handle × T) → Type 0
   AreApart [] = Unit {0}
   AreApart (m ∷ ms) = (listed ms m.0 ≡ None) × AreApart ms
 
-  -- the handles have just the values of this list, after so many serials were given (own)
+  -- the handles have just the values of this list, after so many serials were given
   pub record HasJust (kept : HandleMap T) (ms : List (Handle × T)) (given : ℕ) : Type 0 where
     pub named : value_of kept ≡ listed ms
     pub count : count_of kept ≡ length ms
     pub given_is : kept.given ≡ given
     pub apart : AreApart ms
 
-  -- the slot has a value that passes the test (own)
+  -- the slot has a value that passes the test
   abbrev pub has_passing : (T → Bool) → Option (Slot T) → Bool
   has_passing passes None = false
   has_passing passes (Some slot) = passes slot.value
 
-  -- how many values pass the test (own)
+  -- how many values pass the test
   abbrev pub count_passing : (T → Bool) → HandleMap T → ℕ
   count_passing passes kept = count_by (has_passing passes) kept.slots
 
-  -- the new map has one value more, under this handle, which had none (own)
+  -- the new map has one value more, under this handle, which had none
   pub record IsInserted (old new : HandleMap T) (h : Handle) (x : T) : Type 0 where
     pub fresh : value_of old h ≡ None
     pub updates : Updates old new h (Some x)
     pub count : count_of new ≡ count_of old + 1
     pub given : new.given ≡ old.given + 1
 
-  -- the new map lacks the value that was under this handle (own)
+  -- the new map lacks the value that was under this handle
   pub record IsTaken (old new : HandleMap T) (h : Handle) (x : T) : Type 0 where
     pub value : value_of old h ≡ Some x
     pub updates : Updates old new h None
     pub count : count_of new + 1 ≡ count_of old
     pub given : new.given ≡ old.given
 
--- a new map has the values of no list (own)
+-- a new map has the values of no list
 abbrev pub NothingIsListed : Type 0 → Type 0
 NothingIsListed T = HasJust {T = T} (record { slots = []; given = 0; room = 0 }) [] 0
 
--- a value inserted is one more of the list (own)
+-- a value inserted is one more of the list
 abbrev pub InsertedIsListed : Type 0 → Type 0
 InsertedIsListed T =
     (old new : HandleMap T) (h : Handle) (x : T) (xs : List (Handle × T)) (n : ℕ) → IsInserted old new h x
     → HasJust old xs n → HasJust new (xs ++ (h, x) ∷ []) (n + 1)
 
--- a value taken out is one less of the list (own)
+-- a value taken out is one less of the list
 abbrev pub TakenIsUnlisted : Type 0 → Type 0
 TakenIsUnlisted T =
     (old new : HandleMap T) (h : Handle) (x : T) (xs : List (Handle × T)) (n : ℕ) → IsTaken old new h x
     → HasJust old xs n → HasJust new (unlisted h xs) n
 
--- of the values that pass a test there is one more where one that passes is inserted, and as many else (own)
+-- of the values that pass a test there is one more if one that passes is inserted, and as many else
 abbrev pub InsertedIsCounted : Type 0 → Type 0
 InsertedIsCounted T =
     (passes : T → Bool) (old new : HandleMap T) (h : Handle) (x : T) → IsInserted old new h x
     → count_passing passes new ≡ count_passing passes old + cond (passes x) 1 0
 
--- of the values that pass a test there is one less where one that passes is taken out, and as many else (own)
+-- of the values that pass a test there is one less if one that passes is taken out, and as many else
 abbrev pub TakenIsCounted : Type 0 → Type 0
 TakenIsCounted T =
     (passes : T → Bool) (old new : HandleMap T) (h : Handle) (x : T) → IsTaken old new h x
     → count_passing passes new + cond (passes x) 1 0 ≡ count_passing passes old
 
--- no more values pass a test than there are (own)
+-- no more values pass a test than there are
 abbrev pub NoMorePass : Type 0 → Type 0
 NoMorePass T = (passes : T → Bool) (kept : HandleMap T) → count_passing passes kept ≤ count_of kept

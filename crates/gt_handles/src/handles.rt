@@ -7,7 +7,7 @@ use slab::Slab;
 use std::alloc::Global;
 use std::marker::Model;
 
-/// The name of a value: its serial is given once, its key may serve again. (own)
+/// The name of a value: its serial is given once, its key may serve again.
 #[derive(Clone, Copy, Debug, PartialEq, Eq)]
 pub struct Handle {
     pub serial: u64,
@@ -21,7 +21,7 @@ pub struct Slot<T> {
     pub value: T,
 }
 
-/// A finite map from handles to values, with the count of the serials given. (own)
+/// A finite map from handles to values, with the count of the serials given.
 #[derive(Drop)]
 pub struct Handles<T> {
     slab: Slab<Slot<T>>,
@@ -60,7 +60,7 @@ impl<T> Handles<T> {
         }
     }
 
-    /// Makes room for one more value. Where memory is refused the map stays as it was.
+    /// Makes room for one more value. If memory is refused the map stays as it was.
     pub fn reserve(&mut self) -> Result<(), Memory>
         ensures room { OnOk result (1 ≤ self.new.room) }
         ensures succeeds { 1 ≤ self.old.room → IsOk result }
@@ -93,7 +93,7 @@ impl<T> Handles<T> {
         Handle { serial, key }
     }
 
-    /// The value under a handle; `None` where it was never given here, or was taken.
+    /// The value under a handle; `None` if it was never given here, or was taken.
     pub fn get(&self, handle: Handle) -> Option<&T>
         ensures value { option_copied result ≡ value_of self.now handle }
         ensures sound { IsSound self.now }
@@ -104,7 +104,7 @@ impl<T> Handles<T> {
         }
     }
 
-    /// Takes the value under a handle out; `None`, and nothing changes, where there is none.
+    /// Takes the value under a handle out; `None`, and nothing changes, if there is none.
     pub fn take(&mut self, handle: Handle) -> Option<T>
         ensures value { result ≡ value_of self.old handle }
         ensures updates { Updates self.old self.new handle None }
@@ -124,7 +124,7 @@ impl<T> Handles<T> {
         Some(slot.value)
     }
 
-    /// Takes the value with the least key out; `None` where there is no value.
+    /// Takes the value with the least key out; `None` if there is no value.
     pub fn pop(&mut self) -> Option<(Handle, T)>
         ensures value { IfSome result (λ r. value_of self.old r.0 ≡ Some r.1) }
         ensures least { IfSome result (λ r. IsLeast self.old r.0.key) }

@@ -30,11 +30,11 @@ use Rattle.gt_host.specs.Printing.{answer_text}
 
 -- what a call is recorded as
 
--- an end of a copy (own)
+-- an end of a copy
 abbrev pub end_told : End → CopyEnd
 end_told e = record { ptr = e.ptr; dom = e.domid; off = e.offset }
 
--- what a call is recorded as, where calls of its kind are audited: an unmap by the entry that its handle names (own)
+-- what a call is recorded as, if calls of its kind are audited: an unmap by the entry that its handle names
 abbrev pub call_told : (Handle → Option (DomId × GrantRef)) → Asked → Option Hypercall
 call_told subject (asks.Map dom gref flags) = Some (calls.Map dom gref flags)
 call_told subject (asks.Unmap handle) = Some (calls.Unmap (subject handle))
@@ -53,7 +53,7 @@ call_told subject (asks.Store handle off len) = None
 call_told subject (asks.Peek frame off len) = None
 call_told subject (asks.Poke frame off len) = None
 
--- what is recorded of an answer: a map's handle is not (own)
+-- what is recorded of an answer: a map's handle is not
 abbrev pub reply_told : Answer → Reply
 reply_told (answers.Denied denial) = replies.Denied denial
 reply_told answers.Done = replies.Done
@@ -63,76 +63,76 @@ reply_told (answers.Frames frames) = replies.Frames frames
 reply_told (answers.Size size) = replies.Size size
 reply_told (answers.Version version) = replies.Version version
 
--- the reply prints as the answer does; bytes, which no audited call answers, are not recorded (own)
+-- the reply prints as the answer does; bytes, which no audited call answers, are not recorded
 abbrev pub PrintsAs : List (List ℕ) → Answer → Reply → Type 0
 PrintsAs names (answers.Bytes bytes) reply = Unit {0}
 PrintsAs names answer reply = reply_text (type_text (λ name. name) names) reply ≡ answer_text names answer
 
--- the record of a call of this domain that is recorded so, with its answer: none of a call that is not audited (own)
+-- the record of a call of this domain that is recorded so, with its answer: none of a call that is not audited
 abbrev pub record_told : DomId → Option Hypercall → Answer → Option Record
 record_told dom None answer = None
 record_told dom (Some call) answer = Some (record { dom = dom; call = call; reply = reply_told answer })
 
--- the record of an answer, where there is one (own)
+-- the record of an answer, if there is one
 abbrev pub record_with : DomId → Option Hypercall → Option Answer → Option Record
 record_with dom told None = None
 record_with dom told (Some answer) = record_told dom told answer
 
 -- what a trace is recorded as
 
--- the items before a call began, where it began with this item or earlier (own)
+-- the items before a call began, if it began with this item or earlier
 abbrev pub before_begun : Happened → History → History → History
 before_begun (Began request) before earlier = before
 before_begun (Stepped step seen) before earlier = earlier
 
--- the items before the domain's last call began (own)
+-- the items before the domain's last call began
 unfoldable pub before_call : History → ℕ → History
 before_call [] d = []
 before_call (i ∷ before) d =
     if i.actor.0 == d then before_begun i.happened before (before_call before d) else before_call before d
 
--- what a call under way is recorded as, where it began after these items (own)
+-- what a call under way is recorded as, if it began after these items
 abbrev pub underway_told : Setting → DomId → History → Option Underway → Option Hypercall
 underway_told s d begun None = None
 underway_told s d begun (Some c) = call_told (subject_at s begun d) c.request
 
--- what the domain's open call is recorded as: an unmap by the entry that its handle named when it began (own)
+-- what the domain's open call is recorded as: an unmap by the entry that its handle named when it began
 abbrev pub open_told : Setting → History → DomId → Option Hypercall
 open_told s h d = underway_told s d (before_call h d.0) (open_call h d.0)
 
--- what the call of an item is recorded as, where the item came after these (own)
+-- what the call of an item is recorded as, if the item came after these
 abbrev pub item_told : Setting → History → DomId → Happened → Option Hypercall
 item_told s h d (Began request) = call_told (subject_at s h d) (asked request)
 item_told s h d (Stepped step seen) = open_told s h d
 
--- the record of an item that came after these, if it carries the answer of an audited call (own)
+-- the record of an item that came after these, if it carries the answer of an audited call
 abbrev pub record_of : Setting → History → Item → Option Record
 record_of s h i = record_with i.actor (item_told s h i.actor i.happened) i.answer
 
--- the record of an element of a trace (own)
+-- the record of an element of a trace
 abbrev pub record_in : Setting → History → Element → Option Record
 record_in s h (elements.Item i) = record_of s h i
 record_in s h elements.Busy = None
 record_in s h elements.Idle = None
 record_in s h elements.NoDomain = None
 
--- the records of a trace that went on from these items, in the order of the answers (own)
+-- the records of a trace that went on from these items, in the order of the answers
 abbrev pub records_of : Setting → History → List Element → List Record
 records_of s h [] = []
 records_of s h (x ∷ xs) = option_to_list (record_in s h x) ++ records_of s (grown h x) xs
 
 -- the text
 
--- the lines of these records (own)
+-- the lines of these records
 abbrev pub record_lines : List (List ℕ) → List Record → List ℕ
 record_lines names [] = []
 record_lines names (r ∷ rs) = line_text (type_text (λ name. name) names) r ++ record_lines names rs
 
--- the lines of these records, where they are asked for (own)
+-- the lines of these records, if they are asked for
 abbrev pub asked_lines : Bool → List (List ℕ) → List Record → List ℕ
 asked_lines false names rs = []
 asked_lines true names rs = record_lines names rs
 
--- the audit text of a trace, where it is asked for (own)
+-- the audit text of a trace, if it is asked for
 abbrev pub audit_text : Bool → Setting → List (List ℕ) → List Element → List ℕ
 audit_text audit s names trace = asked_lines audit names (records_of s [] trace)

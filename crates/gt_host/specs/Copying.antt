@@ -10,7 +10,7 @@ unfoldable pub end_asked : ScriptCopyEnd → End
 end_asked (Granted dom gref off) = record { ptr = gref.0; domid = dom; offset = off }
 end_asked (Frame dom frame off) = record { ptr = frame; domid = dom; offset = off }
 
--- this flag where the end is given by a grant reference, and none where it is given by a frame (grant_table.h)
+-- this flag if the end is given by a grant reference, and none if it is given by a frame (grant_table.h)
 unfoldable pub flag_of : ℕ → ScriptCopyEnd → ℕ
 flag_of flag (Granted dom gref off) = flag
 flag_of flag (Frame dom frame off) = 0

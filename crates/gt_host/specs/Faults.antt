@@ -11,24 +11,24 @@ use Rattle.gt_host.specs.declared.fault.Fault.TheVariants as runs
 use Rattle.gt_host.specs.declared.fault.PlayFault.{PlayFault}
 use Rattle.gt_host.specs.declared.fault.PlayFault.TheVariants as faults
 
--- what ends a run that has no script (own)
+-- what ends a run that has no script
 abbrev pub fault_of : ScriptError → PlayFault
 fault_of errors.Memory = faults.Memory
 fault_of (errors.Fault fault) = faults.Script fault
 fault_of (errors.Policy fault) = faults.Policy fault
 
--- what ends a run that has no text (own)
+-- what ends a run that has no text
 abbrev pub read_fault : ReadFault → PlayFault
 read_fault reads.Memory = faults.Memory
 read_fault reads.Read = faults.Read
 
--- what ends a run of steps (own)
+-- what ends a run of steps
 abbrev pub ended : Result (Unit {0}) Fault → Result (Unit {0}) PlayFault
 ended (Ok done) = Ok done
 ended (Err runs.Memory) = Err faults.Memory
 ended (Err runs.Write) = Err faults.Write
 
--- what ends a run, as one line: a fault of the script with its line, or a word (own)
+-- what ends a run, as one line: a fault of the script with its line, or a word
 abbrev pub play_fault_text : PlayFault → List ℕ
 play_fault_text (faults.Script fault) = fault_text fault
 play_fault_text (faults.Policy fault) = policy_fault_text fault.line fault.kind

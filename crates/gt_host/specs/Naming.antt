@@ -7,11 +7,11 @@ use Rattle.gt_script.specs.declared.script.ScriptStep.{ScriptStep}
 use Rattle.gt_core.specs.declared.trace.Answer.{Answer}
 use Rattle.gt_host.specs.Runs.{Named, handle_named, named_after}
 
--- each label has the handle that it names (own)
+-- each label has the handle that it names
 abbrev pub AreNamed : Labels → List Named → Type 0
 AreNamed labels named = (dom : ℕ) (label : List ℕ) → handle_in labels dom label ≡ handle_named named dom label
 
--- the labels name what they named before, and what the answer to this line's call names (own)
+-- the labels name what they named before, and what the answer to this line's call names
 abbrev pub NamesMapping : Labels → Labels → DomId → ScriptStep → Answer → Type 0
 NamesMapping old new dom s answer =
     (named : List Named) → AreNamed old named → AreNamed new (named_after named dom s answer)

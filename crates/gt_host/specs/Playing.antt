@@ -21,18 +21,18 @@ use Rattle.gt_host.specs.Runs.{Progress, IsRunOf, KnowsOpen, open_lines}
 use Rattle.gt_streams.specs.Streams.{AppendsBeginning}
 
 -- the domains of the script and its first generation are within the limits
--- of a run, and each step is one of a domain of it (own)
+-- of a run, and each step is one of a domain of it
 abbrev pub CanStart : Contents → Type 0
 CanStart c =
     AreFaultless c.domains × (1 ≤ length c.domains) × (first_gen c ≤ LAST_GENERATION)
     × All (λ s. IsTrue (is_taken c.domains s.dom)) c.steps
 
 -- what is fixed for the run of a script: its domains, what its policy or
--- its triples allow, and the first generation (own)
+-- its triples allow, and the first generation
 abbrev pub setting_of_script : Contents → Setting
 setting_of_script c = record { domains = c.domains; first_generation = first_gen c; may = may_in c }
 
--- the core starts with the domains and the rights of the script (own)
+-- the core starts with the domains and the rights of the script
 pub record StartsFor (c : Contents) (core : CoreModel Rights) : Type 0 where
   pub domains : core.config.domains.items ≡ c.domains
   pub generation : core.config.first_gen ≡ first_gen c
@@ -41,52 +41,52 @@ pub record StartsFor (c : Contents) (core : CoreModel Rights) : Type 0 where
 
 -- The steps lead here, what their events did is a legal trace, and the calls that are
 -- open are those of the trace. Asked of the last point, it holds at the
--- earlier ones too, since a legal trace begins and answers calls one at a time. (own)
+-- earlier ones too, since a legal trace begins and answers calls one at a time.
 abbrev pub IsLegalRunOf : Contents → List ScriptStep → Progress → Type 0
 IsLegalRunOf c steps p =
     IsRunOf (setting_of_script c) (type_names c) steps p × Legal (setting_of_script c) p.events p.trace × KnowsOpen p
 
 -- the text of a run that has come to the end of the script: the lines of
--- its steps, and those of the calls that are open (own)
+-- its steps, and those of the calls that are open
 abbrev pub whole_text : Contents → Progress → List ℕ
 whole_text c p = p.text ++ open_lines c.domains p.open_steps
 
--- that text, and where the audit is asked for the records of what the run did (own)
+-- that text, and if the audit is asked for the records of what the run did
 abbrev pub audited_text : Contents → Bool → Progress → List ℕ
 audited_text c audit p = whole_text c p ++ audit_text audit (setting_of_script c) (type_names c) p.trace
 
--- the text of the script's run went out, with its audit where that is asked for (own)
+-- the text of the script's run went out, with its audit if that is asked for
 abbrev pub WritesRun : Contents → Bool → Option (List ℕ) → Option (List ℕ) → Type 0
 WritesRun c audit old new = (p : Progress) × IsLegalRunOf c c.steps p × Appends old new (audited_text c audit p)
 
--- a beginning of the text went out, of a run that came some way (own)
+-- a beginning of the text went out, of a run that came some way
 abbrev pub BeginsSome : Contents → Option (List ℕ) → Option (List ℕ) → Type 0
 BeginsSome c old new =
     (steps : ℕ) × (p : Progress) × IsLegalRunOf c (take steps c.steps) p × AppendsBeginning old new p.text
 
--- a beginning of the text went out, of a run that came to the end (own)
+-- a beginning of the text went out, of a run that came to the end
 abbrev pub BeginsWhole : Contents → Bool → Option (List ℕ) → Option (List ℕ) → Type 0
 BeginsWhole c audit old new =
     (p : Progress) × IsLegalRunOf c c.steps p × AppendsBeginning old new (audited_text c audit p)
 
--- a beginning of the text went out (own)
+-- a beginning of the text went out
 abbrev pub BeginsRun : Contents → Bool → Option (List ℕ) → Option (List ℕ) → Type 0
 BeginsRun c audit old new = BeginsSome c old new ⊎ BeginsWhole c audit old new
 
--- what went out is a beginning of the text of each run that comes to the end (own)
+-- what went out is a beginning of the text of each run that comes to the end
 abbrev pub BeginsEvery : Contents → Bool → Option (List ℕ) → Option (List ℕ) → Type 0
 BeginsEvery c audit old new =
     (p : Progress) → IsLegalRunOf c c.steps p → AppendsBeginning old new (audited_text c audit p)
 
 -- what the bytes say is a script, and a beginning of its text went out: of a
--- run of it, and of each one that comes to the end (own)
+-- run of it, and of each one that comes to the end
 abbrev pub Begins : (Result Contents Wrong → Type 0) → Bool → Option (List ℕ) → Option (List ℕ) → Type 0
 Begins Told audit old new = (c : Contents) × Told (Ok c) × BeginsRun c audit old new × BeginsEvery c audit old new
 
--- what `play` wrote, where it answers so for bytes that say this: at Ok the
--- text of the run, whole, and its audit where that is asked for;
+-- what `play` wrote, if it answers so for bytes that say this: at Ok the
+-- text of the run, whole, and its audit if that is asked for;
 -- at a fault of the script nothing, and the fault is the script's first; after a failed
--- write a beginning, and where memory is refused that or nothing (own)
+-- write a beginning, and if memory is refused that or nothing
 abbrev pub Played : (Result Contents Wrong → Type 0) → Bool → Option (List ℕ) → Option (List ℕ)
     → Result (Unit {0}) PlayFault → Type 0
 Played Told audit old new (Ok done) = (c : Contents) × Told (Ok c) × WritesRun c audit old new

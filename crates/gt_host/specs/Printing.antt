@@ -6,11 +6,11 @@ use Rattle.gt_texts.specs.Printing.{type_text, denial_text, frames_text, size_te
 use Rattle.gt_core.specs.declared.trace.Answer.{Answer}
 use Rattle.gt_core.specs.declared.trace.Answer.TheVariants as answers
 
--- the bytes of an answer, two lower-case hexadecimal digits each: none where there are none (own)
+-- the bytes of an answer, two lower-case hexadecimal digits each: none if there are none
 abbrev pub bytes_text : List ℕ → List ℕ
 bytes_text bytes = if length bytes == 0 then [] else codes " " ++ encode_lower bytes
 
--- an answer (own)
+-- an answer
 abbrev pub answer_text : List (List ℕ) → Answer → List ℕ
 answer_text names answers.Done = codes "ok"
 answer_text names (answers.Mapped handle) = codes "ok"
@@ -20,22 +20,22 @@ answer_text names (answers.Size size) = size_text size
 answer_text names (answers.Version version) = version_text version
 answer_text names (answers.Denied d) = denial_text (type_text (λ name. name) names) d
 
--- `LINE ID `, which begins a line about the call of that line (own)
+-- `LINE ID `, which begins a line about the call of that line
 abbrev pub call_text : ℕ → DomId → List ℕ
 call_text line dom = decimal line ++ codes " " ++ decimal dom.0 ++ codes " "
 
--- `LINE ID ANSWER` (own)
+-- `LINE ID ANSWER`
 abbrev pub answer_line : List (List ℕ) → ℕ → DomId → Answer → List ℕ
 answer_line names line dom answer = call_text line dom ++ answer_text names answer ++ codes "\n"
 
--- `LINE ID busy`: the domain had a call open (own)
+-- `LINE ID busy`: the domain had a call open
 abbrev pub busy_line : ℕ → DomId → List ℕ
 busy_line line dom = call_text line dom ++ codes "busy\n"
 
--- `LINE ID idle`: the domain has no call open (own)
+-- `LINE ID idle`: the domain has no call open
 abbrev pub idle_line : ℕ → DomId → List ℕ
 idle_line line dom = call_text line dom ++ codes "idle\n"
 
--- `LINE ID open`: the call of that line has no answer when the script ends (own)
+-- `LINE ID open`: the call of that line has no answer when the script ends
 abbrev pub open_line : ℕ → DomId → List ℕ
 open_line line dom = call_text line dom ++ codes "open\n"

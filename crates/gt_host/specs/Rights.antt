@@ -10,16 +10,16 @@ use Rattle.gt_script.specs.Contents.{Contents}
 use Rattle.gt_host.specs.declared.rights.Rights.{Rights}
 use Rattle.gt_host.specs.declared.rights.Rights.TheVariants as rights
 
--- what these rights allow (own)
+-- what these rights allow
 abbrev pub may_by : Rights → TypeId → TypeId → Perms → Bool
 may_by (rights.Table t) source target perm = looks t source.0 target.0 perm
 may_by (rights.Triples t) source target perm = is_listed t.allowed.items source target perm
 
--- what a policy allows, or where there is none these triples (own)
+-- what a policy allows, or if there is none these triples
 abbrev pub may_with : Option Allowed → List Triple → TypeId → TypeId → Perms → Bool
 may_with (Some a) triples source target perm = a.may source.0 target.0 perm
 may_with None triples source target perm = is_listed triples source target perm
 
--- what a script allows: what the policy of its block says, or what its triples list (own)
+-- what a script allows: what the policy of its block says, or what its triples list
 abbrev pub may_in : Contents → TypeId → TypeId → Perms → Bool
 may_in c source target perm = may_with c.policy c.triples source target perm

@@ -41,35 +41,35 @@ use Rattle.gt_host.specs.Showing.{show_line}
 
 -- labels
 
--- a label of a domain, and the handle that a map of that label answered (own)
+-- a label of a domain, and the handle that a map of that label answered
 pub record Named : Type 0 where
   pub dom : DomId
   pub label : List ℕ
   pub handle : Handle
 
--- the handle that a label names for its domain: that of its last map that was answered Ok, which comes first (own)
+-- the handle that a label names for its domain: that of its last map that was answered Ok, which comes first
 abbrev pub handle_named : List Named → ℕ → List ℕ → Option Handle
 handle_named [] dom label = None
 handle_named (n ∷ more) dom label =
     if (n.dom.0 == dom) && bytes_eq n.label label then Some n.handle else handle_named more dom label
 
--- the handle that no map answers (own)
+-- the handle that no map answers
 abbrev pub never_given : Handle
 never_given = record { serial = 2 ^ 64 - 1; key = 0 }
 
--- the handle that a label names (own)
+-- the handle that a label names
 abbrev pub handle_of : List Named → DomId → List ℕ → Handle
 handle_of named dom label = unwrap_or (handle_named named dom.0 label) never_given
 
 -- calls
 
--- the entry that a grant publishes (own)
+-- the entry that a grant publishes
 unfoldable pub entry_of : Grant → Entry
 entry_of (grants.Page dom ro frame) = entries.Page dom ro frame
 entry_of (grants.Sub dom ro frame off len) = entries.Sub dom ro frame off len
 entry_of (grants.Via dom ro to gref) = entries.Via dom ro to gref
 
--- the hexadecimal text of a call on a table: that of an entry (own)
+-- the hexadecimal text of a call on a table: that of an entry
 abbrev pub table_text : TableCall → Option (List ℕ)
 table_text (tables.Grant gref grant) = None
 table_text (tables.GrantBytes gref hex) = Some hex
@@ -82,7 +82,7 @@ table_text (tables.SetupTable frames) = None
 table_text (tables.QuerySize to) = None
 table_text (tables.GetVersion to) = None
 
--- the hexadecimal text of a call that ends a mapping or reaches bytes: that of the bytes that it writes (own)
+-- the hexadecimal text of a call that ends a mapping or reaches bytes: that of the bytes that it writes
 abbrev pub access_text : AccessCall → Option (List ℕ)
 access_text (accesses.Unmap label) = None
 access_text (accesses.Load label off len) = None
@@ -91,22 +91,22 @@ access_text (accesses.Peek frame off len) = None
 access_text (accesses.Poke frame off hex) = Some hex
 access_text (accesses.Copy source dest len) = None
 
--- the hexadecimal text of a call (own)
+-- the hexadecimal text of a call
 abbrev pub text_said : ScriptCall → Option (List ℕ)
 text_said (calls.Table call) = table_text call
 text_said (calls.Map label to gref flags) = None
 text_said (calls.Access call) = access_text call
 
--- the bytes of such a text, none where there is none (own)
+-- the bytes of such a text, none if there is none
 abbrev pub bytes_of : Option (List ℕ) → List ℕ
 bytes_of None = []
 bytes_of (Some hex) = hex_bytes hex
 
--- the bytes that a call of a script says (own)
+-- the bytes that a call of a script says
 abbrev pub bytes_said : ScriptCall → List ℕ
 bytes_said call = bytes_of (text_said call)
 
--- what a call on a table asks of the core, where these are its bytes (own)
+-- what a call on a table asks of the core, if these are its bytes
 unfoldable pub table_request : Bor (List ℕ) → TableCall → Request
 table_request bytes (tables.Grant gref grant) = requests.Grant gref (entry_of grant)
 table_request bytes (tables.GrantBytes gref hex) = requests.GrantBytes gref bytes
@@ -119,8 +119,8 @@ table_request bytes (tables.SetupTable frames) = requests.SetupTable frames
 table_request bytes (tables.QuerySize to) = requests.QuerySize to
 table_request bytes (tables.GetVersion to) = requests.GetVersion to
 
--- what a call asks of the core that ends a mapping or reaches bytes, where its
--- label names this handle and these are its bytes (own)
+-- what a call asks of the core that ends a mapping or reaches bytes, if its
+-- label names this handle and these are its bytes
 unfoldable pub access_request : (List ℕ → Handle) → Bor (List ℕ) → AccessCall → Request
 access_request handle bytes (accesses.Unmap label) = requests.Unmap (handle label)
 access_request handle bytes (accesses.Load label off len) = requests.Load (handle label) off len
@@ -129,61 +129,61 @@ access_request handle bytes (accesses.Peek frame off len) = requests.Peek frame 
 access_request handle bytes (accesses.Poke frame off hex) = requests.Poke frame off bytes
 access_request handle bytes (accesses.Copy source dest len) = requests.Copy (copy_asked source dest len)
 
--- what a call of a script asks of the core, where its labels name these handles and these are its bytes (own)
+-- what a call of a script asks of the core, if its labels name these handles and these are its bytes
 abbrev pub request_of : List Named → DomId → Bor (List ℕ) → ScriptCall → Request
 request_of named dom bytes (calls.Table call) = table_request bytes call
 request_of named dom bytes (calls.Map label to gref flags) = requests.Map to gref flags
 request_of named dom bytes (calls.Access call) = access_request (handle_of named dom) bytes call
 
--- a call of a script asks this of the core, where its labels name these handles (own)
+-- a call of a script asks this of the core, if its labels name these handles
 abbrev pub Asks : List Named → DomId → ScriptCall → Request → Type 0
 Asks named dom call request =
     (bytes : Bor (List ℕ)) × (bytes.now ≡ bytes_said call) × (request ≡ request_of named dom bytes call)
 
--- the label to which a call gives its handle: that of a map (own)
+-- the label to which a call gives its handle: that of a map
 abbrev pub label_given : ScriptCall → Option (List ℕ)
 label_given (calls.Table call) = None
 label_given (calls.Map label to gref flags) = Some label
 label_given (calls.Access call) = None
 
--- the label to which the call of a line gives its handle (own)
+-- the label to which the call of a line gives its handle
 abbrev pub label_in : ScriptAction → Option (List ℕ)
 label_in (actions.Do call) = label_given call
 label_in (actions.Begin call) = label_given call
 label_in (actions.Tick most) = None
 label_in (actions.Show gref) = None
 
--- the handle that an answer gives: that of a map answered Ok (own)
+-- the handle that an answer gives: that of a map answered Ok
 abbrev pub handle_given : Answer → Option Handle
 handle_given (Mapped handle) = Some handle
 handle_given answer = None
 
--- with a label more, where there is one to be given this handle (own)
+-- with a label more, if there is one to be given this handle
 abbrev pub with_name : List Named → DomId → Option (List ℕ) → Option Handle → List Named
 with_name named dom (Some label) (Some handle) = record { dom = dom; label = label; handle = handle } ∷ named
 with_name named dom (Some label) None = named
 with_name named dom None given = named
 
 -- the labels of the domain once its call of this line has its answer: a
--- map answered Ok gives its handle to its label (own)
+-- map answered Ok gives its handle to its label
 abbrev pub named_after : List Named → DomId → ScriptStep → Answer → List Named
 named_after named dom s answer = with_name named dom (label_in s.action) (handle_given answer)
 
 -- answers
 
--- the answer that an element of a trace carries (own)
+-- the answer that an element of a trace carries
 abbrev pub answer_in : Element → Option Answer
 answer_in (elements.Item item) = item.answer
 answer_in elements.Busy = None
 answer_in elements.Idle = None
 answer_in elements.NoDomain = None
 
--- elements of a trace that answer nothing (own)
+-- elements of a trace that answer nothing
 abbrev pub AnswerNothing : List Element → Type 0
 AnswerNothing [] = Unit {0}
 AnswerNothing (element ∷ more) = (answer_in element ≡ None) × AnswerNothing more
 
--- the last of the elements answers, and no earlier one (own)
+-- the last of the elements answers, and no earlier one
 pub record EndsWith (trace : List Element) (answer : Answer) : Type 0 where
   pub before : List Element
   pub last : Element
@@ -192,25 +192,25 @@ pub record EndsWith (trace : List Element) (answer : Answer) : Type 0 where
   pub answers : answer_in last ≡ Some answer
 
 -- what came of a call, by the elements of its beginning and its ticks: it begins, and goes on up to its answer;
--- one that its domain can't begin has no tick (own)
+-- one that its domain can't begin has no tick
 abbrev pub ComesTo : List Element → Outcome → Type 0
 ComesTo trace (Answered answer) =
     (first : Item) × (more : List Element) × (trace ≡ elements.Item first ∷ more) × EndsWith trace answer
 ComesTo trace Busy = trace ≡ elements.Busy ∷ []
 
--- what so many ticks of a domain come to: the last one answers its call, or none of them all does (own)
+-- what so many ticks of a domain come to: the last one answers its call, or none of them all does
 abbrev pub TicksComeTo : ℕ → List Element → Option Answer → Type 0
 TicksComeTo most trace (Some answer) = EndsWith trace answer × (length trace ≤ most)
 TicksComeTo most trace None = AnswerNothing trace × (length trace ≡ most)
 
--- the events of a call: its beginning, and ticks (own)
+-- the events of a call: its beginning, and ticks
 abbrev pub call_events : DomId → Request → ℕ → List Event
 call_events dom request ticks = Begin dom request ∷ replicate ticks (Tick dom)
 
 -- runs
 
 -- how far a run has come: the events so far, what each of them did, what the labels name,
--- the lines whose calls the domains have open, and the text (own)
+-- the lines whose calls the domains have open, and the text
 pub record Progress : Type 0 where
   pub events : List Event
   pub trace : List Element
@@ -219,67 +219,67 @@ pub record Progress : Type 0 where
   pub text : List ℕ
 
 -- before the first line nothing has happened, no label names a
--- handle, no call is open, and nothing is printed (own)
+-- handle, no call is open, and nothing is printed
 abbrev pub at_start : Progress
 at_start = record { events = []; trace = []; named = []; open_steps = λ dom. None; text = [] }
 
--- what happened so far (own)
+-- what happened so far
 abbrev pub history_of : Progress → History
 history_of p = history_after [] p.trace
 
--- with more events, and what each of them did (own)
+-- with more events, and what each of them did
 abbrev pub with_events : Progress → List Event → List Element → Progress
 with_events p events trace = record p { events = p.events ++ events; trace = p.trace ++ trace }
 
--- with a line more (own)
+-- with a line more
 abbrev pub with_line : Progress → List ℕ → Progress
 with_line p line = record p { text = p.text ++ line }
 
--- the domain has the call of this line open from now on, or none (own)
+-- the domain has the call of this line open from now on, or none
 abbrev pub with_call : Progress → DomId → Option ScriptStep → Progress
 with_call p dom step = record p { open_steps = λ d. if d == dom.0 then step else p.open_steps d }
 
--- the domain's call of this line has its answer (own)
+-- the domain's call of this line has its answer
 abbrev pub answered : List (List ℕ) → Progress → DomId → ScriptStep → Answer → Progress
 answered types p dom s answer =
     record p { named = named_after p.named dom s answer; text = p.text ++ answer_line types s.line dom answer }
 
--- a call from its beginning on came to this (own)
+-- a call from its beginning on came to this
 abbrev pub after_call : List (List ℕ) → Progress → ScriptStep → Outcome → Progress
 after_call types p s (Answered answer) = answered types p s.dom s answer
 after_call types p s Busy = with_line p (busy_line s.line s.dom)
 
--- a call was begun, and not answered or answered at once (own)
+-- a call was begun, and not answered or answered at once
 abbrev pub after_item : List (List ℕ) → Progress → ScriptStep → Option Answer → Progress
 after_item types p s None = with_call p s.dom (Some s)
 after_item types p s (Some answer) = answered types p s.dom s answer
 
--- the beginning of a call did this; a domain of the run is not idle then (own)
+-- the beginning of a call did this; a domain of the run is not idle then
 abbrev pub after_beginning : List (List ℕ) → Progress → ScriptStep → Element → Progress
 after_beginning types p s (elements.Item item) = after_item types p s item.answer
 after_beginning types p s elements.Busy = with_line p (busy_line s.line s.dom)
 after_beginning types p s elements.Idle = p
 after_beginning types p s elements.NoDomain = p
 
--- ticks of the domain's call, which this line began, came to this (own)
+-- ticks of the domain's call, which this line began, came to this
 abbrev pub after_ticks : List (List ℕ) → Progress → DomId → ScriptStep → Option Answer → Progress
 after_ticks types p dom begun (Some answer) = answered types (with_call p dom None) dom begun answer
 after_ticks types p dom begun None = p
 
--- the line `do ID CALL` (own)
+-- the line `do ID CALL`
 abbrev pub DoLine : List (List ℕ) → ScriptStep → ScriptCall → Progress → Progress → Type 0
 DoLine types s call p q =
     (request : Request) × Asks p.named s.dom call request
     × (ticks : ℕ) × (trace : List Element) × (outcome : Outcome) × (length trace ≡ 1 + ticks) × ComesTo trace outcome
     × (q ≡ after_call types (with_events p (call_events s.dom request ticks) trace) s outcome)
 
--- the line `begin ID CALL` (own)
+-- the line `begin ID CALL`
 abbrev pub BeginLine : List (List ℕ) → ScriptStep → ScriptCall → Progress → Progress → Type 0
 BeginLine types s call p q =
     (request : Request) × Asks p.named s.dom call request
     × (x : Element) × (q ≡ after_beginning types (with_events p (Begin s.dom request ∷ []) (x ∷ [])) s x)
 
--- the line `tick ID N`: idle where the domain has no call open, and then nothing happens (own)
+-- the line `tick ID N`: idle if the domain has no call open, and then nothing happens
 abbrev pub TickLine : List (List ℕ) → ScriptStep → ℕ → Option ScriptStep → Progress → Progress → Type 0
 TickLine types s most None p q = (open_call (history_of p) s.dom.0 ≡ None) × (q ≡ with_line p (idle_line s.line s.dom))
 TickLine types s most (Some begun) p q =
@@ -287,38 +287,38 @@ TickLine types s most (Some begun) p q =
     × TicksComeTo most trace answer
     × (q ≡ after_ticks types (with_events p (replicate ticks (Tick s.dom)) trace) s.dom begun answer)
 
--- the line `show ID REF`: what the entry is after what happened so far (own)
+-- the line `show ID REF`: what the entry is after what happened so far
 abbrev pub ShowLine : Setting → ScriptStep → GrantRef → Progress → Progress → Type 0
 ShowLine t s gref p q = q ≡ with_line p (show_line s.line s.dom gref (shown_at t (history_of p) s.dom gref.0))
 
--- what a line of the body asks for (own)
+-- what a line of the body asks for
 abbrev pub RunsLine : Setting → List (List ℕ) → ScriptStep → ScriptAction → Progress → Progress → Type 0
 RunsLine t types s (actions.Do call) p q = DoLine types s call p q
 RunsLine t types s (actions.Begin call) p q = BeginLine types s call p q
 RunsLine t types s (actions.Tick count) p q = TickLine types s count (p.open_steps s.dom.0) p q
 RunsLine t types s (actions.Show gref) p q = ShowLine t s gref p q
 
--- the steps, one after the other, lead from one point of a run to another (own)
+-- the steps, one after the other, lead from one point of a run to another
 abbrev pub LeadsTo : Setting → List (List ℕ) → Progress → List ScriptStep → Progress → Type 0
 LeadsTo t types p [] q = p ≡ q
 LeadsTo t types p (s ∷ steps) q = (r : Progress) × RunsLine t types s s.action p r × LeadsTo t types r steps q
 
--- this is where the steps of a script lead (own)
+-- this is if the steps of a script lead
 abbrev pub IsRunOf : Setting → List (List ℕ) → List ScriptStep → Progress → Type 0
 IsRunOf t types steps p = LeadsTo t types at_start steps p
 
--- a domain has a line's call open exactly where it has one open by what happened (own)
+-- a domain has a line's call open exactly if it has one open by what happened
 abbrev pub KnowsOpen : Progress → Type 0
 KnowsOpen p = (dom : ℕ) → is_some (p.open_steps dom) ≡ is_some (open_call (history_of p) dom)
 
 -- the end
 
--- the line of a call that is open at the end of the script (own)
+-- the line of a call that is open at the end of the script
 abbrev pub open_text : DomId → Option ScriptStep → List ℕ
 open_text dom None = []
 open_text dom (Some s) = open_line s.line dom
 
--- the lines of the open calls, in the order of the domains (own)
+-- the lines of the open calls, in the order of the domains
 abbrev pub open_lines : List DomainConfig → (ℕ → Option ScriptStep) → List ℕ
 open_lines [] steps = []
 open_lines (d ∷ ds) steps = open_text d.id (steps d.id.0) ++ open_lines ds steps

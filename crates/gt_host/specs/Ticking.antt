@@ -18,13 +18,13 @@ use Rattle.gt_host.specs.OpenCalls.{call_in}
 use Rattle.gt_host.specs.Recording.{IsAudited}
 use Rattle.gt_host.specs.Runs.{Progress, ComesTo, TicksComeTo, KnowsOpen, call_events, history_of}
 
--- the events did what they may after the history, and the core stands for what they leave (own)
+-- the events did what they may after the history, and the core stands for what they leave
 pub record Happens (s : Setting) (h : History) (events : List Event) (trace : List Element)
     (core : CoreState) : Type 0 where
   pub legal : LegalAfter s h events trace
   pub stands : CoreStands s (history_after h trace) core
 
--- a call comes to this, by its beginning and some ticks (own)
+-- a call comes to this, by its beginning and some ticks
 pub record Calls (s : Setting) (h : History) (dom : DomId) (request : Request) (core : CoreState)
     (outcome : Outcome) : Type 0 where
   pub ticks : ℕ
@@ -33,7 +33,7 @@ pub record Calls (s : Setting) (h : History) (dom : DomId) (request : Request) (
   pub comes : ComesTo trace outcome
   pub happens : Happens s h (call_events dom request ticks) trace core
 
--- at most so many ticks of a domain come to this (own)
+-- at most so many ticks of a domain come to this
 pub record TicksTo (s : Setting) (h : History) (dom : DomId) (most : ℕ) (core : CoreState)
     (answer : Option Answer) : Type 0 where
   pub ticks : ℕ
@@ -42,19 +42,19 @@ pub record TicksTo (s : Setting) (h : History) (dom : DomId) (most : ℕ) (core 
   pub comes : TicksComeTo most trace answer
   pub happens : Happens s h (replicate ticks (Tick dom)) trace core
 
--- the core stands for some history, and the domain is one of the run (own)
+-- the core stands for some history, and the domain is one of the run
 pub record IsReady (s : Setting) (dom : DomId) (core : CoreState) : Type 0 where
   pub history : History
   pub stands : CoreStands s history core
   pub known : domain_of s.domains dom ≢ None
 
--- what is kept beside the core is what a run that has come here knows: what labels name, and the open calls (own)
+-- what is kept beside the core is what a run that has come here knows: what labels name, and the open calls
 pub record IsKept (kept : Kept) (p : Progress) : Type 0 where
   pub names : AreNamed kept.labels p.named
   pub calls : (dom : ℕ) → call_in kept.calls dom ≡ p.open_steps dom
 
 -- the run has come to this point: what it did is legal, and the core and what is
--- kept stand for it; it is recorded, where that is asked for (own)
+-- kept stand for it; it is recorded, if that is asked for
 pub record HasCome (s : Setting) (audit : Bool) (p : Progress) (core : CoreState) (kept : Kept) : Type 0 where
   pub legal : Legal s p.events p.trace
   pub stands : CoreStands s (history_of p) core
@@ -62,11 +62,11 @@ pub record HasCome (s : Setting) (audit : Bool) (p : Progress) (core : CoreState
   pub knows : KnowsOpen p
   pub audited : IsAudited s audit p.trace kept
 
--- text was appended, in the run as in the code (own)
+-- text was appended, in the run as in the code
 abbrev pub IsAppended : List ℕ → List ℕ → List ℕ → List ℕ → Type 0
 IsAppended was is before after = (text : List ℕ) × (is ≡ was ++ text) × (after ≡ before ++ text)
 
--- from each point that the run may have come to, this leads to a next one (own)
+-- from each point that the run may have come to, this leads to a next one
 abbrev pub Leads : Setting → (Progress → Progress → Type 0) → CoreState → CoreState → Kept → Kept → List ℕ → List ℕ
     → Type 0
 Leads s ToNext old_core new_core old_kept new_kept before after =

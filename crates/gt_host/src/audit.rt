@@ -10,7 +10,7 @@ use gt_lines::Text;
 use gt_types::{Allows, DomId};
 use std::alloc::{AllocError, Global};
 
-/// The records of a run, where they are asked for: one for each answer of an audited call, in the order of
+/// The records of a run, if they are asked for: one for each answer of an audited call, in the order of
 /// the answers.
 #[derive(Drop)]
 pub struct Audit {
@@ -28,7 +28,7 @@ fn end_told(end: End) -> CopyEnd
     }
 }
 
-// How a call is recorded that the domain is about to make; None where such calls are not audited. An unmap is
+// How a call is recorded that the domain is about to make; None if such calls are not audited. An unmap is
 // recorded by the entry that is mapped now: once it has its answer, its handle may name none.
 fn call_told<P: Allows>(core: &Core<P>, dom: DomId, request: Request<'_>) -> Option<Hypercall>
     ensures { IsAbout (setting_of core.now.config (P.may core.now.rights)) core.now.state
@@ -86,7 +86,7 @@ fn push_records(out: &mut Vec<u8>, records: &[Record], names: &[Text]) -> Result
 }
 
 impl Audit {
-    /// No records yet, and none to come where they are not asked for.
+    /// No records yet, and none to come if they are not asked for.
     pub fn new(alloc: Global, is_on: bool) -> Audit
         ensures on { result.is_on ≡ is_on }
         ensures records { result.records.items ≡ [] }
@@ -97,7 +97,7 @@ impl Audit {
         }
     }
 
-    /// How the call is recorded that the domain is about to make: None where such calls are not audited, or
+    /// How the call is recorded that the domain is about to make: None if such calls are not audited, or
     /// no records are asked for.
     pub fn about<P: Allows>(
         &self,
@@ -115,7 +115,7 @@ impl Audit {
         }
     }
 
-    /// Records the answer of the domain's call, as `about` gave it; nothing where that was None.
+    /// Records the answer of the domain's call, as `about` gave it; nothing if that was None.
     pub fn record(
         &mut self,
         dom: DomId,
@@ -133,7 +133,7 @@ impl Audit {
         Ok(())
     }
 
-    /// Appends the lines of the records, where they are asked for. After an Err a part of them may be there.
+    /// Appends the lines of the records, if they are asked for. After an Err a part of them may be there.
     pub fn push_lines(&self, out: &mut Vec<u8>, names: &[Text]) -> Result<(), AllocError>
         ensures { OnOk result
             (out.new.items ≡ out.old.items ++ asked_lines self.now.is_on names.now self.now.records.items) }

@@ -31,7 +31,7 @@ fn end_asked(end: ScriptCopyEnd) -> End
     }
 }
 
-// This flag where the end is given by a grant reference.
+// This flag if the end is given by a grant reference.
 #[tactic(auto, unfolding(crate::specs::Copying::flag_of))]
 fn flag_of(flag: u16, end: ScriptCopyEnd) -> u16
     ensures is { result ≡ flag_of flag end }

@@ -64,7 +64,7 @@ impl From<WriteFault> for Fault {
 pub enum PlayFault {
     /// The first fault of the script, with the number of its line. Nothing was written.
     Script(ScriptFault),
-    /// The first fault of the script, where it is one of its policy block. Nothing was written.
+    /// The first fault of the script, if it is one of its policy block. Nothing was written.
     Policy(BlockFault),
     /// Memory was refused. A beginning of the text was written.
     Memory,

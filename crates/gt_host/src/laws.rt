@@ -27,7 +27,7 @@ pub fn every_script_prints_one_text()
     every_text_tells_one_thing();
 }
 
-/// A law: where a run stopped early, what it wrote is a beginning of what each run writes that comes to the end.
+/// A law: if a run stopped early, what it wrote is a beginning of what each run writes that comes to the end.
 pub fn every_beginning_is_of_the_text()
     ensures { (c : Contents) (audit : Bool) (old new : Option (List ℕ)) →
         BeginsRun c audit old new → BeginsEvery c audit old new }

@@ -6,9 +6,9 @@
 //! same code.
 //!
 //! What holds: the text that went out is that of a run of the script, and what the run did is a legal
-//! trace of the core. It is whole where `play` answers Ok. A script with a fault writes nothing, and
-//! the fault is the script's first. After a failed write, or where memory is refused, what went out is
-//! a beginning of such a text. Where the audit is asked for, the records of what the run did follow,
+//! trace of the core. It is whole if `play` answers Ok. A script with a fault writes nothing, and
+//! the fault is the script's first. After a failed write, or if memory is refused, what went out is
+//! a beginning of such a text. If the audit is asked for, the records of what the run did follow,
 //! and no other line changes.
 //!
 //! It uses `gt_script` (what a script says), `gt_core` (what its calls do), `gt_policy`, `gt_allow` and

@@ -133,7 +133,7 @@ fn play_bytes<W: Write>(
 /// Plays the script that the reader has. It runs the lines on the core, one after the other. It writes a line for each
 /// answer, for what a line shows, and at the end for each call that is open.
 ///
-/// It reads at most 1,048,577 bytes. A script with a fault writes nothing. After a failed write, or where memory is
+/// It reads at most 1,048,577 bytes. A script with a fault writes nothing. After a failed write, or if memory is
 /// refused, a beginning of the text was written.
 ///
 /// With `audit` a line for each answer of an audited call follows, in the order of the answers; no other

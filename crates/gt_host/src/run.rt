@@ -121,7 +121,7 @@ pub fn bytes_said<'a>(alloc: Global, call: &ScriptCall<'a>) -> Result<Vec<u8>, A
     }
 }
 
-// What a call on a table asks of the core, where it says these bytes.
+// What a call on a table asks of the core, if it says these bytes.
 #[tactic(auto, unfolding(crate::specs::Runs::table_request))]
 fn table_request<'a, 'c>(bytes: &'c [u8], call: &TableCall<'a>) -> Request<'c>
     ensures { result ≡ table_request bytes.entry call.now }
@@ -143,7 +143,7 @@ fn table_request<'a, 'c>(bytes: &'c [u8], call: &TableCall<'a>) -> Request<'c>
     }
 }
 
-// What a call asks of the core that ends a mapping or reaches bytes, where it says these bytes.
+// What a call asks of the core that ends a mapping or reaches bytes, if it says these bytes.
 #[tactic(auto, unfolding(crate::specs::Runs::access_request))]
 fn access_request<'a, 'c>(
     labels: &Labels<'a>,

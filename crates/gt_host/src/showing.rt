@@ -106,7 +106,7 @@ fn push_shown(alloc: Global, out: &mut Vec<u8>, shown: Option<Shown>) -> Result<
     push_status(alloc, out, status_word(&control))
 }
 
-/// Appends the line that shows an entry of the domain: None where the reference is past its table.
+/// Appends the line that shows an entry of the domain: None if the reference is past its table.
 /// After an Err a part of the line may be there.
 pub fn push_show_line(
     alloc: Global,

@@ -13,7 +13,7 @@ fn outcome(alloc: Global, text: &[u8], is_policy: bool) -> anyhow::Result<String
     Ok(said_of(alloc, text, true)?.text)
 }
 
-// Each outcome that differs from that of the beginning with one byte less, behind its count of bytes.
+// Each outcome that differs from that of the beginning with one byte less, after its count of bytes.
 fn outcomes(alloc: Global, text: &[u8], is_policy: bool) -> anyhow::Result<String> {
     let mut out = String::new(alloc);
     let mut before = String::from_str(alloc, "none")?;
@@ -29,7 +29,7 @@ fn outcomes(alloc: Global, text: &[u8], is_policy: bool) -> anyhow::Result<Strin
 }
 
 /// What the beginnings of a script print with their records: from the empty one to the whole, each time that it
-/// changes. Where a beginning prints other lines with its records than without, one more line says so.
+/// changes. If a beginning prints other lines with its records than without, one more line says so.
 pub fn script_beginnings<R: Runtime + AllocGlobal>(
     rt: &R,
     alloc: Global,

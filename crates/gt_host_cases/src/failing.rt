@@ -20,7 +20,7 @@ fn untold_read(alloc: Global, script: &[u8], audit: bool) -> Option<usize> {
     None
 }
 
-// Each write fails after so many bytes, for each number of them; then the flush alone, and then nothing. The first
+// Each write fails after so many bytes, for each number of them; then only the flush, and then nothing. The first
 // number after which `play` answers otherwise, or what went out is no beginning of the text.
 fn untold_write(alloc: Global, script: &[u8], text: &[u8], audit: bool) -> Option<usize> {
     for left in 0..text.len() + 2 {

@@ -27,7 +27,7 @@ fn tried(alloc: Global, text: &str, lines: &str) -> anyhow::Result<String> {
     Ok(out)
 }
 
-/// What is listed of a policy. Where its text has a line `====`, the lines below that are tried in the place of the `@`
+/// What is listed of a policy. If its text has a line `====`, the lines below that are tried in the place of the `@`
 /// above it, one after the other.
 pub fn policy_said<R: Runtime>(rt: &R, alloc: Global, name: &str) -> anyhow::Result<String> {
     let path = format!(in alloc; "{name}.te")?;

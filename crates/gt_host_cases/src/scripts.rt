@@ -48,7 +48,7 @@ pub fn script_named<R: Runtime + AllocGlobal>(
     Ok(fs::read(rt, path.as_str())?)
 }
 
-/// What a text prints as a script, with or without its records. Where its audit prints other lines, one more says so.
+/// What a text prints as a script, with or without its records. If its audit prints other lines, one more says so.
 pub fn said_of(alloc: Global, script: &[u8], audit: bool) -> anyhow::Result<Played> {
     let mut said = play_once(alloc, script, audit)?;
     if said.is_refused {

@@ -1,4 +1,4 @@
--- What the words of a call say (own): REF, DOM and the others as in Fields.
+-- What the words of a call say: REF, DOM and the others as in Fields.
 use Rattle.std.specs.Prelude.{ℕ, ◌||◌, Bool, List, [], ◌∷◌, Option, Some, None, if◌then◌else◌, codes}
 use Rattle.std.specs.Option.{option_map}
 use Rattle.std.specs.Str.{bytes_eq}
@@ -20,7 +20,7 @@ use Rattle.gt_lines.specs.declared.calls.ScriptCall.TheVariants as calls
 use Rattle.gt_lines.specs.declared.calls.ScriptAction.{ScriptAction}
 use Rattle.gt_lines.specs.declared.calls.ScriptAction.TheVariants as actions
 
--- a page: DOM MODE FRAME (own)
+-- a page: DOM MODE FRAME
 unfoldable pub page_of : List (List ℕ) → Option Grant
 page_of (dom ∷ mode ∷ frame ∷ []) = do
   d ← domain_word dom
@@ -29,7 +29,7 @@ page_of (dom ∷ mode ∷ frame ∷ []) = do
   Some (grants.Page d m f)
 page_of _ = None
 
--- a sub-page: DOM MODE FRAME OFF LEN (own)
+-- a sub-page: DOM MODE FRAME OFF LEN
 unfoldable pub sub_of : List (List ℕ) → Option Grant
 sub_of (dom ∷ mode ∷ frame ∷ off ∷ len ∷ []) = do
   d ← domain_word dom
@@ -40,7 +40,7 @@ sub_of (dom ∷ mode ∷ frame ∷ off ∷ len ∷ []) = do
   Some (grants.Sub d m f o n)
 sub_of _ = None
 
--- a transitive entry: DOM MODE DOM2 REF2 (own)
+-- a transitive entry: DOM MODE DOM2 REF2
 unfoldable pub via_of : List (List ℕ) → Option Grant
 via_of (dom ∷ mode ∷ to ∷ gref ∷ []) = do
   d ← domain_word dom
@@ -50,13 +50,13 @@ via_of (dom ∷ mode ∷ to ∷ gref ∷ []) = do
   Some (grants.Via d m t r)
 via_of _ = None
 
--- the entry that a grant publishes, by its kind (own)
+-- the entry that a grant publishes, by its kind
 unfoldable pub granted : List ℕ → List (List ℕ) → Option Grant
 granted kind args = if bytes_eq kind (codes "page") then page_of args
     else (if bytes_eq kind (codes "sub") then sub_of args
     else (if bytes_eq kind (codes "via") then via_of args else None))
 
--- what follows `grant`: REF and an entry (own)
+-- what follows `grant`: REF and an entry
 unfoldable pub grant_of : List (List ℕ) → Option TableCall
 grant_of (gref ∷ kind ∷ args) = do
   r ← reference_word gref
@@ -64,7 +64,7 @@ grant_of (gref ∷ kind ∷ args) = do
   Some (tables.Grant r e)
 grant_of _ = None
 
--- what follows `bytes`: REF HEX (own)
+-- what follows `bytes`: REF HEX
 unfoldable pub bytes_of : List (List ℕ) → Option TableCall
 bytes_of (gref ∷ digits ∷ []) = do
   r ← reference_word gref
@@ -72,7 +72,7 @@ bytes_of (gref ∷ digits ∷ []) = do
   Some (tables.GrantBytes r h)
 bytes_of _ = None
 
--- what follows `map`: LABEL DOM REF FLAGS (own)
+-- what follows `map`: LABEL DOM REF FLAGS
 unfoldable pub map_of : List (List ℕ) → Option ScriptCall
 map_of (label ∷ dom ∷ gref ∷ flags ∷ []) = do
   l ← text_where label_word label
@@ -82,14 +82,14 @@ map_of (label ∷ dom ∷ gref ∷ flags ∷ []) = do
   Some (calls.Map l d r f)
 map_of _ = None
 
--- what follows `unmap`: LABEL (own)
+-- what follows `unmap`: LABEL
 unfoldable pub unmap_of : List (List ℕ) → Option AccessCall
 unmap_of (label ∷ []) = do
   l ← text_where label_word label
   Some (accesses.Unmap l)
 unmap_of _ = None
 
--- what follows `load`: LABEL OFF LEN (own)
+-- what follows `load`: LABEL OFF LEN
 unfoldable pub load_of : List (List ℕ) → Option AccessCall
 load_of (label ∷ off ∷ len ∷ []) = do
   l ← text_where label_word label
@@ -98,7 +98,7 @@ load_of (label ∷ off ∷ len ∷ []) = do
   Some (accesses.Load l o n)
 load_of _ = None
 
--- what follows `store`: LABEL OFF HEX (own)
+-- what follows `store`: LABEL OFF HEX
 unfoldable pub store_of : List (List ℕ) → Option AccessCall
 store_of (label ∷ off ∷ digits ∷ []) = do
   l ← text_where label_word label
@@ -107,7 +107,7 @@ store_of (label ∷ off ∷ digits ∷ []) = do
   Some (accesses.Store l o h)
 store_of _ = None
 
--- what follows `peek`: FRAME OFF LEN (own)
+-- what follows `peek`: FRAME OFF LEN
 unfoldable pub peek_of : List (List ℕ) → Option AccessCall
 peek_of (frame ∷ off ∷ len ∷ []) = do
   f ← u64_word frame
@@ -116,7 +116,7 @@ peek_of (frame ∷ off ∷ len ∷ []) = do
   Some (accesses.Peek f o n)
 peek_of _ = None
 
--- what follows `poke`: FRAME OFF HEX (own)
+-- what follows `poke`: FRAME OFF HEX
 unfoldable pub poke_of : List (List ℕ) → Option AccessCall
 poke_of (frame ∷ off ∷ digits ∷ []) = do
   f ← u64_word frame
@@ -125,7 +125,7 @@ poke_of (frame ∷ off ∷ digits ∷ []) = do
   Some (accesses.Poke f o h)
 poke_of _ = None
 
--- an end of a copy: `gref` DOM REF OFF, or `frame` DOM FRAME OFF (own)
+-- an end of a copy: `gref` DOM REF OFF, or `frame` DOM FRAME OFF
 unfoldable pub end_of : List ℕ → List ℕ → List ℕ → List ℕ → Option ScriptCopyEnd
 end_of kind dom place off = if bytes_eq kind (codes "gref") then (do
   d ← domain_word dom
@@ -137,7 +137,7 @@ end_of kind dom place off = if bytes_eq kind (codes "gref") then (do
     o ← u16_word off
     Some (ends.Frame d f o)) else None)
 
--- what follows `copy`: END END LEN, the source first (own)
+-- what follows `copy`: END END LEN, the source first
 unfoldable pub copy_of : List (List ℕ) → Option AccessCall
 copy_of (from_kind ∷ from_dom ∷ from ∷ from_off ∷ to_kind ∷ to_dom ∷ to ∷ to_off ∷ len ∷ []) = do
   s ← end_of from_kind from_dom from from_off
@@ -146,7 +146,7 @@ copy_of (from_kind ∷ from_dom ∷ from ∷ from_off ∷ to_kind ∷ to_dom ∷
   Some (accesses.Copy s d n)
 copy_of _ = None
 
--- what follows `revoke`, `withdraw`, `demote`, `promote`, and `show` and its domain: REF (own)
+-- what follows `revoke`, `withdraw`, `demote`, `promote`, and `show` and its domain: REF
 unfoldable pub only_reference : List (List ℕ) → Option GrantRef
 only_reference (gref ∷ []) = reference_word gref
 only_reference _ = None
@@ -156,12 +156,12 @@ unfoldable pub only_number : List (List ℕ) → Option ℕ
 only_number (number ∷ []) = u32_word number
 only_number _ = None
 
--- what follows `size` and `getversion`: DOM (own)
+-- what follows `size` and `getversion`: DOM
 unfoldable pub only_domain : List (List ℕ) → Option DomId
 only_domain (dom ∷ []) = domain_word dom
 only_domain _ = None
 
--- a call on a table, by its word (own)
+-- a call on a table, by its word
 unfoldable pub table_of : List ℕ → List (List ℕ) → Option TableCall
 table_of word args = if bytes_eq word (codes "grant") then grant_of args
     else (if bytes_eq word (codes "bytes") then bytes_of args
@@ -174,7 +174,7 @@ table_of word args = if bytes_eq word (codes "grant") then grant_of args
     else (if bytes_eq word (codes "size") then option_map tables.QuerySize (only_domain args)
     else (if bytes_eq word (codes "getversion") then option_map tables.GetVersion (only_domain args) else None)))))))))
 
--- a call that ends a mapping or reaches bytes, by its word (own)
+-- a call that ends a mapping or reaches bytes, by its word
 unfoldable pub access_of : List ℕ → List (List ℕ) → Option AccessCall
 access_of word args = if bytes_eq word (codes "unmap") then unmap_of args
     else (if bytes_eq word (codes "load") then load_of args
@@ -183,27 +183,27 @@ access_of word args = if bytes_eq word (codes "unmap") then unmap_of args
     else (if bytes_eq word (codes "poke") then poke_of args
     else (if bytes_eq word (codes "copy") then copy_of args else None)))))
 
--- the word of a call that ends a mapping or reaches bytes (own)
+-- the word of a call that ends a mapping or reaches bytes
 abbrev pub is_access_word : List ℕ → Bool
 is_access_word word =
     ((((bytes_eq word (codes "unmap") || bytes_eq word (codes "load")) || bytes_eq word (codes "store"))
     || bytes_eq word (codes "peek")) || bytes_eq word (codes "poke")) || bytes_eq word (codes "copy")
 
--- a call word and its arguments (own)
+-- a call word and its arguments
 unfoldable pub call_of : List (List ℕ) → Option ScriptCall
 call_of [] = None
 call_of (word ∷ args) = if bytes_eq word (codes "map") then map_of args
     else (if is_access_word word then option_map calls.Access (access_of word args)
     else option_map calls.Table (table_of word args))
 
--- what follows `tick` and its domain: N (own)
+-- what follows `tick` and its domain: N
 unfoldable pub tick_of : List (List ℕ) → Option ScriptAction
 tick_of (count ∷ []) = do
   n ← tick_word count
   Some (actions.Tick n)
 tick_of _ = None
 
--- what a body line's first word says together with the words after its domain (own)
+-- what a body line's first word says together with the words after its domain
 unfoldable pub action_of : List ℕ → List (List ℕ) → Option ScriptAction
 action_of word args = if bytes_eq word (codes "do") then option_map actions.Do (call_of args)
     else (if bytes_eq word (codes "begin") then option_map actions.Begin (call_of args)

@@ -11,7 +11,7 @@ use Rattle.gt_types.specs.declared.GrantRef.{GrantRef}
 use Rattle.gt_lines.specs.Numbers.{decimal_value, below}
 
 infixl 10 ◌>>=◌
--- what follows, where there is a value to follow (own)
+-- what follows, if there is a value to follow
 abbrev pub ◌>>=◌ : {A B : Type 0} → Option A → (A → Option B) → Option B
 None >>= f = None
 (Some x) >>= f = f x
@@ -25,16 +25,16 @@ unfoldable pub name_word : List ℕ → Bool
 name_word [] = false
 name_word (b ∷ bs) = is_ascii_alphabetic b && list_all name_byte bs
 
--- a byte of a label after its first: a letter, a digit or `_` (own)
+-- a byte of a label after its first: a letter, a digit or `_`
 abbrev pub label_byte : ℕ → Bool
 label_byte b = is_ascii_alphanumeric b || (b == 95)
 
--- a label: a letter, and then at most 31 such bytes (own)
+-- a label: a letter, and then at most 31 such bytes
 unfoldable pub label_word : List ℕ → Bool
 label_word [] = false
 label_word (b ∷ bs) = (is_ascii_alphabetic b && nat_le (length bs) 31) && list_all label_byte bs
 
--- a number below a limit (own)
+-- a number below a limit
 abbrev pub number_word : ℕ → List ℕ → Option ℕ
 number_word limit word = decimal_value word >>= below limit
 
@@ -62,31 +62,31 @@ domain_word word = if bytes_eq word (codes "self") then Some (record { 0 = 32752
   n ← u16_word word
   Some (record { 0 = n }))
 
--- `rw` or `ro`: whether it is read-only (own)
+-- `rw` or `ro`: whether it is read-only
 unfoldable pub mode_word : List ℕ → Option Bool
 mode_word word = if bytes_eq word (codes "rw") then Some false
     else (if bytes_eq word (codes "ro") then Some true else None)
 
--- the flags of a map: a number, or `rw` for host_map and `ro` for host_map with readonly (own)
+-- the flags of a map: a number, or `rw` for host_map and `ro` for host_map with readonly
 unfoldable pub flags_word : List ℕ → Option ℕ
 flags_word word = if bytes_eq word (codes "rw") then Some 2
     else (if bytes_eq word (codes "ro") then Some 6 else u32_word word)
 
--- the steps of a tick: 1 to 100,000 (own)
+-- the steps of a tick: 1 to 100,000
 unfoldable pub tick_word : List ℕ → Option ℕ
 tick_word word = do
   n ← number_word 100001 word
   if n == 0 then None else Some n
 
--- a generation of an entry, of which there is a last (own)
+-- a generation of an entry, of which there is a last
 unfoldable pub generation_word : List ℕ → Option ℕ
 generation_word word = number_word (LAST_GENERATION + 1) word
 
--- a word that passes a test (own)
+-- a word that passes a test
 abbrev pub text_where : (List ℕ → Bool) → List ℕ → Option (List ℕ)
 text_where test word = if test word then Some word else None
 
--- what is before the first colon, and what follows it (own)
+-- what is before the first colon, and what follows it
 unfoldable pub at_colon : List ℕ → Option (List ℕ × List ℕ)
 at_colon [] = None
 at_colon (b ∷ bs) = if b == 58 then Some ([], bs) else option_map (λ parts. (b ∷ parts.0, parts.1)) (at_colon bs)

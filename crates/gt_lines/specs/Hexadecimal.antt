@@ -7,16 +7,16 @@ use Rattle.std.specs.Result.{result_unwrap_or}
 use Rattle.std.specs.Str.{bytes_eq}
 use Rattle.hex.specs.Hex.{decode_of}
 
--- an even number of hexadecimal digits of either case, at most 8,192, or `-` for no bytes (own)
+-- an even number of hexadecimal digits of either case, at most 8,192, or `-` for no bytes
 unfoldable pub hex_word : List ℕ → Bool
 hex_word word =
     bytes_eq word (codes "-")
     || ((length word % 2 == 0 && nat_le (length word) 8192) && list_all is_ascii_hexdigit word)
 
--- the bytes of such a word, two digits for each, the high four bits first (own)
+-- the bytes of such a word, two digits for each, the high four bits first
 unfoldable pub hex_bytes : List ℕ → List ℕ
 hex_bytes word = if bytes_eq word (codes "-") then [] else result_unwrap_or (decode_of word) []
 
--- every such word but `-` is decoded as a whole, and these are its bytes (own)
+-- every such word but `-` is decoded as a whole, and these are its bytes
 abbrev pub SaysItsBytes : List ℕ → Type 0
 SaysItsBytes word = hex_word word ≡ true → (word ≡ codes "-") ⊎ (decode_of word ≡ Ok (hex_bytes word))

@@ -1,4 +1,4 @@
--- What the words of a line say (own).
+-- What the words of a line say.
 use Rattle.std.specs.Prelude.{ℕ, List, [], ◌∷◌, Option, Some, None, if◌then◌else◌, codes}
 use Rattle.std.specs.Option.{option_map}
 use Rattle.std.specs.Str.{bytes_eq}
@@ -14,7 +14,7 @@ use Rattle.gt_lines.specs.declared.lines.DomainLine.{DomainLine}
 use Rattle.gt_lines.specs.declared.lines.Line.{Line}
 use Rattle.gt_lines.specs.declared.lines.Line.TheVariants as lines
 
--- what follows `triple`: SOURCE TARGET PERMISSION (own)
+-- what follows `triple`: SOURCE TARGET PERMISSION
 unfoldable pub triple_of : List (List ℕ) → Option TripleLine
 triple_of (source ∷ target ∷ permission ∷ []) = do
   s ← text_where name_word source
@@ -23,12 +23,12 @@ triple_of (source ∷ target ∷ permission ∷ []) = do
   Some (record { source = s; target = t; perm = p })
 triple_of _ = None
 
--- what follows `wear`: N (own)
+-- what follows `wear`: N
 unfoldable pub wear_of : List (List ℕ) → Option ℕ
 wear_of (first ∷ []) = generation_word first
 wear_of _ = None
 
--- what follows `domain`: ID USER:ROLE:TYPE FRAMES TABLEFRAMES VERSION (own)
+-- what follows `domain`: ID USER:ROLE:TYPE FRAMES TABLEFRAMES VERSION
 unfoldable pub domain_of : List (List ℕ) → Option DomainLine
 domain_of (id ∷ label ∷ frames ∷ table_frames ∷ version ∷ []) = do
   i ← decimal_number id
@@ -39,12 +39,12 @@ domain_of (id ∷ label ∷ frames ∷ table_frames ∷ version ∷ []) = do
   Some (record { id = i; type_name = t; frames = f; table_frames = n; version = v })
 domain_of _ = None
 
--- what a line of the body asks, by its word and what follows its domain (own)
+-- what a line of the body asks, by its word and what follows its domain
 unfoldable pub asked_of : List ℕ → List (List ℕ) → Option BodyLine
 asked_of word args = if is_signal_word word then option_map bodies.Signal (signal_of word args)
     else option_map bodies.Action (action_of word args)
 
--- a line of the body: its word, then ID and what follows (own)
+-- a line of the body: its word, then ID and what follows
 unfoldable pub body_of : List ℕ → List (List ℕ) → Option Line
 body_of word [] = None
 body_of word (id ∷ args) = do
@@ -52,7 +52,7 @@ body_of word (id ∷ args) = do
   a ← asked_of word args
   Some (lines.Body n a)
 
--- a line of a script by its first word (own)
+-- a line of a script by its first word
 abbrev pub line_of : List (List ℕ) → Option Line
 line_of [] = None
 line_of (word ∷ args) = if bytes_eq word (codes "triple") then option_map lines.Triple (triple_of args)

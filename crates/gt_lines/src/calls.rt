@@ -138,7 +138,7 @@ pub enum ScriptCall<'a> {
 pub enum ScriptAction<'a> {
     /// `do ID CALL`: the call from its beginning to its answer.
     Do(ScriptCall<'a>),
-    /// `begin ID CALL`: the beginning of the call alone.
+    /// `begin ID CALL`: only the beginning of the call.
     Begin(ScriptCall<'a>),
     /// `tick ID N`: up to N steps, from 1 to 100,000, of the call that the domain has open.
     Tick(u32),
@@ -362,7 +362,7 @@ fn read_copy<'a>(args: &[&'a [u8]]) -> Option<AccessCall<'a>>
     }
 }
 
-// A reference, alone.
+// Only a reference.
 #[tactic(auto, unfolding(crate::specs::Calls::only_reference))]
 fn only_reference(args: &[&[u8]]) -> Option<GrantRef>
     ensures { result ≡ only_reference (map (λ word. word.now) args.now) }
@@ -373,7 +373,7 @@ fn only_reference(args: &[&[u8]]) -> Option<GrantRef>
     }
 }
 
-// A number of 32 bits, alone.
+// Only a number of 32 bits.
 #[tactic(auto, unfolding(crate::specs::Calls::only_number))]
 fn only_number(args: &[&[u8]]) -> Option<u32>
     ensures { result ≡ only_number (map (λ word. word.now) args.now) }
@@ -384,7 +384,7 @@ fn only_number(args: &[&[u8]]) -> Option<u32>
     }
 }
 
-// A domain, alone.
+// Only a domain.
 #[tactic(auto, unfolding(crate::specs::Calls::only_domain))]
 fn only_domain(args: &[&[u8]]) -> Option<DomId>
     ensures { result ≡ only_domain (map (λ word. word.now) args.now) }

@@ -26,7 +26,7 @@ impl Number {
         }
     }
 
-    /// The number, where it is below the limit.
+    /// The number, if it is below the limit.
     pub fn below(self, limit: u64) -> Option<u64>
         ensures number { result ≡ number_below limit self }
         ensures value { (n : ℕ) → self ≡ number_of n → result ≡ value_below limit n }

@@ -9,7 +9,7 @@ use Rattle.gt_streams.specs.declared.fault.ReadFault.TheVariants as reads
 use Rattle.gt_listing.specs.declared.fault.ListingFault.{ListingFault}
 use Rattle.gt_listing.specs.declared.fault.ListingFault.TheVariants as faults
 
--- what ends a listing that has no policy (own)
+-- what ends a listing that has no policy
 abbrev pub fault_of : ℕ → PolicyFaultKind → ListingFault
 fault_of line kinds.Memory = faults.Memory
 fault_of line kinds.Syntax = faults.Policy (record { line = line; kind = kinds.Syntax })
@@ -19,12 +19,12 @@ fault_of line (kinds.Permission name) = faults.Policy (record { line = line; kin
 fault_of line (kinds.Outside word) = faults.Policy (record { line = line; kind = kinds.Outside word })
 fault_of line kinds.Limit = faults.Policy (record { line = line; kind = kinds.Limit })
 
--- what ends a listing that has no text (own)
+-- what ends a listing that has no text
 abbrev pub read_fault : ReadFault → ListingFault
 read_fault reads.Memory = faults.Memory
 read_fault reads.Read = faults.Read
 
--- what ends a listing, as one line: a fault of the text with its line, or a word (own)
+-- what ends a listing, as one line: a fault of the text with its line, or a word
 abbrev pub listing_fault_text : ListingFault → List ℕ
 listing_fault_text (faults.Utf8 line) = codes "line " ++ decimal line ++ codes ": utf8"
 listing_fault_text (faults.Policy fault) = fault_text fault.line fault.kind

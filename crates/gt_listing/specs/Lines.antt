@@ -6,15 +6,15 @@ use Rattle.gt_types.specs.declared.perms.Perms.{Perms}
 use Rattle.gt_types.specs.declared.rights.Triple.{Triple}
 use Rattle.gt_listing.specs.Listing.{line_of, is_one}
 
--- the line of a triple, where it may be (own)
+-- the line of a triple, if it may be
 abbrev pub triple_text : List (List ℕ) → (ℕ → ℕ → Perms → Bool) → Triple → List ℕ
 triple_text types may x = if is_one may x then line_of types x else []
 
--- the lines of a source and a target, one for each permission (own)
+-- the lines of a source and a target, one for each permission
 abbrev pub pair_text : List (List ℕ) → (ℕ → ℕ → Perms → Bool) → TypeId → TypeId → List ℕ
 pair_text types may source target =
     flat_map (λ perm. triple_text types may (record { source = source; target = target; perm = perm })) every_permission
 
--- the lines of a source, with each target in turn (own)
+-- the lines of a source, with each target in turn
 abbrev pub source_text : List (List ℕ) → (ℕ → ℕ → Perms → Bool) → List TypeId → TypeId → List ℕ
 source_text types may ids source = flat_map (λ target. pair_text types may source target) ids

@@ -6,27 +6,27 @@ use Rattle.gt_types.specs.declared.perms.Perms.{Perms}
 use Rattle.gt_types.specs.declared.rights.Triple.{Triple}
 use Rattle.gt_policy.specs.Listing.{name_of}
 
--- `SOURCE TARGET PERMISSION` (own)
+-- `SOURCE TARGET PERMISSION`
 abbrev pub triple_line : List ℕ → List ℕ → Perms → List ℕ
 triple_line source target perm = source ++ codes " " ++ target ++ codes " " ++ names.permission_name perm ++ codes "\n"
 
--- the line of a triple, by the names of its types (own)
+-- the line of a triple, by the names of its types
 abbrev pub line_of : List (List ℕ) → Triple → List ℕ
 line_of types x = triple_line (name_of types x.source.0) (name_of types x.target.0) x.perm
 
--- all triples of a source and a target, by permission (own)
+-- all triples of a source and a target, by permission
 abbrev pub pair_triples : TypeId → TypeId → List Triple
 pair_triples source target =
     map (λ perm. record { source = source; target = target; perm = perm }) names.every_permission
 
--- all triples of these types: by source, then by target, then by permission (own)
+-- all triples of these types: by source, then by target, then by permission
 abbrev pub triples_of : List TypeId → List Triple
 triples_of ids = flat_map (λ source. flat_map (λ target. pair_triples source target) ids) ids
 
--- whether a triple is one that may be (own)
+-- whether a triple is one that may be
 abbrev pub is_one : (ℕ → ℕ → Perms → Bool) → Triple → Bool
 is_one may x = may x.source.0 x.target.0 x.perm
 
--- the lines of those triples of these types that may be, in their order (own)
+-- the lines of those triples of these types that may be, in their order
 abbrev pub listing : List (List ℕ) → (ℕ → ℕ → Perms → Bool) → List TypeId → List ℕ
 listing types may ids = flat_map (line_of types) (filter (is_one may) (triples_of ids))

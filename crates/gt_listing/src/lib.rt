@@ -5,8 +5,8 @@
 //! drive the same code.
 //!
 //! What holds: the text that went out is the lines of the allowed triples, by source, then by target,
-//! then by permission. It is whole where `policy` answers Ok. A text with a fault writes nothing, and
-//! the fault is the text's first. After a failed write, or where memory is refused, what went out is a
+//! then by permission. It is whole if `policy` answers Ok. A text with a fault writes nothing, and
+//! the fault is the text's first. After a failed write, or if memory is refused, what went out is a
 //! beginning of those lines.
 //!
 //! It uses `gt_policy` and `gt_allow` (what a text allows), `gt_types` (types and permissions) and

@@ -37,7 +37,7 @@ fn list_bytes<W: Write>(alloc: Global, input: &[u8], writer: &mut W) -> Result<(
 /// PERMISSION` each, by the name of the source, then of the target, in the order of their bytes, then
 /// by permission: map_read, map_write, unmap, transfer, setup, copy, query.
 ///
-/// It reads at most 1,048,577 bytes. A text with a fault writes nothing. After a failed write, or where memory is
+/// It reads at most 1,048,577 bytes. A text with a fault writes nothing. After a failed write, or if memory is
 /// refused, a beginning of the lines was written.
 pub fn policy<R: Read, W: Write>(
     alloc: Global,

@@ -22,19 +22,19 @@ use Rattle.gt_calls.specs.declared.action.Verdict.TheVariants.{Granted, Refused}
 use Rattle.gt_calls.specs.Path.{Continuation}
 use Rattle.gt_live.specs.Walks.{AreMoments, Called, IsWalk, after, shown}
 
--- the step is an access to bytes, and none on the words (own)
+-- the step is an access to bytes, and none on the words
 abbrev pub IsAccess : Step → Type 0
 IsAccess (ReadBytes dom frame off len) = Unit {0}
 IsAccess (WriteBytes dom frame off len) = Unit {0}
 IsAccess (CopyBytes from to len) = Unit {0}
 IsAccess step = ⊥
 
--- what follows on this way after these values (own)
+-- what follows on this way after these values
 abbrev pub onward : Continuation → List Seen → Continuation
 onward way values vs = way (values ++ vs)
 
 -- A call came to this access: the steps that took its seat's view from v to w are those of
--- its way, one after another, and the access is what comes next (own)
+-- its way, one after another, and the access is what comes next
 pub record ComesTo (k : Layout) (way : Continuation) (access : Step) (v w : View) : Type 0 where
   pub steps : List Moment
   pub view : w ≡ after steps v
@@ -44,14 +44,14 @@ pub record ComesTo (k : Layout) (way : Continuation) (access : Step) (v w : View
   pub is_access : IsAccess access
 
 -- of the actions on this way, over the values of a whole call, none is an access to bytes but the one
--- that comes after the values before (own)
+-- that comes after the values before
 abbrev pub IsOnlyAccess : Continuation → List Seen → List Seen → Type 0
 IsOnlyAccess way before whole =
     (vs rest : List Seen) (s : Step) → whole ≡ vs ++ rest → way vs ≡ Some (Makes s) → IsAccess s → vs ≡ before
 
 -- A call with this access was made whole: it came to the access, which shows nothing, and went on from there to its
 -- end, at which its way is Ok; so the access stands after the steps on the words that it came by and before those
--- that it ended with, and it made no other (own)
+-- that it ended with, and it made no other
 pub record Accessed (k : Layout) (way : Continuation) (access : Step) (v w : View) : Type 0 where
   pub at : View
   pub comes : ComesTo k way access v at
@@ -59,38 +59,38 @@ pub record Accessed (k : Layout) (way : Continuation) (access : Step) (v w : Vie
   pub only : IsOnlyAccess way (shown comes.steps) ((shown comes.steps ++ Nothing ∷ []) ++ shown ends.steps)
 
 -- an access that was not made, since memory was refused or a frame of
--- another name was in the place of the one wanted (own)
+-- another name was in the place of the one wanted
 abbrev pub IsOfAccess : Denial → Type 0
 IsOfAccess denial = (denial ≡ denial_of N26 NoFacts) ⊎ (denial ≡ denial_of N16 NoFacts)
 
 -- A call with an access was answered so. Ok: by its whole way, and what it answers is of
 -- the access. A refusal: the way's own; or the access could not be made, and the call went
--- on to its end all the same, which gives its pins back (own)
+-- on to its end all the same, which gives its pins back
 abbrev pub AnsweredBy : {R : Type 0} → Layout → Continuation → (Step → R → Type 0) → Result R Denial → View → View
     → Type 0
 AnsweredBy k way tells (Ok r) v w = (access : Step) × Accessed k way access v w × tells access r
 AnsweredBy k way tells (Err denial) v w =
     Called k way (Refused denial) v w ⊎ ((access : Step) × Accessed k way access v w × IsOfAccess denial)
 
--- the frame of this owner with this number (own)
+-- the frame of this owner with this number
 abbrev pub frame_named : DomId → ℕ → FrameName
 frame_named owner number = record { owner = owner; number = number }
 
--- the byte at this place (own)
+-- the byte at this place
 abbrev pub spot_of : Place → Spot
 spot_of place = record { frame = frame_named place.owner place.frame; off = place.off }
 
--- these are bytes of just the frame and range that the access reads (own)
+-- these are bytes of just the frame and range that the access reads
 abbrev pub IsReadBy : Step → Reading → Type 0
 IsReadBy (ReadBytes dom frame off len) r = IsReadOf r (frame_named dom frame) off len
 IsReadBy step r = ⊥
 
--- this writer wrote these bytes to just the frame and range that the access writes (own)
+-- this writer wrote these bytes to just the frame and range that the access writes
 abbrev pub IsWrittenBy : DomId → List ℕ → Step → Writing → Type 0
 IsWrittenBy writer bytes (WriteBytes dom frame off len) r = r ≡ writing_at (frame_named dom frame) off bytes writer
 IsWrittenBy writer bytes step r = ⊥
 
--- this writer copied just between the places and so many bytes as the access says (own)
+-- this writer copied just between the places and so many bytes as the access says
 abbrev pub IsCopiedBy : DomId → Step → Copying → Type 0
 IsCopiedBy writer (CopyBytes from to len) r = r ≡ copying_at (spot_of from) (spot_of to) len writer
 IsCopiedBy writer step r = ⊥

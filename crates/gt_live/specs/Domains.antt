@@ -55,12 +55,12 @@ use Rattle.gt_live.specs.Walks.{AreMoments, Called, after}
 abbrev pub AllowRelation : Type 0
 AllowRelation = TypeId → TypeId → Perms → Bool
 
--- what a domain knows by itself (own)
+-- what a domain knows by itself
 abbrev pub knowledge : Config → AllowRelation → Domain → CallerKnowledge
 knowledge c may d = knowledge_of c.domains.items c.first_gen may d.own.items (own_table d.seat.view) d.mappings
 
 -- the domain is of the run of these words and knows its own entries, and
--- its seat has just the pins of its mappings (own)
+-- its seat has just the pins of its mappings
 pub record IsDomainOf (b : Board) (c : Config) (may : AllowRelation) (d : Domain) : Type 0 where
   pub seat : IsSeatOf b d.seat
   pub rows : (r : ℕ) → r < TABLE_ENTRIES → last_of r d.seat.view
@@ -71,36 +71,36 @@ pub record IsDomainOf (b : Board) (c : Config) (may : AllowRelation) (d : Domain
       → IsMappingOf b.layout c.domains.items may d.seat.dom d.seat.view m
   pub pins : PinsAreOf b.layout d.seat.view d.mappings
 
--- the domain came with this monitor (own)
+-- the domain came with this monitor
 abbrev pub IsOf : {P : Type 0} → (P → AllowRelation) → Monitor P → Domain → Type 0
 IsOf may m d = IsDomainOf m.words m.config (may m.rights) d
 
--- what the domain knows by itself, and what the monitor allows (own)
+-- what the domain knows by itself, and what the monitor allows
 abbrev pub known : {P : Type 0} → (P → AllowRelation) → Monitor P → Domain → CallerKnowledge
 known may m d = knowledge m.config (may m.rights) d
 
 -- a call of the domain d asked this and was answered so, after which the domain is e: its steps are those
--- of the call's path, each made as the words say, and the answer is the path's (own)
+-- of the call's path, each made as the words say, and the answer is the path's
 abbrev pub Answered : {P : Type 0} → (P → AllowRelation) → Monitor P → Domain → Request → Verdict → Domain → Type 0
 Answered may m d request verdict e =
     Called m.words.layout (path_of (known may m d) d.seat.dom request) verdict d.seat.view e.seat.view
 
--- the same of a call with an access, whose answer says this of it (own)
+-- the same of a call with an access, whose answer says this of it
 abbrev pub Accesses : {P R : Type 0} → (P → AllowRelation) → Monitor P → Domain → Request → (Step → R → Type 0)
     → Result R Denial → Domain → Type 0
 Accesses may m d request tells result e =
     AnsweredBy m.words.layout (path_of (known may m d) d.seat.dom request) tells result d.seat.view e.seat.view
 
--- the domain has the mappings and pins that it had (own)
+-- the domain has the mappings and pins that it had
 abbrev pub KeepsPinned : Domain → Domain → Type 0
 KeepsPinned d e = KeepsMappings d.mappings e.mappings × KeepsPins d.seat.view e.seat.view
 
--- the refusal of an answer; Ok, where there is none (own)
+-- the refusal of an answer; Ok, if there is none
 abbrev pub outcome_of : {R : Type 0} → Result R Denial → Verdict
 outcome_of (Ok value) = Granted
 outcome_of (Err denial) = Refused denial
 
--- the answer that a verdict gives to a call without a value (own)
+-- the answer that a verdict gives to a call without a value
 abbrev pub verdict_of : Result (Unit {0}) Denial → Verdict
 verdict_of result = outcome_of result
 
@@ -120,8 +120,8 @@ verdict_of_frames (Ok frames) = Given (Frames frames)
 verdict_of_frames (Err denial) = Refused denial
 
 -- A map is answered so: by its path, which ends with the mapping that is kept under the handle answered; or,
--- where no rule stood at its beginning, no room for a mapping was left and no memory was there, by N26 after
--- no step (own)
+-- if no rule stood at its beginning, no room for a mapping was left and no memory was there, by N26 after
+-- no step
 abbrev pub MapAnswered : {P : Type 0} → (P → AllowRelation) → Monitor P → Domain → Request → Result Handle Denial
     → Domain → Type 0
 MapAnswered may m d request (Ok handle) e =
@@ -132,60 +132,60 @@ MapAnswered may m d request (Err denial) e =
     × (d.mappings.room ≡ 0) × (e.seat.view ≡ d.seat.view)))
     × KeepsPinned d e
 
--- a call is open, has made no step, and begins with one (own)
+-- a call is open, has made no step, and begins with one
 pub record IsOpened (c : CallerKnowledge) (caller : DomId) (call : Call) : Type 0 where
   pub of_caller : call.caller ≡ caller
   pub fresh : IsFresh c call
   pub steps : MakesStep (path c caller call.request [])
 
--- no rule stood at the beginning of this request, whose call is open (own)
+-- no rule stood at the beginning of this request, whose call is open
 pub record Opens (c : CallerKnowledge) (caller : DomId) (request : Request) (call : Call) : Type 0 where
   pub unanswered : begun_of c caller request ≡ None
   pub asks : call.request ≡ asked request
   pub same_way : path_of c caller request ≡ path c caller call.request
   pub opened : IsOpened c caller call
 
--- a rule stood at the beginning of this request, and refuses it without a word of an entry (own)
+-- a rule stood at the beginning of this request, and refuses it without a word of an entry
 pub record IsRefused (c : CallerKnowledge) (caller : DomId) (request : Request) (denial : Denial) : Type 0 where
   pub answered : begun_of c caller request ≡ Some (Refused denial)
   pub wordless : IsWordless denial.facts
 
--- the seat has gone on, and nothing else has changed yet (own)
+-- the seat has gone on, and nothing else has changed yet
 pub record IsUnsettled (d e : Domain) : Type 0 where
   pub seat : IsSameSeat d.seat e.seat
   pub own : e.own ≡ d.own
   pub mappings : e.mappings ≡ d.mappings
   pub trail : e.trail ≡ d.trail
 
--- a domain of a run stays one of it (own)
+-- a domain of a run stays one of it
 abbrev pub StaysOfRun : Domain → Domain → Type 0
 StaysOfRun d e = (b : Board) (c : Config) (may : AllowRelation) → IsDomainOf b c may d → IsDomainOf b c may e
 
--- Ok, or the refusal (own)
+-- Ok, or the refusal
 abbrev pub done_by : Verdict → Result (Unit {0}) Denial
 done_by (Refused denial) = Err denial
 done_by verdict = Ok tt
 
--- the version that is answered, 0 where none is (own)
+-- the version that is answered, 0 if none is
 abbrev pub version_told : Verdict → Result ℕ Denial
 version_told (Refused denial) = Err denial
 version_told (Given (Version version)) = Ok version
 version_told verdict = Ok 0
 
--- the size that is answered, none where none is (own)
+-- the size that is answered, none if none is
 abbrev pub size_told : Verdict → Result Size Denial
 size_told (Refused denial) = Err denial
 size_told (Given (SizeTold size)) = Ok size
 size_told verdict = Ok (record { frames = 0; max = 0 })
 
--- the number of frames that is answered, 0 where none is (own)
+-- the number of frames that is answered, 0 if none is
 abbrev pub frames_told : Verdict → Result ℕ Denial
 frames_told (Refused denial) = Err denial
 frames_told (Given (Frames frames)) = Ok frames
 frames_told verdict = Ok 0
 
 -- the pins of the mappings under these handles were given back, one after
--- another, the last handle first, and nothing else was done (own)
+-- another, the last handle first, and nothing else was done
 abbrev pub Released : Layout → List Handle → HandleMap Held → View → HandleMap Held → View → Type 0
 Released k [] old v new w = (new ≡ old) × (w ≡ v)
 Released k (h ∷ hs) old v new w =
@@ -193,7 +193,7 @@ Released k (h ∷ hs) old v new w =
     × Unpins k (position_in k.ids m.dom) m.gref.0 m.dir (generation_of m.word) u w
 
 -- A domain has left: the pin of each of its mappings was given back, one after another
--- and nothing else, each at its moment, and its seat has none (own)
+-- and nothing else, each at its moment, and its seat has none
 pub record HasLeft (k : Layout) (d : Domain) (l : Left) : Type 0 where
   pub handles : List Handle
   pub rest : HandleMap Held
@@ -206,17 +206,17 @@ pub record HasLeft (k : Layout) (d : Domain) (l : Left) : Type 0 where
   pub records : l.trail ≡ d.trail
   pub no_pins : (t r : ℕ) → pins (steps_on t r l.seat.view) ≡ []
 
--- the refusal of a call that was refused (own)
+-- the refusal of a call that was refused
 abbrev pub refusal_of : Verdict → Denial
 refusal_of (Refused denial) = denial
 refusal_of verdict = denial_of N26 NoFacts
 
--- how an access that was not made is refused (own)
+-- how an access that was not made is refused
 abbrev pub not_made : NotMade → Denial
 not_made Gone = denial_of N16 NoFacts
 not_made OutOfMemory = denial_of N26 NoFacts
 
--- what a record keeps of an answer (own)
+-- what a record keeps of an answer
 abbrev pub reply_of : Verdict → Reply
 reply_of Granted = replies.Done
 reply_of (Mapped p) = replies.Done
@@ -225,11 +225,11 @@ reply_of (Given (SizeTold size)) = replies.Size size
 reply_of (Given (Version version)) = replies.Version version
 reply_of (Refused denial) = replies.Denied denial
 
--- what a record keeps of a map's answer (own)
+-- what a record keeps of a map's answer
 abbrev pub mapping_reply : Result Handle Denial → Reply
 mapping_reply result = reply_of (outcome_of result)
 
--- the answer that a reply says (own)
+-- the answer that a reply says
 abbrev pub told_by : Reply → Verdict
 told_by replies.Done = Granted
 told_by (replies.Frames frames) = Given (Frames frames)
@@ -237,33 +237,33 @@ told_by (replies.Size size) = Given (SizeTold size)
 told_by (replies.Version version) = Given (Version version)
 told_by (replies.Denied denial) = Refused denial
 
--- an answer without the mapping that a map is given, which no record has (own)
+-- an answer without the mapping that a map is given, which no record has
 abbrev pub without_mapping : Verdict → Verdict
 without_mapping (Mapped p) = Granted
 without_mapping verdict = verdict
 
--- the record of a call of this domain, which was answered so (own)
+-- the record of a call of this domain, which was answered so
 abbrev pub told_of : Domain → Hypercall → Verdict → Record
 told_of d call verdict = record { dom = d.seat.dom; call = call; reply = reply_of verdict }
 
--- the entry that a pin is of (own)
+-- the entry that a pin is of
 abbrev pub subject_in : Option Held → Option (DomId × GrantRef)
 subject_in None = None
 subject_in (Some p) = Some (p.dom, p.gref)
 
--- the entry that the mapping under this handle is of, if it has one (own)
+-- the entry that the mapping under this handle is of, if it has one
 abbrev pub subject_of : Domain → Handle → Option (DomId × GrantRef)
 subject_of d handle = subject_in (value_of d.mappings handle)
 
--- what a record keeps of a copy's answer (own)
+-- what a record keeps of a copy's answer
 abbrev pub copy_reply : Result Copying Denial → Reply
 copy_reply result = reply_of (outcome_of result)
 
--- what a record keeps of an end of a copy (own)
+-- what a record keeps of an end of a copy
 abbrev pub told_end : End → CopyEnd
 told_end end = record { ptr = end.ptr; dom = end.domid; off = end.offset }
 
--- the record of a copy that this domain asked, and that was answered so (own)
+-- the record of a copy that this domain asked, and that was answered so
 abbrev pub told_copy : Domain → CopyArgs → Result Copying Denial → Record
 told_copy d c result =
     record {

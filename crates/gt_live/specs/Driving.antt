@@ -37,7 +37,7 @@ use Rattle.gt_live.specs.Effects.{Answers}
 use Rattle.gt_live.specs.Ending.{IsHeaderChange, IsMap, IsOwnChange}
 use Rattle.gt_live.specs.Mappings.{HasPin, IsMappingOf, record_of}
 
--- the seat may make this step of a call (own)
+-- the seat may make this step of a call
 abbrev pub CanMake : Layout → View → Step → Type 0
 CanMake k v (LookHeader d) = HasDomain k d
 CanMake k v (LookControl d q) = HasDomain k d × (q.0 < TABLE_ENTRIES)
@@ -52,7 +52,7 @@ CanMake k v (StoreHeader version frames) = IsKeptHeader (record { version = vers
 CanMake k v (Exchange q looked change) = (q.0 < TABLE_ENTRIES) × CanChange change q.0 looked v
 CanMake k v step = ⊥
 
--- the seat has the pins and records that it had (own)
+-- the seat has the pins and records that it had
 pub record IsSame (v w : View) : Type 0 where
   pub pins : KeepsPins v w
   pub records : (r : ℕ) → last_of r w ≡ last_of r v
@@ -60,7 +60,7 @@ pub record IsSame (v w : View) : Type 0 where
   pub position : w.position ≡ v.position
   pub ids : w.ids ≡ v.ids
 
--- a caller knows its own entries, header and pins (own)
+-- a caller knows its own entries, header and pins
 pub record Knows (c : CallerKnowledge) (k : Layout) (caller : DomId) (v : View) : Type 0 where
   pub named : id_at k.ids v.position ≡ caller
   pub inside : v.position < length k.ids
@@ -71,8 +71,8 @@ pub record Knows (c : CallerKnowledge) (k : Layout) (caller : DomId) (v : View) 
   pub generations : (r : ℕ) → r < TABLE_ENTRIES → c.generation r < 1048576
   pub mapped : (h : Handle) (m : Held) → c.mapping h ≡ Some m → HasPin k v m
 
--- a map took this pin, after looks alone: of the entry and in the
--- direction that it was asked, which its caller may (own)
+-- a map took this pin, after looks only: of the entry and in the
+-- direction that it was asked, which its caller may
 pub record MapsBy (c : CallerKnowledge) (k : Layout) (caller : DomId) (request : Asked) (p : Held)
     (v w : View) : Type 0 where
   pub asked : IsMap request
@@ -83,7 +83,7 @@ pub record MapsBy (c : CallerKnowledge) (k : Layout) (caller : DomId) (request :
   pub mapping : IsMappingOf k c.domains c.may caller w p
   pub serial : c.maps_answered + 1 < 2 ^ 64
 
--- the owner's change of its entry q was made, after looks alone (own)
+-- the owner's change of its entry q was made, after looks only
 pub record ChangesBy (c : CallerKnowledge) (k : Layout) (request : Asked) (q : ℕ) (change : Change)
     (v w : View) : Type 0 where
   pub asked : IsOwnChange request
@@ -94,7 +94,7 @@ pub record ChangesBy (c : CallerKnowledge) (k : Layout) (request : Asked) (q : �
   pub changes : Changes k q change word before w
   pub fresh : c.generation q + raise_of change < 1048576
 
--- the pin of the mapping under this handle was given back, as it was asked (own)
+-- the pin of the mapping under this handle was given back, as it was asked
 pub record UnpinsBy (c : CallerKnowledge) (k : Layout) (request : Asked) (handle : Handle) (v w : View) : Type 0 where
   pub asked : request ≡ asks.Unmap handle
   pub mapping : Held
@@ -103,7 +103,7 @@ pub record UnpinsBy (c : CallerKnowledge) (k : Layout) (request : Asked) (handle
   pub same : IsSame v before
   pub unpins : Unpins k (position_in k.ids mapping.dom) mapping.gref.0 mapping.dir (generation_of mapping.word) before w
 
--- how a call left the seat, by what it did (own)
+-- how a call left the seat, by what it did
 abbrev pub Leaves : CallerKnowledge → Layout → DomId → Asked → View → View → Effect → Type 0
 Leaves c k caller request v w Nothing = IsSame v w
 Leaves c k caller request v w (Pinned p) = MapsBy c k caller request p v w
@@ -111,18 +111,18 @@ Leaves c k caller request v w (Unpinned handle) = UnpinsBy c k request handle v 
 Leaves c k caller request v w (Changed gref change) = ChangesBy c k request gref.0 change v w
 Leaves c k caller request v w Stored = IsSame v w × IsHeaderChange request
 
--- a call that goes on has only looked, and one that ends left the seat by what it did (own)
+-- a call that goes on has only looked, and one that ends left the seat by what it did
 abbrev pub StandsSo : CallerKnowledge → Layout → DomId → Asked → View → View → Effect → Action → Type 0
 StandsSo c k caller request v w effect (Makes step) = IsSame v w
 StandsSo c k caller request v w effect (Done verdict) = Leaves c k caller request v w effect × Answers effect verdict
 
--- an answer that comes next carries a word of these steps (own)
+-- an answer that comes next carries a word of these steps
 abbrev pub ActionTells : Layout → View → List Moment → Action → Type 0
 ActionTells k v steps (Makes step) = Unit {0}
 ActionTells k v steps (Done verdict) = TellsSteps k v steps verdict
 
 -- a call under way: it added steps to its seat's view, which are those of
--- its path, and the action is what comes next (own)
+-- its path, and the action is what comes next
 pub record Going (c : CallerKnowledge) (k : Layout) (effect : Effect) (v w : View) (call : Call)
     (action : Action) : Type 0 where
   pub steps : List Moment

@@ -16,7 +16,7 @@ use Rattle.gt_calls.specs.declared.request.Holder.TheVariants.{Mapping as ByHand
 use Rattle.gt_live.specs.declared.driving.Effect.{Effect}
 use Rattle.gt_live.specs.declared.driving.Effect.TheVariants.{Nothing, Pinned, Unpinned, Changed, Stored}
 
--- what a step that saw this did (own)
+-- what a step that saw this did
 abbrev pub effect_of : Step → Seen → Effect
 effect_of (Pin p) Taken = Pinned p
 effect_of (Unpin p (ByHandle handle)) seen = Unpinned handle
@@ -24,7 +24,7 @@ effect_of (Exchange gref looked change) Taken = Changed gref change
 effect_of (StoreHeader version frames) seen = Stored
 effect_of step seen = Nothing
 
--- a call that did this is answered so: what it did is granted, and nothing else is (own)
+-- a call that did this is answered so: what it did is granted, and nothing else is
 abbrev pub Answers : Effect → Verdict → Type 0
 Answers Nothing (Refused denial) = Unit {0}
 Answers Nothing (Given value) = Unit {0}
@@ -35,31 +35,31 @@ Answers Stored Granted = Unit {0}
 Answers Stored (Given value) = Unit {0}
 Answers effect verdict = ⊥
 
--- the step found this control word in this entry (own)
+-- the step found this control word in this entry
 abbrev pub IsFoundAt : DomId → Step → Seen → DomId → GrantRef → ℕ → Type 0
 IsFoundAt caller (LookControl d q) (Word n) dom gref word = (d ≡ dom) × (q ≡ gref) × (n ≡ word)
 IsFoundAt caller (Pin p) (Missed n) dom gref word = (p.dom ≡ dom) × (p.gref ≡ gref) × (n ≡ word)
 IsFoundAt caller (Exchange q looked change) (Missed n) dom gref word = (caller ≡ dom) × (q ≡ gref) × (n ≡ word)
 IsFoundAt caller step seen dom gref word = ⊥
 
--- the step saw this header word of this domain (own)
+-- the step saw this header word of this domain
 abbrev pub IsFoundIn : Step → Seen → DomId → ℕ → Type 0
 IsFoundIn (LookHeader d) (Word n) dom word = (d ≡ dom) × (n ≡ word)
 IsFoundIn step seen dom word = ⊥
 
--- the word that a refusal carries, if it carries one, is the one that the step found (own)
+-- the word that a refusal carries, if it carries one, is the one that the step found
 abbrev pub IsFound : DomId → Step → Seen → Facts → Type 0
 IsFound caller step seen (facts.Entry dom gref word) = IsFoundAt caller step seen dom gref word
 IsFound caller step seen (facts.Header dom word) = IsFoundIn step seen dom word
 IsFound caller step seen other = Unit {0}
 
--- the same of an answer (own)
+-- the same of an answer
 abbrev pub TellsFound : DomId → Step → Seen → Verdict → Type 0
 TellsFound caller step seen (Refused denial) = IsFound caller step seen denial.facts
 TellsFound caller step seen verdict = Unit {0}
 
 -- what follows a step that saw this: a step that did more than look is the last one,
--- and the call is answered by what its last step did and found (own)
+-- and the call is answered by what its last step did and found
 abbrev pub EndsSo : DomId → Step → Seen → Action → Type 0
 EndsSo caller step seen (Makes next) = effect_of step seen ≡ Nothing
 EndsSo caller step seen (Done verdict) = Answers (effect_of step seen) verdict × TellsFound caller step seen verdict

@@ -7,7 +7,7 @@ use Rattle.gt_calls.specs.declared.action.Value.TheVariants as values
 use Rattle.gt_calls.specs.declared.action.Verdict.{Verdict}
 use Rattle.gt_calls.specs.declared.action.Verdict.TheVariants.{Granted, Given, Mapped, Refused}
 
--- the request is one whose steps are all on the words (own)
+-- the request is one whose steps are all on the words
 abbrev pub WaitsForNobody : Asked → Type 0
 WaitsForNobody (asks.Load handle off len) = ⊥
 WaitsForNobody (asks.Store handle off len) = ⊥
@@ -16,7 +16,7 @@ WaitsForNobody (asks.Poke frame off len) = ⊥
 WaitsForNobody (asks.Copy c) = ⊥
 WaitsForNobody request = Unit {0}
 
--- the request is one whose steps have an access to bytes among them (own)
+-- the request is one whose steps have an access to bytes among them
 abbrev pub IsAccessing : Asked → Type 0
 IsAccessing (asks.Load handle off len) = Unit {0}
 IsAccessing (asks.Store handle off len) = Unit {0}
@@ -25,7 +25,7 @@ IsAccessing (asks.Poke frame off len) = Unit {0}
 IsAccessing (asks.Copy c) = Unit {0}
 IsAccessing request = ⊥
 
--- the answer is one of this request: a refusal, a mapping to a map, a value to a call that asks it, and else Ok (own)
+-- the answer is one of this request: a refusal, a mapping to a map, a value to a call that asks it, and else Ok
 abbrev pub IsAnswerTo : Asked → Verdict → Type 0
 IsAnswerTo request (Refused denial) = Unit {0}
 IsAnswerTo (asks.Map dom gref flags) (Mapped p) = Unit {0}
@@ -41,18 +41,18 @@ IsAnswerTo (asks.Unmap handle) Granted = Unit {0}
 IsAnswerTo (asks.SetVersion version) Granted = Unit {0}
 IsAnswerTo request verdict = ⊥
 
--- the request is a map (own)
+-- the request is a map
 abbrev pub IsMap : Asked → Type 0
 IsMap (asks.Map dom gref flags) = Unit {0}
 IsMap request = ⊥
 
--- the request takes a mapping, or gives one up (own)
+-- the request takes a mapping, or gives one up
 abbrev pub IsOfMapping : Asked → Type 0
 IsOfMapping (asks.Map dom gref flags) = Unit {0}
 IsOfMapping (asks.Unmap handle) = Unit {0}
 IsOfMapping request = ⊥
 
--- the request changes an entry of the caller's own (own)
+-- the request changes an entry of the caller's own
 abbrev pub IsOwnChange : Asked → Type 0
 IsOwnChange (asks.Grant gref entry) = Unit {0}
 IsOwnChange (asks.Revoke gref) = Unit {0}
@@ -61,19 +61,19 @@ IsOwnChange (asks.Demote gref) = Unit {0}
 IsOwnChange (asks.Promote gref) = Unit {0}
 IsOwnChange request = ⊥
 
--- the request changes the caller's header (own)
+-- the request changes the caller's header
 abbrev pub IsHeaderChange : Asked → Type 0
 IsHeaderChange (asks.SetVersion version) = Unit {0}
 IsHeaderChange (asks.SetupTable frames) = Unit {0}
 IsHeaderChange request = ⊥
 
--- the facts of a refusal carry no word (own)
+-- the facts of a refusal carry no word
 abbrev pub IsWordless : Facts → Type 0
 IsWordless (facts.Entry dom gref word) = ⊥
 IsWordless (facts.Header dom word) = ⊥
 IsWordless other = Unit {0}
 
--- the request may be answered so at its beginning: a refusal without a word, or Ok where nothing is left to do (own)
+-- the request may be answered so at its beginning: a refusal without a word, or Ok if nothing is left to do
 abbrev pub IsAtOnce : Asked → Verdict → Type 0
 IsAtOnce request (Refused denial) = IsWordless denial.facts
 IsAtOnce (asks.Demote gref) Granted = Unit {0}

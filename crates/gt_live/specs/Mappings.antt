@@ -27,7 +27,7 @@ use Rattle.gt_types.specs.declared.TypeId.{TypeId}
 use Rattle.gt_types.specs.declared.config.DomainConfig.{DomainConfig}
 
 -- a mapping: its pin is held, of an entry that permits the caller, of a frame
--- of its owner's, and what its map asked is allowed (own)
+-- of its owner's, and what its map asked is allowed
 pub record IsMappingOf (k : Layout) (domains : List DomainConfig) (may : TypeId → TypeId → Perms → Bool)
     (caller : DomId) (v : View) (p : Held) : Type 0 where
   pub pin : HasPin k v p
@@ -35,36 +35,36 @@ pub record IsMappingOf (k : Layout) (domains : List DomainConfig) (may : TypeId 
   pub in_frames : nat_le (frames_of domains p.dom) (frame_of p.entry) ≡ false
   pub allowed : IsAllowed may (triples (label_of domains caller) (label_of domains p.dom) (map_perms p.dir))
 
--- the frame that a mapping is of (own)
+-- the frame that a mapping is of
 abbrev pub frame_mapped : Held → FrameName
 frame_mapped p = record { owner = p.dom; number = frame_of p.entry }
 
--- by its mapping the seat's domain reaches any range of the frame, to write it where the pin is a write pin (own)
+-- by its mapping the seat's domain reaches any range of the frame, to write it if the pin is a write pin
 pub record ReachesItsFrame (k : Layout) (s : SeatOf) (p : Held) : Type 0 where
   pub reads : (off len : ℕ) → Reaches k s Read ForMap (frame_mapped p) off len (Direct p)
   pub writes : p.dir ≡ Write → (off len : ℕ) → Reaches k s Write ForMap (frame_mapped p) off len (Direct p)
 
--- the mapping has a pin of this kind and generation of the entry r of the domain t (own)
+-- the mapping has a pin of this kind and generation of the entry r of the domain t
 abbrev pub is_mapping_of : Layout → ℕ → ℕ → Dir → ℕ → Held → Bool
 is_mapping_of k t r d g m =
     (position_in k.ids m.dom == t) && ((m.gref.0 == r) && (is_same_dir d m.dir && (g == generation_of m.word)))
 
--- the pins of the view are just those of the mappings: of each kind and generation as many, on each entry (own)
+-- the pins of the view are just those of the mappings: of each kind and generation as many, on each entry
 abbrev pub PinsAreOf : Layout → View → HandleMap Held → Type 0
 PinsAreOf k v kept = (t r : ℕ) (d : Dir) (g : ℕ) → held t r d g v ≡ count_passing (is_mapping_of k t r d g) kept
 
--- the mappings under their handles, and the serials given, are as they were (own)
+-- the mappings under their handles, and the serials given, are as they were
 pub record KeepsMappings (old new : HandleMap Held) : Type 0 where
   pub slots : new.slots ≡ old.slots
   pub given : new.given ≡ old.given
 
--- this mapping is kept under a new handle, and all else is as it was (own)
+-- this mapping is kept under a new handle, and all else is as it was
 pub record Adds (old new : HandleMap Held) (h : Handle) (p : Held) : Type 0 where
   pub serial : h.serial ≡ old.given
   pub inserted : IsInserted old new h p
   pub spent : KeepsSpent old new
 
--- the mapping under this handle is gone, and all else is as it was (own)
+-- the mapping under this handle is gone, and all else is as it was
 pub record Removes (old new : HandleMap Held) (h : Handle) (p : Held) : Type 0 where
   pub taken : IsTaken old new h p
   pub spent : KeepsSpent old new

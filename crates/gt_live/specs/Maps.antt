@@ -8,16 +8,16 @@ use Rattle.gt_calls.specs.declared.held.Held.{Held}
 use Rattle.gt_live.specs.declared.driving.Effect.{Effect}
 use Rattle.gt_live.specs.declared.driving.Effect.TheVariants.{Nothing, Pinned}
 
--- the answer of a map's path that took this pin, or was refused (own)
+-- the answer of a map's path that took this pin, or was refused
 abbrev pub pin_verdict : Result Held Denial → Verdict
 pin_verdict (Ok p) = Mapped p
 pin_verdict (Err denial) = Refused denial
 
--- what it did (own)
+-- what it did
 abbrev pub pin_effect : Result Held Denial → Effect
 pin_effect (Ok p) = Pinned p
 pin_effect (Err denial) = Nothing
 
--- a pin as the words know it (own)
+-- a pin as the words know it
 abbrev pub pin_of : Held → Pin
 pin_of p = record { dom = p.dom; gref = p.gref; word = p.word; dir = p.dir }

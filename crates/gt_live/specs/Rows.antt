@@ -4,7 +4,7 @@ use Rattle.gt_entry.specs.declared.change.Change.{Change}
 use Rattle.gt_calls.specs.declared.known.Own.{Own}
 use Rattle.gt_calls.specs.Changes.{own_after}
 
--- the rows after a change of the row r, if there is one (own)
+-- the rows after a change of the row r, if there is one
 abbrev pub row_changed : List Own → ℕ → Change → List Own
 row_changed [] r change = []
 row_changed (o ∷ os) zero change = own_after change o ∷ os

@@ -11,11 +11,11 @@ use Rattle.gt_calls.specs.declared.known.Own.{Own}
 use Rattle.gt_live.specs.Domains.{IsDomainOf}
 use Rattle.gt_live.specs.declared.domain.Domain.{Domain}
 
--- an owner's rows at the start: each entry invalid, at the first generation (own)
+-- an owner's rows at the start: each entry invalid, at the first generation
 unfoldable pub first_rows : ℕ → List Own
 first_rows first = replicate TABLE_ENTRIES (record { entry = Invalid; generation = first })
 
--- the domain at the position i, which has done nothing: no step, no mapping, no map answered Ok, and no record (own)
+-- the domain at the position i, which has done nothing: no step, no mapping, no map answered Ok, and no record
 pub record IsNewDomain (b : Board) (c : Config) (may : TypeId → TypeId → Perms → Bool) (i : ℕ)
     (d : Domain) : Type 0 where
   pub domain : IsDomainOf b c may d

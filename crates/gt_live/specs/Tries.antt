@@ -8,7 +8,7 @@ use Rattle.gt_calls.specs.declared.leg.Leg.{Leg}
 use Rattle.gt_calls.specs.declared.leg.TheConstants.{MORE_TRIES}
 use Rattle.gt_calls.specs.Path.{AfterPin, AfterRefusal, entry_refusal, refused_at, tries, try_pin, turn, turns}
 
--- a leg makes four tries: each that is missed leads to the next, and the fourth to N18 with the word that it found (own)
+-- a leg makes four tries: each that is missed leads to the next, and the fourth to N18 with the word that it found
 abbrev pub LegsMakeFourTries : Type 0
 LegsMakeFourTries =
     (l : Leg) (refused : AfterRefusal) (pinned : AfterPin)
@@ -17,7 +17,7 @@ LegsMakeFourTries =
     (λ found. refused (entry_refusal l.dom l.gref N18 found)) pinned) pinned) pinned) pinned
 
 -- a demote, a promote and a withdraw make four exchanges: each that is missed leads to
--- the next, and the fourth to N18 with the word that it found (own)
+-- the next, and the fourth to N18 with the word that it found
 abbrev pub ChangesMakeFourTries : Type 0
 ChangesMakeFourTries =
     (change : Change) (caller : DomId) (gref : GrantRef)

@@ -39,16 +39,16 @@ use Rattle.gt_live.specs.Driving.{IsSame}
 use Rattle.gt_live.specs.Mappings.{record_of}
 use Rattle.gt_live.specs.Walks.{Called, CarriesFound, IsWalk, after, shown}
 
--- the pin is one of the entry r of the domain t (own)
+-- the pin is one of the entry r of the domain t
 abbrev pub is_of_entry : Layout → ℕ → ℕ → Held → Bool
 is_of_entry k t r p = (position_in k.ids p.dom == t) && (p.gref.0 == r)
 
--- of these pins those of the entry r of the domain t, as a view has them (own)
+-- of these pins those of the entry r of the domain t, as a view has them
 abbrev pub live_of : Layout → ℕ → ℕ → List Held → List LivePin
 live_of k t r [] = []
 live_of k t r (p ∷ ps) = cond (is_of_entry k t r p) ((p.dir, record_of p) ∷ live_of k t r ps) (live_of k t r ps)
 
--- the seat has taken these pins, the last one first, and else has the pins and records that it had (own)
+-- the seat has taken these pins, the last one first, and else has the pins and records that it had
 pub record HasTaken (k : Layout) (taken : List Held) (v w : View) : Type 0 where
   pub pins : (t r : ℕ) → pins (steps_on t r w) ≡ live_of k t r taken ++ pins (steps_on t r v)
   pub records : (r : ℕ) → last_of r w ≡ last_of r v
@@ -56,13 +56,13 @@ pub record HasTaken (k : Layout) (taken : List Held) (v w : View) : Type 0 where
   pub position : w.position ≡ v.position
   pub ids : w.ids ≡ v.ids
 
--- each of these pins is of an entry of the run (own)
+-- each of these pins is of an entry of the run
 abbrev pub AreOfRun : Layout → List Held → Type 0
 AreOfRun k [] = Unit {0}
 AreOfRun k (p ∷ ps) = (HasDomain k p.dom × (p.gref.0 < TABLE_ENTRIES)) × AreOfRun k ps
 
 -- where a copy is: on a leg to one of its ends, at its access, or at the
--- end after a refusal, whose word its steps found (own)
+-- end after a refusal, whose word its steps found
 abbrev pub StandsInCopy : Layout → View → List Moment → Phase → Type 0
 StandsInCopy k v steps (Walking (Source c via) l at) = Unit {0}
 StandsInCopy k v steps (Walking (Dest c source via) l at) = Unit {0}
@@ -70,14 +70,14 @@ StandsInCopy k v steps (Accessing c source dest) = Unit {0}
 StandsInCopy k v steps (Ending pins (Refused denial)) = CarriesFound k v steps denial.facts
 StandsInCopy k v steps phase = ⊥
 
--- the same, and its seat has just the pins that it holds there, besides those that it had (own)
+-- the same, and its seat has just the pins that it holds there, besides those that it had
 pub record StandsWell (k : Layout) (v w : View) (steps : List Moment) (phase : Phase) : Type 0 where
   pub stays : StandsInCopy k v steps phase
   pub taken : HasTaken k (held_in phase) v w
   pub of_run : AreOfRun k (held_in phase)
 
 -- a copy under way: it added steps to its seat's view, which are those of
--- its path, and the action is what comes next (own)
+-- its path, and the action is what comes next
 pub record Underway (c : CallerKnowledge) (k : Layout) (v w : View) (call : Call) (action : Action) : Type 0 where
   pub steps : List Moment
   pub view : w ≡ after steps v
@@ -93,7 +93,7 @@ pub record Underway (c : CallerKnowledge) (k : Layout) (v w : View) (call : Call
   pub stands : StandsWell k v w steps phase
 
 -- a copy came to its access: it holds the pins of the routes to its ends, which the access
--- rests on, and gives them back on the way from there to its end (own)
+-- rests on, and gives them back on the way from there to its end
 pub record AtAccess (c : CallerKnowledge) (k : Layout) (call : Call) (from to : Place) (len : ℕ)
     (v w : View) : Type 0 where
   pub comes : ComesTo k (path c call.caller call.request) (CopyBytes from to len) v w
@@ -105,19 +105,19 @@ pub record AtAccess (c : CallerKnowledge) (k : Layout) (call : Call) (from to : 
   pub ends : onward (path c call.caller call.request) (shown comes.steps ++ Nothing ∷ [])
       ≡ give_back (held_by_call call) Granted
 
--- a copy ended without its access: it was refused, and its seat has the pins and records that it had (own)
+-- a copy ended without its access: it was refused, and its seat has the pins and records that it had
 pub record EndsRefused (c : CallerKnowledge) (k : Layout) (call : Call) (verdict : Verdict) (v w : View) : Type 0 where
   pub denial : Denial
   pub refused : verdict ≡ Refused denial
   pub called : Called k (path c call.caller call.request) verdict v w
   pub same : IsSame v w
 
--- where a copy stops (own)
+-- where a copy stops
 abbrev pub Stops : CallerKnowledge → Layout → Call → Stop → View → View → Type 0
 Stops c k call (Done verdict) v w = EndsRefused c k call verdict v w
 Stops c k call (Access from to len) v w = AtAccess c k call from to len v w
 
--- the pins that a copy held at its access were given back, one after another, and nothing else (own)
+-- the pins that a copy held at its access were given back, one after another, and nothing else
 pub record GivesBack (k : Layout) (routes : Pins) (v w : View) : Type 0 where
   pub steps : List Moment
   pub view : w ≡ after steps v
@@ -126,7 +126,7 @@ pub record GivesBack (k : Layout) (routes : Pins) (v w : View) : Type 0 where
   pub back : (base : View) → HasTaken k (last_first routes) base v → HasTaken k [] base w
 
 -- pins that a copy held at its access are being given back: those given
--- back are of the way, and the rest is what is left (own)
+-- back are of the way, and the rest is what is left
 pub record Returning (k : Layout) (routes : Pins) (v w : View) (call : Call) (action : Action) : Type 0 where
   pub steps : List Moment
   pub view : w ≡ after steps v

@@ -36,7 +36,7 @@ use Rattle.gt_calls.specs.declared.action.Verdict.{Verdict}
 use Rattle.gt_calls.specs.declared.action.Verdict.TheVariants.{Refused}
 use Rattle.gt_calls.specs.Path.{Continuation}
 
--- what a step of a seat shows to its call (own)
+-- what a step of a seat shows to its call
 abbrev pub shown_in : SeatStep → Seen
 shown_in (Entry t r (Looked n)) = Word n
 shown_in (Entry t r (ReadBody h n)) = Word n
@@ -49,22 +49,22 @@ shown_in (Entry t r (ChangeMissed c e y n)) = Missed n
 shown_in (Header t (header.Looked n)) = Word n
 shown_in (Header t (header.Stored n)) = Nothing
 
--- the same of a step with its moment (own)
+-- the same of a step with its moment
 abbrev pub shown_by : Moment → Seen
 shown_by x = shown_in x.1
 
--- what steps show, the first first; the steps are listed with the last first (own)
+-- what steps show, the first first; the steps are listed with the last first
 abbrev pub shown : List Moment → List Seen
 shown [] = []
 shown (x ∷ xs) = shown xs ++ shown_by x ∷ []
 
--- the view after these steps more, the last first (own)
+-- the view after these steps more, the last first
 abbrev pub after : List Moment → View → View
 after [] v = v
 after (x ∷ xs) v = with_step x.0 x.1 (after xs v)
 
 -- The step of a call was made on the words, by a seat whose view it took from v to w, and
--- showed this: what each of the words' own calls promises of it (own)
+-- showed this: what each of the words' own calls promises of it
 abbrev pub Made : Layout → Step → Seen → View → View → Type 0
 Made k (LookHeader d) (Word n) v w = LooksAtHeader k (position_in k.ids d) n v w
 Made k (LookControl d q) (Word n) v w =
@@ -87,43 +87,43 @@ Made k (Exchange q looked Promote) Taken v w = Changes k q.0 Promote looked v w
 Made k (Exchange q looked Promote) (Missed n) v w = MissesChange k q.0 Promote looked n v w
 Made k _ _ v w = ⊥
 
--- the second body word of the leg's entry was read where that is a sub-page, else it is taken as 0 (own)
+-- the second body word of the leg's entry was read if that is a sub-page, else it is taken as 0
 abbrev pub ReadsSecond : Bool → Layout → Leg → ℕ → View → View → Type 0
 ReadsSecond true k l second v w = Made k (LookBody l.dom l.gref SecondHalf) (Word second) v w
 ReadsSecond false k l second v w = (second ≡ 0) × (w ≡ v)
 
--- the body words of the leg's entry were read, whose control word is this (own)
+-- the body words of the leg's entry were read, whose control word is this
 abbrev pub ReadsBody : Layout → Leg → ℕ → ℕ → ℕ → View → View → Type 0
 ReadsBody k l word first second v w =
     (u : View) × Made k (LookBody l.dom l.gref FirstHalf) (Word first) v u
     × ReadsSecond (is_kind (control_of word).kind Sub) k l second u w
 
--- the action is a step, which was made and showed this (own)
+-- the action is a step, which was made and showed this
 abbrev pub MakesStep : Layout → Option Action → Seen → View → View → Type 0
 MakesStep k (Some (Makes s)) seen v w = Made k s seen v w
 MakesStep k _ seen v w = ⊥
 
 -- each of these steps, the last first, was taken at its moment by the seat with the view v, which
--- had taken those before it by then and no others (own)
+-- had taken those before it by then and no others
 abbrev pub AreMoments : Layout → View → List Moment → Type 0
 AreMoments k v [] = Unit {0}
 AreMoments k v (x ∷ xs) =
     TookPlace k v.position x × (part_of v.position x.0 ≡ (after xs v).steps) × AreMoments k v xs
 
 -- each of these steps from the view v on, the last first, is what comes next
--- on this way after what the steps before it showed (own)
+-- on this way after what the steps before it showed
 abbrev pub IsWalk : Layout → Continuation → View → List Moment → Type 0
 IsWalk k way v [] = Unit {0}
 IsWalk k way v (x ∷ xs) = MakesStep k (way (shown xs)) (shown_by x) (after xs v) (after (x ∷ xs) v) × IsWalk k way v xs
 
--- what a step on an entry found in the control word (own)
+-- what a step on an entry found in the control word
 abbrev pub found_by : EntryStep → Option ℕ
 found_by (Looked n) = Some n
 found_by (PinMissed d e y n) = Some n
 found_by (ChangeMissed c e y n) = Some n
 found_by m = None
 
--- one of these steps found this word in this entry, and it is no earlier than what the view v had seen of it (own)
+-- one of these steps found this word in this entry, and it is no earlier than what the view v had seen of it
 pub record FindsWord (k : Layout) (v : View) (steps : List Moment) (dom : DomId) (gref : GrantRef)
     (word : ℕ) : Type 0 where
   pub step : EntryStep
@@ -131,20 +131,20 @@ pub record FindsWord (k : Layout) (v : View) (steps : List Moment) (dom : DomId)
   pub found : found_by step ≡ Some word
   pub not_earlier : IsNotEarlier (position_in k.ids dom) gref.0 v word
 
--- the word that a refusal carries, if it carries one, is of one of these steps (own)
+-- the word that a refusal carries, if it carries one, is of one of these steps
 abbrev pub CarriesFound : Layout → View → List Moment → Facts → Type 0
 CarriesFound k v steps (facts.Entry dom gref word) = FindsWord k v steps dom gref word
 CarriesFound k v steps (facts.Header dom word) = IsIn (on_header (position_in k.ids dom) (header.Looked word)) (map (λ x. x.1) steps)
 CarriesFound k v steps other = Unit {0}
 
--- the same of an answer (own)
+-- the same of an answer
 abbrev pub TellsSteps : Layout → View → List Moment → Verdict → Type 0
 TellsSteps k v steps (Refused denial) = CarriesFound k v steps denial.facts
 TellsSteps k v steps verdict = Unit {0}
 
 -- A call took its seat's view from v to w: it added steps, which are those of its way, one after another, each taken at
 -- its moment, and after what they showed the way ends with this answer; a word that the answer carries is one that they
--- found (own)
+-- found
 pub record Called (k : Layout) (way : Continuation) (verdict : Verdict) (v w : View) : Type 0 where
   pub steps : List Moment
   pub view : w ≡ after steps v

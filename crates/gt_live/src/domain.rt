@@ -28,7 +28,7 @@ use gt_types::{Allows, Denial, DomId, Facts, GrantRef, Memory, Rule, Size, TypeI
 use gt_words::Seat;
 use std::alloc::Global;
 
-/// A domain of the run: its seat, and what it knows by itself. It can't be dropped; `finish` takes it apart. (own)
+/// A domain of the run: its seat, and what it knows by itself. It can't be dropped; `finish` takes it apart.
 pub struct Domain {
     alloc: Global,
     seat: Seat,
@@ -204,7 +204,7 @@ impl Domain {
         self.trail.keep_at_most(records);
     }
 
-    /// Makes room for so many more records, which then take no memory. What it keeps stays, also where memory is
+    /// Makes room for so many more records, which then take no memory. What it keeps stays, also if memory is
     /// refused.
     ///
     /// # Errors
@@ -225,7 +225,7 @@ impl Domain {
         &self.seat
     }
 
-    /// The mapping under a handle, by whose pin the domain reaches any range of the mapping's frame; None where the
+    /// The mapping under a handle, by whose pin the domain reaches any range of the mapping's frame; None if the
     /// handle names none of its mappings.
     pub fn mapping<P: Allows>(&self, monitor: &Monitor<P>, handle: Handle) -> Option<Held>
         requires mine { IsOf P.may monitor.now self.now }
@@ -351,7 +351,7 @@ impl Domain {
         verdict
     }
 
-    /// Publishes an entry in place of an invalid one, where that has no pins left.
+    /// Publishes an entry in place of an invalid one, if that has no pins left.
     ///
     /// # Errors
     /// N9, N20, N21, N22 or, with the word found, N19, and nothing changes but the body words of an invalid entry.
@@ -395,7 +395,7 @@ impl Domain {
         done(self.call(monitor, Request::GrantBytes { gref, bytes }))
     }
 
-    /// Makes an entry of its own invalid, where it has no pins.
+    /// Makes an entry of its own invalid, if it has no pins.
     ///
     /// # Errors
     /// N9, N10 or, with the word found, N19, and nothing changes.
@@ -429,7 +429,7 @@ impl Domain {
         done(self.call(monitor, Request::Withdraw { gref }))
     }
 
-    /// Makes an entry of its own read-only, where it has no write pins. Ok without a change where it is so already.
+    /// Makes an entry of its own read-only, if it has no write pins. Ok without a change if it is so already.
     ///
     /// # Errors
     /// N9, N10, N22, or with the word found N18 or N19, and nothing changes.
@@ -444,7 +444,7 @@ impl Domain {
         done(self.call(monitor, Request::Demote { gref }))
     }
 
-    /// Makes an entry of its own writable. Ok without a change where it is so already.
+    /// Makes an entry of its own writable. Ok without a change if it is so already.
     ///
     /// # Errors
     /// N9, N10, N22, or with the word found N18, and nothing changes.
@@ -459,7 +459,7 @@ impl Domain {
         done(self.call(monitor, Request::Promote { gref }))
     }
 
-    /// Gives its table this version, 1 or 2, while all its entries are invalid. Ok without a change where it has that
+    /// Gives its table this version, 1 or 2, while all its entries are invalid. Ok without a change if it has that
     /// version already.
     ///
     /// # Errors
@@ -482,7 +482,7 @@ impl Domain {
         done(self.told_call(monitor, Request::SetVersion { version }, call))
     }
 
-    /// Gives its table so many frames, at most 4, where it has fewer, and answers how many it then has.
+    /// Gives its table so many frames, at most 4, if it has fewer, and answers how many it then has.
     ///
     /// # Errors
     /// N5 or N23, and nothing changes.
@@ -615,7 +615,7 @@ impl Domain {
     ///
     /// # Errors
     /// The first rule that stands: N1, N2, N5 or N8 at the beginning, N9 with the header's word, N10 to N13, N16, N17 or
-    /// N18 with the entry's. N26 where none stands at the beginning, no room is left for a mapping and memory is refused
+    /// N18 with the entry's. N26 if none stands at the beginning, no room is left for a mapping and memory is refused
     /// for more. Mappings and pins are as they were.
     pub fn map<P: Allows>(
         &mut self,

@@ -48,7 +48,7 @@ pub struct Finished {
     pub effect: Effect,
 }
 
-/// Where a call stops that makes an access.
+/// If a call stops that makes an access.
 #[derive(Clone, Copy)]
 pub enum Stop {
     /// At its end, without the access.
@@ -229,14 +229,14 @@ fn look_at_half(words: &Words, seat: &mut Seat, dom: DomId, gref: GrantRef, half
     words.load_body(seat, dom, gref, half)
 }
 
-// The body words of a try. The second is 0 where the entry is no sub-page.
+// The body words of a try. The second is 0 if the entry is no sub-page.
 #[derive(Clone, Copy)]
 struct Body {
     first: u64,
     second: u64,
 }
 
-// Reads the body words of the leg's entry, whose control word is this: the second of a sub-page alone.
+// Reads the body words of the leg's entry, whose control word is this: the second only of a sub-page.
 #[inline(always)]
 fn look_at_body(words: &Words, seat: &mut Seat, leg: &Leg, word: u64) -> Body
     requires seat { IsSeatOf words.now seat.old }
@@ -324,7 +324,7 @@ pub(crate) fn drive_map<P: Allows>(
     }
 }
 
-// Drives a copy from its beginning to its access, or to its end where it is refused before.
+// Drives a copy from its beginning to its access, or to its end if it is refused before.
 pub(crate) fn walk<P: Allows>(
     words: &Words,
     known: &Known<'_, P>,

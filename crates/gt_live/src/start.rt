@@ -73,7 +73,7 @@ impl<P: Allows + Drop> Monitor<P> {
     /// The monitor of a run, and its domains in order.
     ///
     /// # Errors
-    /// The first fault of the configuration, or `Memory` where it has none and memory is refused.
+    /// The first fault of the configuration, or `Memory` if it has none and memory is refused.
     pub fn new(
         alloc: Global,
         config: Config,

@@ -1,6 +1,6 @@
 //! Tests of `gt_live`, over what it makes public.
 //!
-//! They say what no contract says: that a run starts where memory is ample; the worked rows of calls with the bytes
+//! They say what no contract says: that a run starts if memory is ample; the worked rows of calls with the bytes
 //! that they read and the words that their refusals carry (`rows.rt`); and whole runs (`runs.rt`): the records that a
 //! domain leaves behind, calls that are refused memory (with bench/refused.sh), and domains beside each other in
 //! threads. Two of those share a page, a storm of four leaves every word idle, and three access the same frames.

@@ -22,7 +22,7 @@ pub const THREE: usize = 2;
 pub enum Stage<'a> {
     /// Lines, each with its answer.
     Asked(&'a [Line<'a>]),
-    /// The same, where a line that is refused memory is asked again.
+    /// The same, if a line that is refused memory is asked again.
     Insisted(&'a [Line<'a>]),
     /// The last domain maps the first entry of domain 1 for reading, so often.
     MapsOften(u32),

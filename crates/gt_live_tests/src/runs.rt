@@ -272,8 +272,8 @@ const REFUSED: Row = Row {
     ..QUIET
 };
 
-// With bench/refused.sh, which refuses each request for memory in turn: a call that answers N26 is answered, where it
-// is asked again, as it is without a refusal. The start of the run and the texts of answers alone are refused memory.
+// With bench/refused.sh, which refuses each request for memory in turn: a call that answers N26 is answered, if it
+// is asked again, as it is without a refusal. The start of the run and the texts of answers are all that is refused memory.
 #[test]
 fn accesses_with_memory_refused(rt: HostRuntime) -> Result<(), Fail> {
     match play_row(&rt, rt.alloc(), &REFUSED) {

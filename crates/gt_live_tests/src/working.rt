@@ -43,7 +43,7 @@ pub struct Access {
 pub enum Part {
     /// Grants its entry 0 to domain 2, and takes it back once it is not in use.
     Lends,
-    /// Maps the entry 0 of domain 1 and unmaps it. It may be refused where that is not granted yet, or no more.
+    /// Maps the entry 0 of domain 1 and unmaps it. It may be refused if that is not granted yet, or no more.
     Borrows,
     /// Grants, demotes, promotes and revokes by turns its entry 0, which names domain 3, and its entry 1, for domain 4.
     Owns { first: Kept, second: Kept },
@@ -86,7 +86,7 @@ fn page_of(frame: u64) -> Entry {
     }
 }
 
-// The control of the word that a refusal carries, where it carries that of an entry.
+// The control of the word that a refusal carries, if it carries that of an entry.
 fn control_of(denial: Denial) -> Option<Control> {
     match denial.facts {
         Facts::Entry { word, .. } => Some(Control::unpack(word)),
@@ -135,7 +135,7 @@ fn borrow<P: Allows>(domain: &mut Running<'_, P>) -> bool {
     }
 }
 
-// Grants an entry where it is not granted, and keeps what the owner then knows.
+// Grants an entry if it is not granted, and keeps what the owner then knows.
 fn grant_once<P: Allows>(
     domain: &mut Running<'_, P>,
     gref: u32,
@@ -178,7 +178,7 @@ fn turn_once<P: Allows>(domain: &mut Running<'_, P>, gref: u32, kept: &mut Kept)
     is_fair(demoted, Rule::N18, Rule::N19) && is_fair(promoted, Rule::N18, Rule::N18)
 }
 
-// One round of an owner: its entry is granted where it is not, made read-only and writable again, and revoked.
+// One round of an owner: its entry is granted if it is not, made read-only and writable again, and revoked.
 fn own_once<P: Allows>(
     domain: &mut Running<'_, P>,
     gref: u32,
@@ -211,7 +211,7 @@ fn finds_old_pins(denial: Denial) -> bool {
     }
 }
 
-// Grants the frame where the entry is not granted. It is refused over the pins that a withdrawal left.
+// Grants the frame if the entry is not granted. It is refused over the pins that a withdrawal left.
 fn grant_frame<P: Allows>(domain: &mut Running<'_, P>, frame: u64, kept: &mut Kept) -> bool {
     match domain.grant(0, &page_of(frame)) {
         Ok(()) => {
@@ -231,7 +231,7 @@ fn grant_frame<P: Allows>(domain: &mut Running<'_, P>, frame: u64, kept: &mut Ke
     }
 }
 
-// Withdraws the entry. It is refused where it is not granted, or where four tries met other pins each.
+// Withdraws the entry. It is refused if it is not granted, or if four tries met other pins each.
 fn withdraw_once<P: Allows>(domain: &mut Running<'_, P>, kept: &mut Kept) -> bool {
     match domain.withdraw(0) {
         Ok(()) => {

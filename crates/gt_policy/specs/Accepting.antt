@@ -17,18 +17,18 @@ pub record IsWritten (text : List ℕ) (ss : List Statement) : Type 0 where
   pub spelled : SpellsText ss (lexemes_of text)
   pub clean : AreClean ss
 
--- what such statements mean: a policy, or the first name in them that stands for nothing (own)
+-- what such statements mean: a policy, or the first name in them that stands for nothing
 abbrev pub meant_by : List Statement → Result Meaning TokenFault
 meant_by ss = meaning_of (names_of ss) (resolved (names_of ss) nothing_given ss)
 
--- statements up to a token, with what is behind them (SELinux policy language)
+-- statements up to a token, with what is after them (SELinux policy language)
 pub data SpellsFront : List Statement → Lexemes → Lexemes → Type 0 where
   front_end : (rest : Lexemes) → SpellsFront [] rest rest
   front_more : (s : Statement) (ss : List Statement) (ls behind rest : Lexemes) → SpellsStatement s ls behind
       → SpellsFront ss behind rest → SpellsFront (s ∷ ss) ls rest
 
 -- The first statement that is none: clean statements come before it, and it
--- has this fault at its first token that fits nowhere. (own)
+-- has this fault at its first token that fits nowhere.
 pub record IsBroken (text : List ℕ) (f : TokenFault) : Type 0 where
   pub before : List Statement
   pub rest : Lexemes

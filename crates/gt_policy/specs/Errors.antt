@@ -4,12 +4,12 @@ use Rattle.gt_policy.specs.declared.fault.TokenFault.{TokenFault}
 use Rattle.gt_policy.specs.declared.fault.ReadError.{ReadError}
 use Rattle.gt_policy.specs.declared.fault.ReadError.TheVariants as read
 
--- the fault of an error; none where memory ran out (own)
+-- the fault of an error; none if memory ran out
 abbrev pub fault_in : ReadError → Option TokenFault
 fault_in read.Memory = None
 fault_in (read.Fault f) = Some f
 
--- what was read, with what is left behind it (own)
+-- what was read, with what is left after it
 abbrev pub with_rest : {X Y : Type 0} → (X → Y) → Result X TokenFault → Result Y TokenFault
 with_rest behind (Ok x) = Ok (behind x)
 with_rest behind (Err f) = Err f

@@ -17,7 +17,7 @@ abbrev pub lists_word : Permissions → List ℕ → Bool
 lists_word Every w = true
 lists_word (Named ws) w = list_any (λ v. bytes_eq v w) ws
 
--- some of these names is this one (own)
+-- some of these names is this one
 abbrev pub mentions : List Mention → List ℕ → Bool
 mentions ms a = list_any (λ m. bytes_eq m.name a) ms
 
@@ -38,14 +38,14 @@ names_with ss (With m) t = is_named ss m.name t
 names_with ss (Without m) t = false
 names_with ss Itself t = false
 
--- an item of a set names the type, or an attribute that it has, behind `-` (SELinux policy language)
+-- an item of a set names the type, or an attribute that it has, after `-` (SELinux policy language)
 abbrev pub names_without : List Statement → SetElement → List ℕ → Bool
 names_without ss (With m) t = false
 names_without ss (Without m) t = is_named ss m.name t
 names_without ss Itself t = false
 
 -- A set holds the types named in it and those of the attributes named in it, less those
--- named behind `-`, in whatever order they come. (SELinux policy language)
+-- named after `-`, in whatever order they come. (SELinux policy language)
 abbrev pub set_holds : List Statement → List SetElement → List ℕ → Bool
 set_holds ss items t = list_any (λ i. names_with ss i t) items && not (list_any (λ i. names_without ss i t) items)
 

@@ -15,7 +15,7 @@ use Rattle.gt_policy.specs.Names.{Names}
 use Rattle.gt_policy.specs.Spelling.{SpellsStatement}
 use Rattle.gt_policy.specs.Whole.{Follows, Says}
 
--- the statements without their lines (own)
+-- the statements without their lines
 abbrev pub statements_in : List LinedStatement → List Statement
 statements_in xs = map (λ x. x.statement) xs
 
@@ -27,25 +27,25 @@ pub data SpellsLined : List LinedStatement → Lexemes → Type 0 where
       → SpellsLined (x ∷ xs) ((token, x.line) ∷ ls)
 
 -- These statements spell the text, within the limits and with no name declared twice, each from the line that is
--- kept with it. (own)
+-- kept with it.
 pub record IsLined (text : List ℕ) (xs : List LinedStatement) : Type 0 where
   pub written : IsWritten text (statements_in xs)
   pub lines : SpellsLined xs (lexemes_of text)
 
--- the statements follow on these names, each with its line, or the fault does (own)
+-- the statements follow on these names, each with its line, or the fault does
 abbrev pub FollowsLined : Names → Names → Lexemes → Result (List LinedStatement) TokenFault → Type 0
 FollowsLined seen before ls (Ok xs) = Follows before [] ls (Ok (seen, statements_in xs)) × SpellsLined xs ls
 FollowsLined seen before ls (Err f) = Follows before [] ls (Err f)
 
--- what was read is what is said, unless memory ran out (own)
+-- what was read is what is said, unless memory ran out
 abbrev pub HeedsLined : Result (List LinedStatement) ReadError → Names → Names → Lexemes → Type 0
 HeedsLined r seen before ls = UnlessMemory fault_in r (λ found. FollowsLined seen before ls found)
 
--- these statements spell the text, or it has this fault (own)
+-- these statements spell the text, or it has this fault
 abbrev pub TellsLined : Result (List LinedStatement) TokenFault → List ℕ → Type 0
 TellsLined (Ok xs) text = IsLined text xs
 TellsLined (Err f) text = Says text (Err f)
 
--- the statements spell the text, or it has the fault, unless memory ran out (own)
+-- the statements spell the text, or it has the fault, unless memory ran out
 abbrev pub LinedIs : Result (List LinedStatement) ReadError → List ℕ → Type 0
 LinedIs r text = UnlessMemory fault_in r (λ found. TellsLined found text)

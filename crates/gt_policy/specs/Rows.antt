@@ -6,20 +6,20 @@ use Rattle.gt_policy.specs.declared.rules.AllowRule.{AllowRule}
 use Rattle.gt_policy.specs.declared.types.TypeSet.{TypeSet}
 use Rattle.gt_policy.specs.TypeSets.{holds}
 
--- what a statement lists, it grants to this source on this target (own)
+-- what a statement lists, it grants to this source on this target
 abbrev pub is_reached : AllowRule → ℕ → ℕ → Bool
 is_reached rule s t = holds rule.source s && (holds rule.target t || (rule.itself && (t == s)))
 
--- a permission, and the types on which a source has it (own)
+-- a permission, and the types on which a source has it
 abbrev pub Lane : Type 0
 Lane = Perms × TypeSet
 
--- the source has the permission on the type, by the first lane of that permission (own)
+-- the source has the permission on the type, by the first lane of that permission
 abbrev pub reaches : List Lane → ℕ → Perms → Bool
 reaches [] t perm = false
 reaches (lane ∷ lanes) t perm = if lane.0.0 == perm.0 then holds lane.1 t else reaches lanes t perm
 
--- one lane for each permission (own)
+-- one lane for each permission
 abbrev pub lanes : TypeSet → TypeSet → TypeSet → TypeSet → TypeSet → TypeSet → TypeSet → List Lane
 lanes map_read map_write unmap transfer setup copy query =
     (names.map_read, map_read) ∷ (names.map_write, map_write) ∷ (names.unmap, unmap) ∷ (names.transfer, transfer) ∷

@@ -27,7 +27,7 @@ pub data SpellsNames (in_type : Bool) : Bool → List Mention → Lexemes → Le
   a_name : (m : Mention) (ms : List Mention) (ls rest : Lexemes) → excluded in_type m.name ≡ false
       → SpellsNames in_type false ms ls rest → SpellsNames in_type true (m ∷ ms) ((Name m.name, m.line) ∷ ls) rest
 
--- ("self" | "-"? NAME)* "}", with `self` in a target alone (SELinux policy language)
+-- ("self" | "-"? NAME)* "}", with `self` only in a target (SELinux policy language)
 pub data SpellsItems (target : Bool) : List SetElement → Lexemes → Lexemes → Type 0 where
   items_end : (n : ℕ) (rest : Lexemes) → SpellsItems target [] ((Close, n) ∷ rest) rest
   with : (m : Mention) (items : List SetElement) (ls rest : Lexemes) → SpellsItems target items ls rest
@@ -56,7 +56,7 @@ pub data SpellsList : List (List ℕ) → Lexemes → Lexemes → Type 0 where
   list_in : (n : ℕ) (w : List ℕ) (ws : List (List ℕ)) (ls rest : Lexemes) → SpellsWords (w ∷ ws) ls rest
       → SpellsList (w ∷ ws) ((Open, n) ∷ ls) rest
 
--- "*" | NAME | "{" NAME+ "}". Where class `grant` is alone each name is one of its
+-- "*" | NAME | "{" NAME+ "}". If class `grant` is the only one, each name is one of its
 -- permissions. (SELinux policy language; the seven permissions of XSM FLASK)
 pub data SpellsPerms (alone : Bool) : Permissions → Lexemes → Lexemes → Type 0 where
   every : (n : ℕ) (rest : Lexemes) → SpellsPerms alone Every ((Star, n) ∷ rest) rest
@@ -84,43 +84,43 @@ pub data SpellsText : List Statement → Lexemes → Type 0 where
   statement_of : (s : Statement) (ss : List Statement) (ls rest : Lexemes) → SpellsStatement s ls rest
       → SpellsText ss rest → SpellsText (s ∷ ss) ls
 
--- the types that the statements declare, in their order (own)
+-- the types that the statements declare, in their order
 abbrev pub types_in : List Statement → List (List ℕ)
 types_in [] = []
 types_in (DeclareType w ms ∷ ss) = w ∷ types_in ss
 types_in (s ∷ ss) = types_in ss
 
--- the attributes that the statements declare, in their order (own)
+-- the attributes that the statements declare, in their order
 abbrev pub attributes_in : List Statement → List (List ℕ)
 attributes_in [] = []
 attributes_in (DeclareAttribute w ∷ ss) = w ∷ attributes_in ss
 attributes_in (s ∷ ss) = attributes_in ss
 
--- all names that the statements declare, in their order (own)
+-- all names that the statements declare, in their order
 abbrev pub declared_in : List Statement → List (List ℕ)
 declared_in [] = []
 declared_in (DeclareType w ms ∷ ss) = w ∷ declared_in ss
 declared_in (DeclareAttribute w ∷ ss) = w ∷ declared_in ss
 declared_in (s ∷ ss) = declared_in ss
 
--- how many allow statements there are (own)
+-- how many allow statements there are
 abbrev pub allows_in : List Statement → ℕ
 allows_in [] = 0
 allows_in (Allow a ∷ ss) = allows_in ss + 1
 allows_in (s ∷ ss) = allows_in ss
 
--- no name is there twice (own)
+-- no name is there twice
 abbrev pub AreDistinct : List (List ℕ) → Type 0
 AreDistinct [] = Unit {0}
 AreDistinct (w ∷ ws) = (list_any (λ v. bytes_eq w v) ws ≡ false) × AreDistinct ws
 
--- Types and attributes share one space of names, each declared once, and the statements stay within the limits. (own)
+-- Types and attributes share one space of names, each declared once, and the statements stay within the limits.
 pub record AreClean (ss : List Statement) : Type 0 where
   pub distinct : AreDistinct (declared_in ss)
   pub few_types : length (types_in ss) ≤ 256
   pub few_attributes : length (attributes_in ss) ≤ 256
   pub few_allows : allows_in ss ≤ 65536
 
--- the names that the statements declare, and how many allow statements there are (own)
+-- the names that the statements declare, and how many allow statements there are
 abbrev pub names_of : List Statement → Names
 names_of ss = record { types = types_in ss; attributes = attributes_in ss; allows = allows_in ss }

@@ -3,10 +3,10 @@ use Rattle.std.specs.Prelude.{ℕ, ◌==◌, ◌-◌, ◌&&◌, Bool, nat_lt, if
 use Rattle.std.specs.Int.{bit_at}
 use Rattle.gt_policy.specs.declared.types.TypeSet.{TypeSet}
 
--- bit n of the number is 1 (own)
+-- bit n of the number is 1
 abbrev pub is_set : ℕ → ℕ → Bool
 is_set bits n = bit_at bits n == 1
 
--- Type n is in the set where bit n is 1; the higher half has the types from 128 to 255. (own)
+-- Type n is in the set if bit n is 1; the higher half has the types from 128 to 255.
 abbrev pub holds : TypeSet → ℕ → Bool
 holds set n = if nat_lt n 128 then is_set set.low n else (nat_lt n 256 && is_set set.high (n - 128))

@@ -20,16 +20,16 @@ pub data Role : Type 0 where
   OfType : Role
   OfAttribute : Role
 
--- a name that is used, and what it has to be declared as (own)
+-- a name that is used, and what it has to be declared as
 abbrev pub Use : Type 0
 Use = Role × Mention
 
--- these names, all used in one role (own)
+-- these names, all used in one role
 abbrev pub all_used : Role → List Mention → List Use
 all_used role [] = []
 all_used role (m ∷ ms) = (role, m) ∷ all_used role ms
 
--- the names of a set, those behind `-` too (own)
+-- the names of a set, those after `-` too
 abbrev pub set_uses : List SetElement → List Use
 set_uses [] = []
 set_uses (With m ∷ items) = (InSet, m) ∷ set_uses items
@@ -37,14 +37,14 @@ set_uses (Without m ∷ items) = (InSet, m) ∷ set_uses items
 set_uses (Itself ∷ items) = set_uses items
 
 -- The names that a statement uses, in the order of the text. The name that it
--- declares is none of them, nor is a class or a permission. (own)
+-- declares is none of them, nor is a class or a permission.
 abbrev pub statement_uses : Statement → List Use
 statement_uses (DeclareType w ms) = all_used OfAttribute ms
 statement_uses (DeclareAttribute w) = []
 statement_uses (GiveAttributes m ms) = (OfType, m) ∷ all_used OfAttribute ms
 statement_uses (Allow a) = set_uses a.source ++ set_uses a.target
 
--- the names that the statements use, in the order of the text (own)
+-- the names that the statements use, in the order of the text
 abbrev pub uses_of : List Statement → List Use
 uses_of [] = []
 uses_of (s ∷ ss) = statement_uses s ++ uses_of ss
@@ -57,7 +57,7 @@ is_type ss w = list_any (λ t. bytes_eq t w) (types_in ss)
 abbrev pub is_attribute : List Statement → List ℕ → Bool
 is_attribute ss w = list_any (λ a. bytes_eq a w) (attributes_in ss)
 
--- whether a name that is used so is declared so, anywhere among the statements (own)
+-- whether a name that is used so is declared so, anywhere among the statements
 abbrev pub is_met : List Statement → Use → Bool
 is_met ss (InSet, m) = is_type ss m.name || is_attribute ss m.name
 is_met ss (OfType, m) = is_type ss m.name
@@ -68,7 +68,7 @@ abbrev pub AreDeclared : List Statement → Type 0
 AreDeclared ss = list_all (is_met ss) (uses_of ss) ≡ true
 
 -- Of these names the first that the statements do not declare so is named by
--- the fault, with its line: all before it are declared. (own)
+-- the fault, with its line: all before it are declared.
 pub record IsFirstUndeclared (ss : List Statement) (uses : List Use) (f : TokenFault) : Type 0 where
   pub before : List Use
   pub here : Use

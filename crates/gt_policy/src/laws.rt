@@ -22,13 +22,13 @@ pub fn every_text_says_something()
     ensures { (text : List ℕ) → (said : Result Meaning TokenFault) × Says text said }
 {}
 
-/// A text says one thing: a policy or a fault, and one alone.
+/// A text says one thing: a policy or a fault, and only one.
 pub fn one_meaning()
     ensures { (text : List ℕ) (one other : Result Meaning TokenFault) →
         Says text one → Says text other → one ≡ other }
 {}
 
-/// A text is a policy exactly where its tokens are spelled by clean statements whose names are all
+/// A text is a policy exactly if its tokens are spelled by clean statements whose names are all
 /// declared, and it then means what they mean.
 pub fn written_texts()
     ensures accepted { (text : List ℕ) (m : Meaning) → Says text (Ok m) →

@@ -48,7 +48,7 @@ fn lined_of<'a>(alloc: Global, text: &'a [u8]) -> Result<Items<LinedStatement<'a
 }
 
 /// The statements of a text, each with the line that it begins on, or the text's first fault. A name that is not
-/// declared is none here: [`Policy::parse`](crate::Policy::parse) finds it. Where memory is refused the fault is
+/// declared is none here: [`Policy::parse`](crate::Policy::parse) finds it. If memory is refused the fault is
 /// [`PolicyFaultKind::Memory`], with line 0.
 pub fn statements_of<'a>(
     alloc: Global,

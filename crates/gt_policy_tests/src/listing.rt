@@ -26,7 +26,7 @@ fn listed(alloc: Global, mut text: &[u8]) -> Result<String, Fail> {
     Ok(out)
 }
 
-// Where a text was cut off, it is listed or has one fault of a policy.
+// If a text was cut off, it is listed or has one fault of a policy.
 #[test]
 fn every_beginning_is_listed_or_refused(rt: HostRuntime) -> Result<(), Fail> {
     for length in 0..GUESTS.len() {
@@ -42,7 +42,7 @@ fn every_beginning_is_listed_or_refused(rt: HostRuntime) -> Result<(), Fail> {
     Ok(())
 }
 
-// A beginning, a text so many times behind it, and what is listed or the fault: too many bytes come before bad ones.
+// A beginning, a text so many times after it, and what is listed or the fault: too many bytes come before bad ones.
 const MANY: [(&str, &[u8], usize, &str); 7] = [
     ("type a;", b"allow a a:c d;\n", 65_536, ""),
     (
@@ -120,7 +120,7 @@ fn a_writer_that_fails(rt: HostRuntime) -> Result<(), Fail> {
     Ok(())
 }
 
-// For listings in which one allocation fails. Where that is one of `policy`, it answers that memory
+// For listings in which one allocation fails. If that is one of `policy`, it answers that memory
 // was refused, and what went out is a beginning of the lines. The test's own room is asked for again.
 fn refused_at_most_once(
     rt: &impl Abort,

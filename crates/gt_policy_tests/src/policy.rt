@@ -6,7 +6,7 @@ use gt_types::{Allows, Perms, TypeId};
 use std::alloc::{AllocError, Global};
 use std::test::Fail;
 
-// A beginning is a policy where a statement has just ended, and has one fault elsewhere.
+// A beginning is a policy if a statement has just ended, and has one fault elsewhere.
 #[test]
 fn ends_each_beginning_of_a_text(rt: HostRuntime) -> Result<(), Fail> {
     let alloc = rt.alloc();

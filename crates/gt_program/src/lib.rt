@@ -9,7 +9,7 @@
 //!
 //! Texts come by a trait, `Texts`, and go to any writer. So the contracts say, for texts and a writer
 //! that promise their bytes, what is written for which words and with which status. Tests, and the runs
-//! of the programs above this crate, show that an error comes only where there is one.
+//! of the programs above this crate, show that an error comes only if there is one.
 #![tactic(auto)]
 
 mod failure;

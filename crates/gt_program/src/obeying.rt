@@ -199,7 +199,7 @@ fn follow<R: Threads + Wait + Sync, T: Texts, W: Write, E: Eprint>(
 /// status. Texts, rules, help and version go to `out`; a fault goes to `err`, in one line.
 ///
 /// The status is 0 for success, 1 for a fault of script, policy, file, memory or thread or for a text that was not
-/// written, and 2 where the words ask for nothing that the program does.
+/// written, and 2 if the words ask for nothing that the program does.
 pub fn obey<R: Threads + Wait + Sync, T: Texts, W: Write, E: Eprint>(
     rt: &R,
     alloc: Global,

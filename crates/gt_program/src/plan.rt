@@ -27,8 +27,8 @@ pub struct Invocation<'a> {
     pub mode: Mode,
     /// The audit lines are wanted too.
     pub audit: bool,
-    /// The file with the script or the policy, and the standard input where there is none; or the rule, and all
-    /// rules where there is none.
+    /// The file with the script or the policy, and the standard input if there is none; or the rule, and all
+    /// rules if there is none.
     pub file: Option<&'a str>,
 }
 
@@ -165,7 +165,7 @@ fn plan_of<'a>(mode: Mode, matches: &ArgMatches<'a>) -> Invocation<'a>
 }
 
 /// What the words of a command line, the program's name first, ask for: a command, its FILE, and whether it is audited.
-/// A line that asks for a command is refused only where memory is refused. Any other error prints as
+/// A line that asks for a command is refused only if memory is refused. Any other error prints as
 /// the help that was asked for, or as the text for standard error.
 pub fn plan<'a>(alloc: Global, words: &'a [String]) -> Result<Invocation<'a>, Error>
     ensures answers { IsAnswerTo (asked (drop 1 (map string_bytes words.entry.now))) result }

@@ -140,7 +140,7 @@ fn is_named(rule: Rule, name: &str) -> bool {
         && number.parse::<u8>() == Ok(rule.number())
 }
 
-// Writes the rule of this name, or all rules where there is no name, and answers whether there is any.
+// Writes the rule of this name, or all rules if there is no name, and answers whether there is any.
 fn write_rules<W: Write>(out: &mut W, name: Option<&str>) -> io::Result<bool> {
     let mut is_any = false;
     for rule in RULES {
@@ -153,8 +153,8 @@ fn write_rules<W: Write>(out: &mut W, name: Option<&str>) -> io::Result<bool> {
     Ok(is_any)
 }
 
-/// Writes the line of the rule of this name, or of each rule where there is no name, and answers the exit status: 0; 1
-/// where they could not be written; 2 where no rule has that name.
+/// Writes the line of the rule of this name, or of each rule if there is no name, and answers the exit status: 0; 1
+/// if they could not be written; 2 if no rule has that name.
 pub(crate) fn tell_rules<W: Write, E: Eprint>(out: &mut W, err: &E, name: Option<&str>) -> u8
     ensures { result ≤ 2 }
 {

@@ -1,8 +1,8 @@
-//! Where the texts are.
+//! If the texts are.
 use gt_streams::ReadFault;
 use std::io::Read;
 
-/// Where the texts are that commands work on: files by their names, and the standard input. An
+/// If the texts are that commands work on: files by their names, and the standard input. An
 /// implementation may promise the bytes of some of them; a contract then speaks of those.
 pub trait Texts {
     ghost use Rattle.std.specs.Prelude.{◌≡◌, ℕ, List, Option, None, Some, IfOk, IfSome};
@@ -13,7 +13,7 @@ pub trait Texts {
     /// The standard input.
     type Input: Read + Drop;
 
-    // The bytes of the file of a name, and those of the standard input, where they are known.
+    // The bytes of the file of a name, and those of the standard input, if they are known.
     ghost file: { Self → List ℕ → Option (List ℕ) } = { λ _ _. None };
 
     ghost input: { Self → Option (List ℕ) } = { λ _. None };

@@ -23,68 +23,68 @@ use Rattle.gt_live.specs.Domains.{told_copy, told_of, verdict_of, verdict_of_fra
 use Rattle.gt_live.specs.Domains.{verdict_of_version}
 use Rattle.gt_live.specs.Mappings.{Removes}
 
--- a domain beside the monitor of its run (own)
+-- a domain beside the monitor of its run
 pub record Stand (P : Type 0) : Type 0 where
   pub monitor : Monitor P
   pub domain : Domain
 
--- what a call answers that gives no value (own)
+-- what a call answers that gives no value
 abbrev pub plain_answer : {R : Type 0} → Result R Denial → Answer
 plain_answer (Ok done) = answers.Done
 plain_answer (Err denial) = answers.Denied denial
 
--- what a map answers: the handle of the mapping (own)
+-- what a map answers: the handle of the mapping
 abbrev pub mapped_answer : Result Handle Denial → Answer
 mapped_answer (Ok handle) = answers.Mapped handle
 mapped_answer (Err denial) = answers.Denied denial
 
--- what a call answers that tells how many frames a table then has (own)
+-- what a call answers that tells how many frames a table then has
 abbrev pub frames_answer : Result ℕ Denial → Answer
 frames_answer (Ok frames) = answers.Frames frames
 frames_answer (Err denial) = answers.Denied denial
 
--- what a call answers that tells a table's size (own)
+-- what a call answers that tells a table's size
 abbrev pub size_answer : Result Size Denial → Answer
 size_answer (Ok size) = answers.Size size
 size_answer (Err denial) = answers.Denied denial
 
--- what a call answers that tells a table's version (own)
+-- what a call answers that tells a table's version
 abbrev pub version_answer : Result ℕ Denial → Answer
 version_answer (Ok version) = answers.Version version
 version_answer (Err denial) = answers.Denied denial
 
--- the answer has these bytes (own)
+-- the answer has these bytes
 abbrev pub HasBytes : List ℕ → Answer → Type 0
 HasBytes bytes (answers.Bytes b) = b.bytes.items ≡ bytes
 HasBytes bytes answer = ⊥
 
--- what a call answers that reads: the bytes of its receipt (own)
+-- what a call answers that reads: the bytes of its receipt
 abbrev pub IsReadAnswer : Result Reading Denial → Answer → Type 0
 IsReadAnswer (Ok r) answer = HasBytes r.bytes answer
 IsReadAnswer (Err denial) answer = answer ≡ answers.Denied denial
 
--- A call that is not recorded was answered so: the domain has the mappings, pins and records that it had. (own)
+-- A call that is not recorded was answered so: the domain has the mappings, pins and records that it had.
 abbrev pub AnswersQuietly : {P : Type 0} → (P → AllowRelation) → Monitor P → Domain → Request → Verdict → Domain
     → Type 0
 AnswersQuietly may m d request verdict e =
     Answered may m d request verdict e × KeepsPinned d e × (e.trail ≡ d.trail)
 
 -- a call that is recorded was answered so: the domain has the mappings and pins that it had, and this call is the one
--- record more, which is kept or counted as lost (own)
+-- record more, which is kept or counted as lost
 abbrev pub AnswersTold : {P : Type 0} → (P → AllowRelation) → Monitor P → Domain → Request → Hypercall → Verdict
     → Domain
     → Type 0
 AnswersTold may m d request call verdict e =
     Answered may m d request verdict e × KeepsPinned d e × Tells d.trail (told_of d call verdict) e.trail
 
--- an access to one frame was answered so: the domain has the mappings, pins and records that it had (own)
+-- an access to one frame was answered so: the domain has the mappings, pins and records that it had
 abbrev pub AccessesQuietly : {P R : Type 0} → (P → AllowRelation) → Monitor P → Domain → Request → (Step → R → Type 0)
     → Result R Denial → Domain → Type 0
 AccessesQuietly may m d request tells result e =
     Accesses may m d request tells result e × KeepsPinned d e × (e.trail ≡ d.trail)
 
 -- The domain d was asked this, answered so, and is e after it: the answer tells how its own call of that name was
--- answered, and so what that call did, to its mappings and its records too. (own)
+-- answered, and so what that call did, to its mappings and its records too.
 abbrev pub AnswersCall : {P : Type 0} → (P → AllowRelation) → Monitor P → Domain → Request → Answer → Domain → Type 0
 AnswersCall may m d (requests.Map dom gref flags) answer e =
     (r : Result Handle Denial) × (answer ≡ mapped_answer r)
@@ -126,6 +126,6 @@ AnswersCall may m d (requests.Copy args) answer e =
 AnswersCall may m d request answer e =
     (r : Result (Unit {0}) Denial) × (answer ≡ plain_answer r) × AnswersQuietly may m d request (verdict_of r) e
 
--- the same of a domain that keeps its number (own)
+-- the same of a domain that keeps its number
 abbrev pub Asks : {P : Type 0} → (P → AllowRelation) → Monitor P → Domain → Request → Answer → Domain → Type 0
 Asks may m d request answer e = (e.seat.dom ≡ d.seat.dom) × AnswersCall may m d request answer e

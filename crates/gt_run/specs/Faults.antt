@@ -5,15 +5,15 @@ use Rattle.gt_host.specs.declared.fault.PlayFault.TheVariants.{Memory, Write}
 use Rattle.gt_run.specs.declared.fault.RunFault.{RunFault}
 use Rattle.gt_run.specs.declared.fault.RunFault.TheVariants as faults
 
--- what ends a run, as one line (own)
+-- what ends a run, as one line
 abbrev pub run_fault_text : RunFault → List ℕ
 run_fault_text (faults.Play fault) = play_fault_text fault
 run_fault_text faults.Thread = codes "thread"
 
--- memory was refused (own)
+-- memory was refused
 abbrev pub out_of_memory : RunFault
 out_of_memory = faults.Play Memory
 
--- a write failed (own)
+-- a write failed
 abbrev pub not_written : RunFault
 not_written = faults.Play Write

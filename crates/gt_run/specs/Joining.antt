@@ -11,12 +11,12 @@ use Rattle.gt_run.specs.Printing.{BeginsLists, Served, WritesLists, all_lost, au
 use Rattle.gt_run.specs.Runs.{WroteLists}
 use Rattle.gt_run.specs.Serving.{counted}
 
--- the fault of a run that had begun to write: memory was refused, or a write failed (own)
+-- the fault of a run that had begun to write: memory was refused, or a write failed
 abbrev pub IsLate : RunFault → Type 0
 IsLate fault = (fault ≡ out_of_memory) ⊎ (fault ≡ not_written)
 
--- a text that is whole or not is written where all went well before: it went out, or a
--- beginning of it; after a fault nothing goes out, and the fault stays (own)
+-- a text that is whole or not is written if all went well before: it went out, or a
+-- beginning of it; after a fault nothing goes out, and the fault stays
 abbrev pub WritesNext : Result (Unit {0}) RunFault → Bool → List ℕ → Option (List ℕ) → Option (List ℕ)
     → Result (Unit {0}) RunFault → Type 0
 WritesNext (Err before) whole text old new r = (r ≡ Err before) × Keeps old new
@@ -25,7 +25,7 @@ WritesNext (Ok well) whole text old new (Err fault) = IsLate fault × AppendsBeg
 
 -- what was joined so far, with these audit lines and so many records lost: the lines of
 -- the lists went out, and these tell of the same calls; or, after a
--- fault, a beginning of the lines (own)
+-- fault, a beginning of the lines
 abbrev pub Joins : {P : Type 0} → (P → AllowRelation) → List (Duty P) → List ℕ → ℕ → Option (List ℕ) → Option (List ℕ)
     → Result (Unit {0}) RunFault → Type 0
 Joins {P} may duties audit lost old new (Ok done) =
@@ -33,8 +33,8 @@ Joins {P} may duties audit lost old new (Ok done) =
     × (lost ≡ counted (all_lost all))
 Joins may duties audit lost old new (Err fault) = IsLate fault × BeginsLists may duties old new
 
--- what was written of the duties that were started, where all were or not:
--- nothing, and that is the fault, unless all were (own)
+-- what was written of the duties that were started, if all were or not:
+-- nothing, and that is the fault, unless all were
 abbrev pub WroteStarted : {P : Type 0} → (P → AllowRelation) → Bool → List (Duty P) → Option (List ℕ) → Option (List ℕ)
     → Result (Unit {0}) RunFault → Type 0
 WroteStarted may true duties old new r = WroteLists may duties old new r

@@ -12,39 +12,39 @@ use Rattle.gt_run.specs.declared.lists.Part.{Part}
 use Rattle.gt_run.specs.declared.serving.Output.{Output}
 use Rattle.gt_run.specs.Serving.{IsBegun, IsServed, Outcome, audit_lines, counted, lost_in}
 
--- a list that was served, what its calls came to, and what it printed (own)
+-- a list that was served, what its calls came to, and what it printed
 pub record Served (P : Type 0) : Type 0 where
   pub duty : Duty P
   pub outcomes : List Outcome
   pub text : List ℕ
 
--- each of these lists was served so (own)
+-- each of these lists was served so
 abbrev pub AreServed : {P : Type 0} → (P → AllowRelation) → List (Served P) → Type 0
 AreServed may all = All (λ s. IsServed may s.duty s.outcomes s.text) all
 
--- whose lists they are (own)
+-- whose lists they are
 abbrev pub duties_in : {P : Type 0} → List (Served P) → List (Duty P)
 duties_in all = map (λ s. s.duty) all
 
--- what they printed, in their order (own)
+-- what they printed, in their order
 abbrev pub texts_in : {P : Type 0} → List (Served P) → List ℕ
 texts_in all = flat_map (λ s. s.text) all
 
--- the audit lines of their calls, in their order (own)
+-- the audit lines of their calls, in their order
 abbrev pub audits_in : {P : Type 0} → List (Served P) → List ℕ
 audits_in all = flat_map (λ s. audit_lines s.duty.part.types.now s.outcomes) all
 
--- how many records of their calls were lost (own)
+-- how many records of their calls were lost
 abbrev pub all_lost : {P : Type 0} → List (Served P) → ℕ
 all_lost all = sum_by (λ s. lost_in s.outcomes) all
 
--- the whole text of a run: what the lists printed, behind that their audit lines, and how many records were lost (own)
+-- the whole text of a run: what the lists printed, after that their audit lines, and how many records were lost
 abbrev pub whole_text : {P : Type 0} → List (Served P) → List ℕ
 whole_text all = texts_in all ++ (audits_in all ++ lost_text (counted (all_lost all)))
 
 -- what came of a duty, whose list printed all or did not: what its calls came to is
 -- what its text, its audit lines and its count of lost records tell;
--- or its text is that of some first lines (own)
+-- or its text is that of some first lines
 abbrev pub CameBy : {P : Type 0} → Bool → (P → AllowRelation) → Duty P → Output → Type 0
 CameBy true may duty o =
     (outcomes : List Outcome) × IsServed may duty outcomes o.text.items
@@ -55,43 +55,43 @@ CameBy false may duty o = IsBegun may duty o.text.items
 abbrev pub CameOf : {P : Type 0} → (P → AllowRelation) → Duty P → Output → Type 0
 CameOf may duty o = CameBy o.whole may duty o
 
--- the duties of these parts, in their order, all over this monitor, and with a log or without (own)
+-- the duties of these parts, in their order, all over this monitor, and with a log or without
 abbrev pub AreDuties : {P : Type 0} → Monitor P → Bool → List Part → List (Duty P) → Type 0
 AreDuties m logged parts duties =
     (map (λ d. d.part) duties ≡ parts) × All (λ d. (d.monitor.now ≡ m) × (is_some d.log ≡ logged)) duties
 
--- the lists of these duties were served, and what they printed went out (own)
+-- the lists of these duties were served, and what they printed went out
 abbrev pub WritesLists : {P : Type 0} → (P → AllowRelation) → List (Duty P) → List (Served P) → Option (List ℕ)
     → Option (List ℕ) → Type 0
 WritesLists may duties all old new = (duties_in all ≡ duties) × AreServed may all × Appends old new (texts_in all)
 
--- the lists of these duties were served, and their whole text went out (own)
+-- the lists of these duties were served, and their whole text went out
 abbrev pub WritesAll : {P : Type 0} → (P → AllowRelation) → List (Duty P) → Option (List ℕ) → Option (List ℕ) → Type 0
 WritesAll {P} may duties old new =
     (all : List (Served P)) × (duties_in all ≡ duties) × AreServed may all × Appends old new (whole_text all)
 
--- what goes on behind those lists that printed all: nothing, or what some first lines of the next list printed (own)
+-- what goes on after those lists that printed all: nothing, or what some first lines of the next list printed
 abbrev pub GoesOn : {P : Type 0} → (P → AllowRelation) → List (Duty P) → List ℕ → Type 0
 GoesOn may [] text = text ≡ []
 GoesOn may (next ∷ rest) text = (text ≡ []) ⊎ IsBegun may next text
 
--- a beginning of what these lists print went out: the first ones were served, and behind
--- what they printed goes nothing, or the beginning of the next one (own)
+-- a beginning of what these lists print went out: the first ones were served, and after
+-- what they printed goes nothing, or the beginning of the next one
 abbrev pub BeginsLists : {P : Type 0} → (P → AllowRelation) → List (Duty P) → Option (List ℕ) → Option (List ℕ) → Type 0
 BeginsLists {P} may duties old new =
     (all : List (Served P)) × (rest : List (Duty P)) × (text : List ℕ)
     × (duties_in all ++ rest ≡ duties) × AreServed may all × GoesOn may rest text
     × AppendsBeginning old new (texts_in all ++ text)
 
--- a beginning of the whole text of these lists went out (own)
+-- a beginning of the whole text of these lists went out
 abbrev pub BeginsWhole : {P : Type 0} → (P → AllowRelation) → List (Duty P) → Option (List ℕ) → Option (List ℕ) → Type 0
 BeginsWhole {P} may duties old new =
     (all : List (Served P)) × (duties_in all ≡ duties) × AreServed may all × AppendsBeginning old new (whole_text all)
 
--- a beginning of a whole text that these lists may print went out, where they were served so far (own)
+-- a beginning of a whole text that these lists may print went out, if they were served so far
 abbrev pub BeginsAll : {P : Type 0} → (P → AllowRelation) → List (Duty P) → Option (List ℕ) → Option (List ℕ) → Type 0
 BeginsAll may duties old new = BeginsLists may duties old new ⊎ BeginsWhole may duties old new
 
--- the duties that were promised (own)
+-- the duties that were promised
 abbrev pub promised : {P : Type 0} → List (PromisedHandle Output (Duty P)) → List (Duty P)
 promised handles = map (λ h. h.promise) handles

@@ -20,9 +20,9 @@ use Rattle.gt_run.specs.declared.lists.Duty.{Duty}
 use Rattle.gt_run.specs.declared.lists.Part.{Part}
 use Rattle.gt_run.specs.Printing.{AreDuties, BeginsAll, WritesAll}
 
--- What these duties wrote that ended so: at Ok the whole text of their lists; where a
+-- What these duties wrote that ended so: at Ok the whole text of their lists; if a
 -- thread was refused nothing; after a failed write or for want of
--- memory a beginning of it. No other fault is one of theirs. (own)
+-- memory a beginning of it. No other fault is one of theirs.
 abbrev pub WroteLists : {P : Type 0} → (P → AllowRelation) → List (Duty P) → Option (List ℕ) → Option (List ℕ)
     → Result (Unit {0}) RunFault → Type 0
 WroteLists may duties old new (Ok done) = WritesAll may duties old new
@@ -33,18 +33,18 @@ WroteLists may duties old new (Err (Play Read)) = ⊥
 WroteLists may duties old new (Err (Play (Script fault))) = ⊥
 WroteLists may duties old new (Err (Play (Policy fault))) = ⊥
 
--- such duties wrote their whole text (own)
+-- such duties wrote their whole text
 abbrev pub Writes : {P : Type 0} → (P → AllowRelation) → (List (Duty P) → Type 0) → Option (List ℕ) → Option (List ℕ)
     → Type 0
 Writes {P} may Are old new = (duties : List (Duty P)) × Are duties × WritesAll may duties old new
 
--- such duties wrote a beginning of their whole text (own)
+-- such duties wrote a beginning of their whole text
 abbrev pub BeginsToWrite : {P : Type 0} → (P → AllowRelation) → (List (Duty P) → Type 0) → Option (List ℕ)
     → Option (List ℕ) → Type 0
 BeginsToWrite {P} may Are old new = (duties : List (Duty P)) × Are duties × BeginsAll may duties old new
 
--- the same of duties of which this is known; where memory is refused, it may
--- be that none began, and nothing was written (own)
+-- the same of duties of which this is known; if memory is refused, it may
+-- be that none began, and nothing was written
 abbrev pub Wrote : {P : Type 0} → (P → AllowRelation) → (List (Duty P) → Type 0) → Option (List ℕ) → Option (List ℕ)
     → Result (Unit {0}) RunFault → Type 0
 Wrote may Are old new (Ok done) = Writes may Are old new
@@ -55,25 +55,25 @@ Wrote may Are old new (Err (Play Read)) = ⊥
 Wrote may Are old new (Err (Play (Script fault))) = ⊥
 Wrote may Are old new (Err (Play (Policy fault))) = ⊥
 
--- the duties of these parts, over one monitor of this configuration and these rights (own)
+-- the duties of these parts, over one monitor of this configuration and these rights
 abbrev pub AreUnder : {P : Type 0} → Config → P → Bool → List Part → List (Duty P) → Type 0
 AreUnder {P} config rights logged parts duties =
     (m : Monitor P) × (m.config ≡ config) × (m.rights ≡ rights) × AreDuties m logged parts duties
 
--- the part has these tasks and these names of types (own)
+-- the part has these tasks and these names of types
 abbrev pub IsOver : List Task → List (List ℕ) → Part → Type 0
 IsOver tasks names part = (part.tasks.now ≡ tasks) × (part.types.now ≡ names)
 
--- the parts of these domains, one for each, in their order, over the same tasks and names of types (own)
+-- the parts of these domains, one for each, in their order, over the same tasks and names of types
 abbrev pub AreParts : List DomainConfig → List Task → List (List ℕ) → List Part → Type 0
 AreParts domains tasks names parts = (map (λ p. p.dom) parts ≡ map (λ d. d.id) domains) × All (IsOver tasks names) parts
 
--- the parts of a script: its domains, each with the script's tasks and names of types (own)
+-- the parts of a script: its domains, each with the script's tasks and names of types
 abbrev pub ArePartsOf : RunContents → List Part → Type 0
 ArePartsOf c parts = AreParts c.head.domains c.tasks (type_names c.head) parts
 
 -- the duties of a script's parts, over one monitor that has the script's domains and
--- its first generation, and allows what the script allows (own)
+-- its first generation, and allows what the script allows
 pub record AreOf (c : RunContents) (logged : Bool) (duties : List (Duty ScriptRights)) : Type 0 where
   pub parts : List Part
   pub of_script : ArePartsOf c parts
@@ -83,27 +83,27 @@ pub record AreOf (c : RunContents) (logged : Bool) (duties : List (Duty ScriptRi
   pub rights : may_by monitor.rights ≡ may_in c.head
   pub duties_are : AreDuties monitor logged parts duties
 
--- the script's lists wrote their whole text (own)
+-- the script's lists wrote their whole text
 abbrev pub WritesScript : RunContents → Bool → Option (List ℕ) → Option (List ℕ) → Type 0
 WritesScript c logged old new = Writes may_by (AreOf c logged) old new
 
--- a beginning of the whole text of the script's lists went out (own)
+-- a beginning of the whole text of the script's lists went out
 abbrev pub BeginsScript : RunContents → Bool → Option (List ℕ) → Option (List ℕ) → Type 0
 BeginsScript c logged old new = BeginsToWrite may_by (AreOf c logged) old new
 
--- what a script wrote whose run ended so, as its lists did (own)
+-- what a script wrote whose run ended so, as its lists did
 abbrev pub WroteScript : RunContents → Bool → Option (List ℕ) → Option (List ℕ) → Result (Unit {0}) RunFault → Type 0
 WroteScript c logged old new r = Wrote may_by (AreOf c logged) old new r
 
--- what is told is a script, and of it this holds (own)
+-- what is told is a script, and of it this holds
 abbrev pub OfScript : (Result RunContents Wrong → Type 0) → (RunContents → Type 0) → Type 0
 OfScript Told P = (c : RunContents) × Told (Ok c) × P c
 
--- what `run` wrote, with a log or without, where it answers so for bytes of which this is
+-- what `run` wrote, with a log or without, if it answers so for bytes of which this is
 -- told: at Ok the text of the script, whole; at a fault of the script
--- nothing, and the fault is the script's first; nothing where a thread was refused; after a
+-- nothing, and the fault is the script's first; nothing if a thread was refused; after a
 -- failed write a beginning of a text of the script, and so for want of
--- memory, unless nothing (own)
+-- memory, unless nothing
 abbrev pub Ran : Bool → (Result RunContents Wrong → Type 0) → Option (List ℕ) → Option (List ℕ)
     → Result (Unit {0}) RunFault → Type 0
 Ran logged Told old new (Ok done) = OfScript Told (λ c. WritesScript c logged old new)

@@ -32,42 +32,42 @@ use Rattle.gt_run.specs.Telling.{TellsWhere}
 
 -- calls
 
--- what came of the call of a line: its answer; its record, where that went
--- into the log; and how many records of it were lost (own)
+-- what came of the call of a line: its answer; its record, if that went
+-- into the log; and how many records of it were lost
 pub record Outcome : Type 0 where
   pub line : ℕ
   pub answer : Answer
   pub told : List Record
   pub lost : ℕ
 
--- how far a list has come: its domain, what the labels stand for, and what came of its calls so far, in order (own)
+-- how far a list has come: its domain, what the labels stand for, and what came of its calls so far, in order
 pub record Progress : Type 0 where
   pub domain : Domain
   pub named : List Named
   pub outcomes : List Outcome
 
--- before its first line no label stands for a handle, and no call was made (own)
+-- before its first line no label stands for a handle, and no call was made
 abbrev pub at_start : Domain → Progress
 at_start d = record { domain = d; named = []; outcomes = [] }
 
 -- what became of the record that a call makes, if it makes one: it went into
--- the log, or it was lost; without a log neither (own)
+-- the log, or it was lost; without a log neither
 abbrev pub Records : Bool → Option Record → List Record → ℕ → Type 0
 Records true (Some r) told lost = ((told ≡ r ∷ []) × (lost ≡ 0)) ⊎ ((told ≡ []) × (lost ≡ 1))
 Records true None told lost = (told ≡ []) × (lost ≡ 0)
 Records false made told lost = (told ≡ []) × (lost ≡ 0)
 
--- the record of a request of this domain, which it made of this and answered so, if such calls are audited (own)
+-- the record of a request of this domain, which it made of this and answered so, if such calls are audited
 abbrev pub record_made : DomId → Domain → Request → Answer → Option Record
 record_made dom d request answer = record_told dom (call_told (subject_of d) (asked request)) answer
 
--- the duty's calls are recorded (own)
+-- the duty's calls are recorded
 abbrev pub is_logged : {P : Type 0} → Duty P → Bool
 is_logged duty = is_some duty.log
 
 -- The call of a line was made: the domain was asked what the line says, by what its
 -- labels stood for then, and answered so. What it came to is the one
--- outcome more, and a map answered Ok gives its handle to its label. (own)
+-- outcome more, and a map answered Ok gives its handle to its label.
 pub record MakesCall {P : Type 0} (may : P → AllowRelation) (duty : Duty P) (line : ℕ) (call : ScriptCall)
     (p q : Progress) : Type 0 where
   pub request : Request
@@ -80,18 +80,18 @@ pub record MakesCall {P : Type 0} (may : P → AllowRelation) (duty : Duty P) (l
   pub named : q.named ≡ with_name p.named duty.part.dom (label_given call) (handle_given answer)
   pub outcomes : q.outcomes ≡ p.outcomes ++ record { line = line; answer = answer; told = told; lost = lost } ∷ []
 
--- what a line leads to that has its domain do this: a call is made; a flag told or awaited changes nothing (own)
+-- what a line leads to that has its domain do this: a call is made; a flag told or awaited changes nothing
 unfoldable pub DoesDeed : {P : Type 0} → (P → AllowRelation) → Duty P → ℕ → Deed → Progress → Progress → Type 0
 DoesDeed may duty line (Do call) p q = MakesCall may duty line call p q
 DoesDeed may duty line (Tell flag) p q = q ≡ p
 DoesDeed may duty line (Await flag) p q = q ≡ p
 
--- what a line leads to that is the domain's, or is not: another's changes nothing (own)
+-- what a line leads to that is the domain's, or is not: another's changes nothing
 abbrev pub DoesWhere : {P : Type 0} → Bool → (P → AllowRelation) → Duty P → Task → Progress → Progress → Type 0
 DoesWhere true may duty task p q = DoesDeed may duty task.line task.deed p q
 DoesWhere false may duty task p q = q ≡ p
 
--- these lines, one after the other, lead from one point of a list to another (own)
+-- these lines, one after the other, lead from one point of a list to another
 abbrev pub LeadsTo : {P : Type 0} → (P → AllowRelation) → Duty P → Progress → List Task → Progress → Type 0
 LeadsTo may duty p [] q = q ≡ p
 LeadsTo may duty p (task ∷ tasks) q =
@@ -99,53 +99,53 @@ LeadsTo may duty p (task ∷ tasks) q =
 
 -- what outcomes print
 
--- the lines of these answers, in order (own)
+-- the lines of these answers, in order
 abbrev pub answer_lines : List (List ℕ) → DomId → List Outcome → List ℕ
 answer_lines names dom outcomes = flat_map (λ o. answer_line names o.line dom o.answer) outcomes
 
--- the records of these calls that the log has, in order (own)
+-- the records of these calls that the log has, in order
 abbrev pub records_told : List Outcome → List Record
 records_told outcomes = flat_map (λ o. o.told) outcomes
 
--- the audit lines of these calls, in order (own)
+-- the audit lines of these calls, in order
 abbrev pub audit_lines : List (List ℕ) → List Outcome → List ℕ
 audit_lines names outcomes = flat_map (line_text (type_text (λ name. name) names)) (records_told outcomes)
 
--- how many records of these calls were lost (own)
+-- how many records of these calls were lost
 abbrev pub lost_in : List Outcome → ℕ
 lost_in outcomes = sum_by (λ o. o.lost) outcomes
 
--- a count of 64 bits, which stays at its largest value (own)
+-- a count of 64 bits, which stays at its largest value
 abbrev pub counted : ℕ → ℕ
 counted count = min count (2 ^ 64 - 1)
 
 -- lists
 
--- this is the monitor's domain of that number, which has done nothing (own)
+-- this is the monitor's domain of that number, which has done nothing
 pub record IsFirst {P : Type 0} (may : P → AllowRelation) (m : Monitor P) (dom : DomId) (d : Domain) : Type 0 where
   pub position : ℕ
   pub fresh : IsNewDomain m.words m.config (may m.rights) position d
   pub own : d.seat.dom ≡ dom
 
--- such a domain is on this monitor (own)
+-- such a domain is on this monitor
 abbrev pub IsReady : {P : Type 0} → (P → AllowRelation) → Monitor P → DomId → Stand P → Type 0
 IsReady may m dom s = (s.monitor ≡ m) × IsFirst may m dom s.domain
 
--- the domains are ready for these parts, each for its own (own)
+-- the domains are ready for these parts, each for its own
 abbrev pub AreReady : {P : Type 0} → (P → AllowRelation) → Monitor P → List (Stand P) → List Part → Type 0
 AreReady may m stands parts = AllZip (λ s p. IsReady may m p.dom s) stands parts
 
--- the line awaits a flag (own)
+-- the line awaits a flag
 unfoldable pub IsAwait : Deed → Type 0
 IsAwait (Do call) = ⊥
 IsAwait (Tell flag) = ⊥
 IsAwait (Await flag) = Unit {0}
 
--- `LINE ID gate`: the gate answered false at that line (own)
+-- `LINE ID gate`: the gate answered false at that line
 abbrev pub gate_line : ℕ → DomId → List ℕ
 gate_line line dom = call_text line dom ++ codes "gate\n"
 
--- a list stops at this line, which awaits a flag, where its gate answers false; this is its last line then (own)
+-- a list stops at this line, which awaits a flag, if its gate answers false; this is its last line then
 pub record Stops (dom : DomId) (tasks : List Task) (number : ℕ) (last : List ℕ) : Type 0 where
   pub at : Task
   pub own : (at.dom.0 == dom.0) ≡ true
@@ -153,13 +153,13 @@ pub record Stops (dom : DomId) (tasks : List Task) (number : ℕ) (last : List �
   pub awaits : IsAwait at.deed
   pub last_is : last ≡ gate_line at.line dom
 
--- a list ends behind so many lines: they are all, and nothing more is printed; or it stops there (own)
+-- a list ends after so many lines: they are all, and nothing more is printed; or it stops there
 abbrev pub Ends : DomId → List Task → ℕ → List ℕ → Type 0
 Ends dom tasks number last = ((number ≡ length tasks) × (last ≡ [])) ⊎ Stops dom tasks number last
 
 -- The duty's list was served from a domain that had done nothing up to its end: its
 -- calls came to these outcomes, and it printed the lines of their
--- answers, and the line of its gate where that ended it (own)
+-- answers, and the line of its gate if that ended it
 pub record IsServed {P : Type 0} (may : P → AllowRelation) (duty : Duty P) (outcomes : List Outcome)
     (text : List ℕ) : Type 0 where
   pub domain : Domain
@@ -173,7 +173,7 @@ pub record IsServed {P : Type 0} (may : P → AllowRelation) (duty : Duty P) (ou
   pub prints : text ≡ answer_lines duty.part.types.now duty.part.dom outcomes ++ last
 
 -- some first lines of the duty's list were served from a domain that had
--- done nothing, and this is what their calls printed (own)
+-- done nothing, and this is what their calls printed
 pub record IsBegun {P : Type 0} (may : P → AllowRelation) (duty : Duty P) (text : List ℕ) : Type 0 where
   pub domain : Domain
   pub first : IsFirst may duty.monitor.now duty.part.dom domain
@@ -185,14 +185,14 @@ pub record IsBegun {P : Type 0} (may : P → AllowRelation) (duty : Duty P) (tex
 -- what is kept beside a list
 
 -- what went into the log, or was lost, are the records of these calls:
--- each record of the domain's trail was pushed (own)
+-- each record of the domain's trail was pushed
 abbrev pub IsTold : Telling → Option Teller → List Outcome → Type 0
 IsTold trail None outcomes = (records_told outcomes ≡ []) × (lost_in outcomes ≡ 0)
 IsTold trail (Some t) outcomes =
     (t.next ≡ length trail.records) × (map (λ e. e.1) t.told.told ≡ records_told outcomes)
     × (counted (trail.lost + t.told.lost) ≡ counted (lost_in outcomes))
 
--- the domain and what is kept beside it are where the list has come to (own)
+-- the domain and what is kept beside it are where the list has come to
 pub record IsKept {P : Type 0} (duty : Duty P) (p : Progress) (d : Domain) (labels : Labels)
     (teller : Option Teller) : Type 0 where
   pub domain : p.domain ≡ d
@@ -201,7 +201,7 @@ pub record IsKept {P : Type 0} (duty : Duty P) (p : Progress) (d : Domain) (labe
   pub asked : is_some teller ≡ is_logged duty
   pub told : IsTold d.trail teller p.outcomes
 
--- from each point that is kept so, the call of this line leads to a next one, and prints this (own)
+-- from each point that is kept so, the call of this line leads to a next one, and prints this
 abbrev pub Calls : {P : Type 0} → (P → AllowRelation) → Duty P → ℕ → ScriptCall → Domain → Domain → Labels → Labels
     → Option Teller → Option Teller → List ℕ → Type 0
 Calls may duty line call d e before after t u text =
@@ -211,7 +211,7 @@ Calls may duty line call d e before after t u text =
     ≡ answer_lines duty.part.types.now duty.part.dom p.outcomes ++ text)
 
 -- the domain made the call of a line: from what the labels stood for it was asked what the
--- line says and answered so, and they stand for what they then do (own)
+-- line says and answered so, and they stand for what they then do
 abbrev pub Makes : {P : Type 0} → (P → AllowRelation) → Duty P → ScriptCall → Domain → Domain → Labels → Labels → Answer
     → Type 0
 Makes may duty call d e before after answer =
@@ -219,12 +219,12 @@ Makes may duty call d e before after answer =
     → (request : Request) × SaysRequest named duty.part.dom call request × Asks may duty.monitor.now d request answer e
     × AreNamed after (with_name named duty.part.dom (label_given call) (handle_given answer))
 
--- nothing was pushed for the calls of this domain, which has made none (own)
+-- nothing was pushed for the calls of this domain, which has made none
 abbrev pub StartsTold : {P : Type 0} → Duty P → Domain → Option Teller → Type 0
 StartsTold duty d teller = (d.seat.dom ≡ duty.part.dom) × (is_some teller ≡ is_logged duty) × IsTold d.trail teller []
 
 -- a list was served from this domain on, up to its end; what is kept is
--- where it came to, and the text is what it printed (own)
+-- where it came to, and the text is what it printed
 pub record ServesAll {P : Type 0} (may : P → AllowRelation) (duty : Duty P) (d : Domain) (text : List ℕ) (e : Domain)
     (teller : Option Teller) : Type 0 where
   pub left : Progress
@@ -236,21 +236,21 @@ pub record ServesAll {P : Type 0} (may : P → AllowRelation) (duty : Duty P) (d
   pub asked : is_some teller ≡ is_logged duty
   pub told : IsTold e.trail teller left.outcomes
 
--- some first lines of it were served, and the text is what their calls printed (own)
+-- some first lines of it were served, and the text is what their calls printed
 pub record ServesSome {P : Type 0} (may : P → AllowRelation) (duty : Duty P) (d : Domain) (text : List ℕ) : Type 0 where
   pub left : Progress
   pub number : ℕ
   pub leads : LeadsTo may duty (at_start d) (take number duty.part.tasks.now) left
   pub prints : text ≡ answer_lines duty.part.types.now duty.part.dom left.outcomes
 
--- a list that printed all, or did not, was served so (own)
+-- a list that printed all, or did not, was served so
 abbrev pub Serves : {P : Type 0} → (P → AllowRelation) → Duty P → Domain → Bool → List ℕ → Domain → Option Teller
     → Type 0
 Serves may duty d true text e teller = ServesAll may duty d text e teller
 Serves may duty d false text e teller = ServesSome may duty d text
 
--- what so many first lines of a list came to, where their text is all there or is not:
--- with what is kept beside it, or only some first ones of them (own)
+-- what so many first lines of a list came to, if their text is all there or is not:
+-- with what is kept beside it, or only some first ones of them
 abbrev pub HasCome : {P : Type 0} → (P → AllowRelation) → Duty P → Domain → Bool → ℕ → List ℕ → Domain → Labels
     → Option Teller → Type 0
 HasCome may duty d true count text e labels teller =

@@ -5,12 +5,12 @@ use Rattle.gt_audit.specs.declared.record.Record.{Record}
 use Rattle.gt_run.specs.declared.telling.Teller.{Teller}
 
 -- the record that the trail has beyond those told, if it has one, is told under its
--- place there, and then all of the trail's are told, so many (own)
+-- place there, and then all of the trail's are told, so many
 abbrev pub TellsNext : Option Record → ℕ → Teller → Teller → Type 0
 TellsNext None count old new = new ≡ old
 TellsNext (Some r) count old new = TellsUnder old.told old.next r new.told × (new.next ≡ count)
 
--- the next record of the trail is told, where there is a log (own)
+-- the next record of the trail is told, if there is a log
 abbrev pub TellsWhere : Telling → Option Teller → Option Teller → Type 0
 TellsWhere trail None new = new ≡ None
 TellsWhere trail (Some t) new =

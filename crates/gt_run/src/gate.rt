@@ -1,9 +1,9 @@
-//! Where domains wait for one another.
+//! If domains wait for one another.
 use gt_types::Memory;
 use std::alloc::Global;
 use std::sync::{Condvar, Mutex, Wait};
 
-/// Where domains wait for one another. Flags are numbered from 0.
+/// If domains wait for one another. Flags are numbered from 0.
 pub trait Gate {
     /// A domain raises the flag.
     fn tell(&self, flag: usize);
@@ -27,7 +27,7 @@ impl<'r, R: Wait> Flags<'r, R> {
     /// A gate of [`FLAGS`] flags, none of which is raised.
     ///
     /// # Errors
-    /// Memory was refused. It is asked for here alone.
+    /// Memory was refused. It is asked for only here.
     pub fn new(rt: &'r R, alloc: Global) -> Result<Self, Memory> {
         Ok(Flags {
             rt,

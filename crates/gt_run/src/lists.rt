@@ -15,7 +15,7 @@ pub struct Part<'s, 'a> {
     pub types: &'s [Text<'s>],
 }
 
-/// What the thread of a domain is to do: its part, on a monitor, with a record of its calls where there is a log.
+/// What the thread of a domain is to do: its part, on a monitor, with a record of its calls if there is a log.
 #[derive(Drop)]
 pub struct Duty<'s, 'a, P: Allows> {
     pub part: Part<'s, 'a>,

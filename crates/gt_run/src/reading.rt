@@ -90,13 +90,13 @@ fn run_bytes<R: Threads + Wait + Sync, G: Gate + Sync, W: Write>(
     }
 }
 
-/// Runs the script that the reader has: each domain makes its calls in a thread of its own, and where one awaits a flag
+/// Runs the script that the reader has: each domain makes its calls in a thread of its own, and if one awaits a flag
 /// it asks the gate. Writes a line for each answer: those of the first domain first, and each domain's in their order.
-/// Where a log is given, calls are recorded in it, and after all other lines come the audit lines of each domain and
+/// If a log is given, calls are recorded in it, and after all other lines come the audit lines of each domain and
 /// how many records were lost.
 ///
 /// Of the reader at most 1,048,577 bytes are read. A script with a fault writes nothing. After a failed write, or
-/// where memory is refused, a beginning of a text of the script was written.
+/// if memory is refused, a beginning of a text of the script was written.
 ///
 /// # Errors
 /// The script's first fault; a thread that was refused, and then no list ran; memory that was refused; or a read or a

@@ -23,11 +23,11 @@ use std::sync::{OnceLock, Wait};
 pub struct Output {
     /// The lines of its answers, or a beginning of them.
     pub text: Vec<u8>,
-    /// Whether these are all lines. They are not where memory was refused, or where no list ran.
+    /// Whether these are all lines. They are not if memory was refused, or if no list ran.
     pub whole: bool,
-    /// Its audit lines; none where no log was given.
+    /// Its audit lines; none if no log was given.
     pub audit: Result<Vec<u8>, Memory>,
-    /// How many of its records were lost; none where no log was given.
+    /// How many of its records were lost; none if no log was given.
     pub lost: u64,
 }
 
@@ -111,7 +111,7 @@ fn gate_line(alloc: Global, line: usize, dom: DomId) -> Result<Vec<u8>, AllocErr
     Ok(text)
 }
 
-// Appends a line where it and all before it found memory, and answers whether they did.
+// Appends a line if it and all before it found memory, and answers whether they did.
 fn has_appended(text: &mut Vec<u8>, whole: bool, line: Result<Vec<u8>, AllocError>) -> bool
     ensures appended { IsTrue result → IsTrue whole × IsOk line
         × IfOk line (λ l. text.new.items ≡ text.old.items ++ l.items) }
@@ -123,7 +123,7 @@ fn has_appended(text: &mut Vec<u8>, whole: bool, line: Result<Vec<u8>, AllocErro
     }
 }
 
-// Serves the lines of a domain, and answers whether all were written. It goes on where memory is refused for a line,
+// Serves the lines of a domain, and answers whether all were written. It goes on if memory is refused for a line,
 // since other domains may wait for a flag of this one. Nothing is written after that line.
 fn serve<'a, R: Wait, P: Allows, G: Gate>(
     rt: &R,
@@ -170,7 +170,7 @@ fn serve<'a, R: Wait, P: Allows, G: Gate>(
     whole
 }
 
-/// Serves a domain's list once the start is given, and finishes the domain. Where the start is called off it serves no
+/// Serves a domain's list once the start is given, and finishes the domain. If the start is called off it serves no
 /// line.
 pub fn work<'a, R: Wait, P: Allows, G: Gate>(
     rt: &R,

@@ -80,7 +80,7 @@ pub fn teller_for<'l>(alloc: Global, log: Option<&'l SharedLog>, dom: DomId) -> 
     }
 }
 
-/// Pushes the next record of a trail, where there is a log.
+/// Pushes the next record of a trail, if there is a log.
 pub fn tell_next(rt: &impl Wait, teller: &mut Option<Teller<'_>>, trail: &Trail)
     ensures { TellsWhere trail.now teller.old teller.new }
 {

@@ -40,7 +40,7 @@ fn finish_all<P: Allows>(monitor: &Monitor<P>, domains: Vec<Domain>)
     rest.destroy_empty();
 }
 
-/// Each domain beside its monitor. Where there is no memory for that, each is finished.
+/// Each domain beside its monitor. If there is no memory for that, each is finished.
 pub fn all_running<'m, P: Allows>(
     alloc: Global,
     monitor: &'m Monitor<P>,
@@ -128,7 +128,7 @@ struct Joined {
     lost: u64,
 }
 
-// Writes what came of a domain's list, where all went well before: whole, or a beginning of it.
+// Writes what came of a domain's list, if all went well before: whole, or a beginning of it.
 fn write_next<W: Write>(
     outcome: Result<(), RunFault>,
     writer: &mut W,
@@ -146,7 +146,7 @@ fn write_next<W: Write>(
     }
 }
 
-// Keeps the audit lines of a domain, where all went well before.
+// Keeps the audit lines of a domain, if all went well before.
 fn keep_audit(
     outcome: Result<(), RunFault>,
     all: &mut Vec<u8>,
@@ -229,7 +229,7 @@ fn take_back<W>(writer: &mut W)
     ensures { writer.new ≡ writer.old }
 {}
 
-// Writes what the threads print, where there is one for each domain.
+// Writes what the threads print, if there is one for each domain.
 fn write_each<'s, 'a, R: Threads, P: Allows, W: Write>(
     rt: &R,
     alloc: Global,
@@ -254,7 +254,7 @@ fn write_each<'s, 'a, R: Threads, P: Allows, W: Write>(
 }
 
 /// Gives each domain a thread of its own, with its part, and writes what they print: the lines of each domain as it is
-/// joined, in their order, and then their audit lines. No list begins before all threads are there. Where one is
+/// joined, in their order, and then their audit lines. No list begins before all threads are there. If one is
 /// refused, no list runs.
 pub fn run_each<'a, R: Threads + Wait + Sync, P: Allows + Sync, G: Gate + Sync, W: Write>(
     rt: &R,

@@ -25,7 +25,7 @@ fn untold_read<R: Threads + Wait + Sync>(
     Ok(None)
 }
 
-// Each write fails after so many bytes, for each number of them; then the flush alone, and then nothing. The first
+// Each write fails after so many bytes, for each number of them; then only the flush, and then nothing. The first
 // number after which `run` answers otherwise, or what went out is no beginning of the text with its audit lines.
 fn untold_write<R: Threads + Wait + Sync>(
     rt: &R,

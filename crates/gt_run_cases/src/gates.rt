@@ -100,7 +100,7 @@ impl<'l> Turns<'l> {
         )
     }
 
-    // Notes where the look finds what it looks for.
+    // Notes if the look finds what it looks for.
     fn note(&self, at: &AtomicBool) {
         if self.look.is_some_and(|look| look.has_all()) {
             at.store(true, Ordering::SeqCst);

@@ -11,7 +11,7 @@ const DOMAINS: u16 = MAX_DOMAINS as u16;
 
 const ROUNDS: u16 = 100;
 
-// The script, whose body begins behind a line for each domain and one more: all domains meet, and then each does what
+// The script, whose body begins after a line for each domain and one more: all domains meet, and then each does what
 // no other sees, four calls a round.
 fn script(alloc: Global) -> Result<String, AllocError> {
     let mut text = String::new(alloc);

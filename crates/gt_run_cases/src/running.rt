@@ -6,7 +6,7 @@ use std::alloc::{AllocError, Global};
 use std::sync::Wait;
 use std::thread::Threads;
 
-/// What a run wrote, and its fault as a text, which is empty where there was none.
+/// What a run wrote, and its fault as a text, which is empty if there was none.
 #[derive(Drop)]
 pub struct Ended {
     pub out: Vec<u8>,
@@ -30,7 +30,7 @@ impl Ended {
     }
 }
 
-/// Runs a script. Each read fails behind so many bytes of it, each write behind so many bytes of what is printed.
+/// Runs a script. Each read fails after so many bytes of it, each write after so many bytes of what is printed.
 pub fn run_failing<R: Threads + Wait + Sync, G: Gate + Sync>(
     rt: &R,
     alloc: Global,

@@ -8,9 +8,9 @@ use Rattle.gt_script.specs.declared.command.Command.{Command}
 use Rattle.gt_script.specs.declared.orders.Order.{Order}
 use Rattle.gt_script.specs.declared.script.ScriptStep.{ScriptStep}
 
--- the command that it is for; what the policy of its block says, where it has one; else the names of its types, by
+-- the command that it is for; what the policy of its block says, if it has one; else the names of its types, by
 -- their numbers, and its triples; its domains; the lines of its body, which are steps for `play` and orders for `run`;
--- all in the order of their lines; and the number of its line `wear`, where it has one (own)
+-- all in the order of their lines; and the number of its line `wear`, if it has one
 pub record Contents : Type 0 where
   pub command : Command
   pub policy : Option Allowed
@@ -21,7 +21,7 @@ pub record Contents : Type 0 where
   pub steps : List ScriptStep
   pub orders : List Order
 
--- the same, with the policy as it is kept (own)
+-- the same, with the policy as it is kept
 pub record KeptContents : Type 0 where
   pub command : Command
   pub policy : Option KeptPolicy
@@ -32,7 +32,7 @@ pub record KeptContents : Type 0 where
   pub steps : List ScriptStep
   pub orders : List Order
 
--- what a script holds that is kept so (own)
+-- what a script holds that is kept so
 abbrev pub told : KeptContents → Contents
 told k = record {
   command = k.command;
@@ -45,7 +45,7 @@ told k = record {
   orders = k.orders;
 }
 
--- a script of no line, for this command (own)
+-- a script of no line, for this command
 abbrev pub empty : Command → Contents
 empty command =
     record {
@@ -59,23 +59,23 @@ empty command =
       orders = [];
     }
 
--- a script of a policy block alone (own)
+-- a script of only a policy block
 abbrev pub with_policy : Command → Allowed → Contents
 with_policy command p = record (empty command) { policy = Some p }
 
--- a script without the lines of its body for `run` (own)
+-- a script without the lines of its body for `run`
 abbrev pub without_orders : Contents → Contents
 without_orders c = record c { orders = [] }
 
--- the names of the types, with these where there is no policy (own)
+-- the names of the types, with these if there is no policy
 abbrev pub names_with : Option Allowed → List (List ℕ) → List (List ℕ)
 names_with None types = types
 names_with (Some p) types = p.types
 
--- the names of the types, by their numbers (own)
+-- the names of the types, by their numbers
 abbrev pub type_names : Contents → List (List ℕ)
 type_names c = names_with c.policy c.types
 
--- the first generation of all entries: 0 where no line gives it (own)
+-- the first generation of all entries: 0 if no line gives it
 abbrev pub first_gen : Contents → ℕ
 first_gen c = unwrap_or c.wear 0

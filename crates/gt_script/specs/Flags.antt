@@ -1,4 +1,4 @@
--- The flags of a script for `run`, numbered as they first appear (own).
+-- The flags of a script for `run`, numbered as they first appear.
 use Rattle.std.specs.Prelude.{ℕ, List, [], ◌∷◌, ◌++◌, Option, Some, None, map, fold, if◌then◌else◌}
 use Rattle.std.specs.Borrow.{Bor}
 use Rattle.std.specs.List.{filter_map, list_any, position_or_len}
@@ -8,24 +8,24 @@ use Rattle.gt_script.specs.declared.orders.Order.{Order}
 use Rattle.gt_script.specs.declared.orders.RunLine.{RunLine}
 use Rattle.gt_script.specs.declared.orders.RunLine.TheVariants as runs
 
--- the texts that are lent (own)
+-- the texts that are lent
 abbrev pub names_in : List (Bor (List ℕ)) → List (List ℕ)
 names_in keys = map (λ key. key.now) keys
 
--- the names with this one, which goes last if it is new (own)
+-- the names with this one, which goes last if it is new
 unfoldable pub with_flag : List (List ℕ) → List ℕ → List (List ℕ)
 with_flag names name = if list_any (bytes_eq name) names then names else names ++ name ∷ []
 
--- the flag that a line names, if it names one (own)
+-- the flag that a line names, if it names one
 abbrev pub flag_in : RunLine → Option (List ℕ)
 flag_in (runs.Do call) = None
 flag_in (runs.Signal (Tell flag)) = Some flag
 flag_in (runs.Signal (Await flag)) = Some flag
 
--- the names of the flags of these lines, each once, in the order in which they first appear (own)
+-- the names of the flags of these lines, each once, in the order in which they first appear
 abbrev pub flags_of : List Order → List (List ℕ)
 flags_of orders = fold with_flag [] (filter_map (λ o. flag_in o.asks) orders)
 
--- the number of a flag: the place of its name (own)
+-- the number of a flag: the place of its name
 unfoldable pub flag_number : List (List ℕ) → List ℕ → ℕ
 flag_number names name = position_or_len (bytes_eq name) names

@@ -1,4 +1,4 @@
--- What the parts of a script are, said without the order of reading (own).
+-- What the parts of a script are, said without the order of reading.
 use Rattle.std.specs.Prelude.{◌≡◌, ◌≢◌, ◌≤◌, ◌<◌, ◌+◌, ◌^◌, ◌⊎◌, ℕ, Bool, true, List, [], ◌∷◌, ◌++◌, length, take}
 use Rattle.std.specs.Prelude.{Option, Some, None, Ok, Err, IsSome, IsTrue, All, AllPairs, slice_get, codes}
 use Rattle.std.specs.Option.{option_map, option_to_list, is_some}
@@ -34,11 +34,11 @@ use Rattle.gt_script.specs.declared.faults.ScriptError.{ScriptError}
 use Rattle.gt_script.specs.declared.faults.ScriptError.TheVariants.{Memory}
 use Rattle.gt_script.specs.declared.faults.ScriptError.TheVariants as errors
 
--- what the lines say, each with its number (own)
+-- what the lines say, each with its number
 abbrev pub said : ℕ → List (List ℕ) → List (ℕ × Line)
 said n lines = filter_map (λ l. option_map (λ x. (l.0, x)) (line_of (words l.1))) (enumerate_from n lines)
 
--- the triple of a line, if it says one (own)
+-- the triple of a line, if it says one
 abbrev pub triple_in : List (List ℕ) → Line → Option Triple
 triple_in types (line.Triple t) = do
   source ← type_named types t.source
@@ -48,14 +48,14 @@ triple_in types (line.Wear first) = None
 triple_in types (line.Domain d) = None
 triple_in types (line.Body id asks) = None
 
--- the first generation of a line, if it gives one (own)
+-- the first generation of a line, if it gives one
 abbrev pub wear_in : Line → Option ℕ
 wear_in (line.Triple t) = None
 wear_in (line.Wear first) = Some first
 wear_in (line.Domain d) = None
 wear_in (line.Body id asks) = None
 
--- the domain of a line, if it configures one (own)
+-- the domain of a line, if it configures one
 abbrev pub domain_in : List (List ℕ) → Line → Option DomainConfig
 domain_in types (line.Triple t) = None
 domain_in types (line.Wear first) = None
@@ -64,7 +64,7 @@ domain_in types (line.Domain d) = do
   domain_written d label
 domain_in types (line.Body id asks) = None
 
--- the step that line n is in a script for this command, if it is one (own)
+-- the step that line n is in a script for this command, if it is one
 abbrev pub step_for : Command → ℕ → Number → BodyLine → Option ScriptStep
 step_for Play n number asks = do
   id ← number_below (2 ^ 16) number
@@ -72,7 +72,7 @@ step_for Play n number asks = do
   Some (record { line = n; dom = record { 0 = id }; action = action })
 step_for Run n number asks = None
 
--- the order that line n is in a script for this command, if it is one (own)
+-- the order that line n is in a script for this command, if it is one
 abbrev pub order_for : Command → ℕ → Number → BodyLine → Option Order
 order_for Play n number asks = None
 order_for Run n number asks = do
@@ -80,38 +80,38 @@ order_for Run n number asks = do
   order ← run_line_in asks
   Some (record { line = n; dom = record { 0 = id }; asks = order })
 
--- the step of line n, if it is one of the body of a script for `play` (own)
+-- the step of line n, if it is one of the body of a script for `play`
 abbrev pub step_on : Command → ℕ → Line → Option ScriptStep
 step_on command n (line.Triple t) = None
 step_on command n (line.Wear first) = None
 step_on command n (line.Domain d) = None
 step_on command n (line.Body number asks) = step_for command n number asks
 
--- the order of line n, if it is one of the body of a script for `run` (own)
+-- the order of line n, if it is one of the body of a script for `run`
 abbrev pub order_on : Command → ℕ → Line → Option Order
 order_on command n (line.Triple t) = None
 order_on command n (line.Wear first) = None
 order_on command n (line.Domain d) = None
 order_on command n (line.Body number asks) = order_for command n number asks
 
--- a line is for this command: each but those of the body that are for the other one (own)
+-- a line is for this command: each but those of the body that are for the other one
 abbrev pub asks_for : Command → BodyLine → Bool
 asks_for Play asks = is_some (action_in asks)
 asks_for Run asks = is_some (run_line_in asks)
 
--- the same of any line (own)
+-- the same of any line
 abbrev pub is_for : Command → Line → Bool
 is_for command (line.Triple t) = true
 is_for command (line.Wear first) = true
 is_for command (line.Domain d) = true
 is_for command (line.Body number asks) = asks_for command asks
 
--- a line without words, or one that says something (own)
+-- a line without words, or one that says something
 abbrev pub IsLine : List ℕ → Type 0
 IsLine line = (words line ≡ []) ⊎ IsSome (line_of (words line))
 
 -- what the lines from number n on say of a script: each part holds what they say of
--- it, in their order; so at most one of them is a line `wear` (own)
+-- it, in their order; so at most one of them is a line `wear`
 pub record SayParts (n : ℕ) (lines : List (List ℕ)) (c : Contents) : Type 0 where
   pub readable : All IsLine lines
   pub triples : c.triples ≡ filter_map (λ l. triple_in c.types l.1) (said n lines)
@@ -127,7 +127,7 @@ pub record SayParts (n : ℕ) (lines : List (List ℕ)) (c : Contents) : Type 0 
   pub some_domain : 1 ≤ length c.domains
 
 -- the lines are those of this script for the command, which says by triples what
--- is allowed: any name is a type, and each has one number (own)
+-- is allowed: any name is a type, and each has one number
 pub record IsTripleScript (command : Command) (lines : List (List ℕ)) (c : Contents) : Type 0 where
   pub for_command : c.command ≡ command
   pub parts : SayParts 1 lines c
@@ -137,7 +137,7 @@ pub record IsTripleScript (command : Command) (lines : List (List ℕ)) (c : Con
   pub some_triple : 1 ≤ length c.triples
 
 -- the lines have a policy block: in front of it are lines without words and a line `policy`, then the
--- lines of the block, of which none says just `end`, then a line `end` and the others (own)
+-- lines of the block, of which none says just `end`, then a line `end` and the others
 pub record HasBlock (lines block rest : List (List ℕ)) : Type 0 where
   pub front : List (List ℕ)
   pub opener : List ℕ
@@ -148,12 +148,12 @@ pub record HasBlock (lines block rest : List (List ℕ)) : Type 0 where
   pub inside : All (λ l. words l ≢ codes "end" ∷ []) block
   pub closes : words closer ≡ codes "end" ∷ []
 
--- how many lines are in front of the block, its line `policy` among them (own)
+-- how many lines are in front of the block, its line `policy` among them
 abbrev pub lines_before : {lines block rest : List (List ℕ)} → HasBlock lines block rest → ℕ
 lines_before b = length b.front + 1
 
 -- the lines are those of this script for the command, whose policy is that of its block; the
--- lines behind the block say the rest, and no triple is one of them (own)
+-- lines after the block say the rest, and no triple is one of them
 pub record IsPolicyScript (command : Command) (lines : List (List ℕ)) (c : Contents) : Type 0 where
   pub for_command : c.command ≡ command
   pub block : List (List ℕ)
@@ -165,16 +165,16 @@ pub record IsPolicyScript (command : Command) (lines : List (List ℕ)) (c : Con
   pub parts : SayParts (lines_before has + length block + 2) rest c
   pub no_triples : c.triples ≡ []
 
--- the lines are those of this script for the command (own)
+-- the lines are those of this script for the command
 abbrev pub IsScriptFor : Command → List (List ℕ) → Contents → Type 0
 IsScriptFor command lines c = IsTripleScript command lines c ⊎ IsPolicyScript command lines c
 
--- the lines are those of this script for `play` (own)
+-- the lines are those of this script for `play`
 abbrev pub IsScriptOf : List (List ℕ) → Contents → Type 0
 IsScriptOf lines c = IsScriptFor Play lines c
 
 -- the fault is that of the line at this place, counted from 0, of lines from number n on
--- that are added to a script, and the lines before it have none (own)
+-- that are added to a script, and the lines before it have none
 pub record IsFaultOfLine (n : ℕ) (lines : List (List ℕ)) (c : Contents) (f : ScriptFault) : Type 0 where
   pub place : ℕ
   pub line : List ℕ
@@ -184,8 +184,8 @@ pub record IsFaultOfLine (n : ℕ) (lines : List (List ℕ)) (c : Contents) (f :
   pub earlier : with_lines c n (take place lines) ≡ Ok before
   pub here : with_words before f.line (words line) ≡ Err f.kind
 
--- no line has a fault, and what the script of `count` lines lacks is named behind the last: syntax where
--- nothing is allowed, config where something is allowed and no domain is configured (own)
+-- no line has a fault, and what the script of `count` lines lacks is named after the last: syntax if
+-- nothing is allowed, config if something is allowed and no domain is configured
 pub record IsFaultOfEnd (count n : ℕ) (lines : List (List ℕ)) (c : Contents) (f : ScriptFault) : Type 0 where
   pub all : Contents
   pub earlier : with_lines c n lines ≡ Ok all
@@ -193,11 +193,11 @@ pub record IsFaultOfEnd (count n : ℕ) (lines : List (List ℕ)) (c : Contents)
   pub lacks : ((all.policy ≡ None) × (all.triples ≡ []) × (f.kind ≡ Syntax))
       ⊎ (((1 ≤ length all.triples) ⊎ IsSome all.policy) × (all.domains ≡ []) × (f.kind ≡ Config))
 
--- the first fault of lines from number n on that are added to a script of `count` lines (own)
+-- the first fault of lines from number n on that are added to a script of `count` lines
 abbrev pub IsFirstFault : ℕ → Contents → ℕ → List (List ℕ) → ScriptFault → Type 0
 IsFirstFault count c n lines f = IsFaultOfLine n lines c f ⊎ IsFaultOfEnd count n lines c f
 
--- a line `policy` opens a block that no line `end` closes (own)
+-- a line `policy` opens a block that no line `end` closes
 pub record IsOpen (lines : List (List ℕ)) : Type 0 where
   pub front : List (List ℕ)
   pub opener : List ℕ
@@ -208,7 +208,7 @@ pub record IsOpen (lines : List (List ℕ)) : Type 0 where
   pub inside : All (λ l. words l ≢ codes "end" ∷ []) block
 
 -- the lines open no block: they are all without words, or the first with
--- words says something else than just `policy` (own)
+-- words says something else than just `policy`
 pub record HasNone (lines : List (List ℕ)) : Type 0 where
   pub front : List (List ℕ)
   pub others : List (List ℕ)
@@ -216,7 +216,7 @@ pub record HasNone (lines : List (List ℕ)) : Type 0 where
   pub nothing : All (λ l. words l ≡ []) front
   pub another : (l : List ℕ) (ls : List (List ℕ)) → others ≡ l ∷ ls → (words l ≢ []) × (words l ≢ codes "policy" ∷ [])
 
--- the first fault behind a policy block (own)
+-- the first fault after a policy block
 pub record IsFaultBehind (command : Command) (lines : List (List ℕ)) (f : ScriptFault) : Type 0 where
   pub block : List (List ℕ)
   pub rest : List (List ℕ)
@@ -225,26 +225,26 @@ pub record IsFaultBehind (command : Command) (lines : List (List ℕ)) (f : Scri
   pub means : Means block rights
   pub first : IsFirstFault (length lines) (with_policy command rights) (lines_before has + length block + 2) rest f
 
--- the first fault of the lines, where it is none of a policy (own)
+-- the first fault of the lines, if it is none of a policy
 abbrev pub IsFaultOfLines : Command → List (List ℕ) → ScriptFault → Type 0
 IsFaultOfLines command lines f =
     (HasNone lines × IsFirstFault (length lines) (empty command) 1 lines f)
     ⊎ ((IsOpen lines × (f ≡ record { line = length lines + 1; kind = Syntax }))
     ⊎ IsFaultBehind command lines f)
 
--- the bytes are too many, or no text, and this is their fault (own)
+-- the bytes are too many, or no text, and this is their fault
 abbrev pub IsUnread : List ℕ → ScriptFault → Type 0
 IsUnread bytes f =
     ((LONGEST_TEXT < length bytes) × (f ≡ record { line = 1; kind = Limit }))
     ⊎ ((length bytes ≤ LONGEST_TEXT) × (¬ IsUtf8 bytes)
     × (f ≡ record { line = line_after (take (utf8_valid_len bytes) bytes); kind = Utf8 }))
 
--- the first fault of the bytes, where it is none of a policy: too many, no text, or the first fault of the lines (own)
+-- the first fault of the bytes, if it is none of a policy: too many, no text, or the first fault of the lines
 abbrev pub IsFaultOf : Command → List ℕ → ScriptFault → Type 0
 IsFaultOf command bytes f =
     IsUnread bytes f ⊎ ((length bytes ≤ LONGEST_TEXT) × IsUtf8 bytes × IsFaultOfLines command (lines_in bytes) f)
 
--- the first fault of the bytes is that of their policy block, on its own line of them (own)
+-- the first fault of the bytes is that of their policy block, on its own line of them
 pub record IsFaultOfBlock (bytes : List ℕ) (g : policy.TokenFault) : Type 0 where
   pub short : length bytes ≤ LONGEST_TEXT
   pub text : IsUtf8 bytes
@@ -253,13 +253,13 @@ pub record IsFaultOfBlock (bytes : List ℕ) (g : policy.TokenFault) : Type 0 wh
   pub has : HasBlock (lines_in bytes) block rest
   pub faulty : IsFaulty (lines_before has) block g
 
--- memory ran out, or this is the first fault of a script for the command (own)
+-- memory ran out, or this is the first fault of a script for the command
 abbrev pub StandsFor : Command → List ℕ → ScriptError → Type 0
 StandsFor command bytes Memory = Unit {0}
 StandsFor command bytes (errors.Fault f) = IsFaultOf command bytes f
 StandsFor command bytes (errors.Policy e) =
     (g : policy.TokenFault) × (block_fault_shown e ≡ Some g) × IsFaultOfBlock bytes g
 
--- memory ran out, or this is the first fault of a script for `play` (own)
+-- memory ran out, or this is the first fault of a script for `play`
 abbrev pub Stands : List ℕ → ScriptError → Type 0
 Stands bytes e = StandsFor Play bytes e

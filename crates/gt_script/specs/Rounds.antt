@@ -1,4 +1,4 @@
--- How domains go on in turn, while flags are raised (own).
+-- How domains go on in turn, while flags are raised.
 use Rattle.std.specs.Prelude.{◌≡◌, ◌≤◌, ◌<◌, ℕ, Bool, true, false, not, List, length, take, Option, Some, None}
 use Rattle.std.specs.Prelude.{slice_get, slice_set, get_or, All, IsTrue}
 use Rattle.std.specs.List.{sum_by}
@@ -9,56 +9,56 @@ use Rattle.gt_script.specs.declared.tasks.Deed.{Deed}
 use Rattle.gt_script.specs.declared.tasks.Deed.TheVariants.{Do, Tell, Await}
 use Rattle.gt_script.specs.declared.tasks.Task.{Task}
 
--- whether a flag is raised (own)
+-- whether a flag is raised
 abbrev pub holds : List Bool → ℕ → Bool
 holds told flag = get_or told flag false
 
--- a flag is raised (own)
+-- a flag is raised
 abbrev pub Holds : List Bool → ℕ → Type 0
 Holds told flag = IsTrue (holds told flag)
 
--- each raised flag is one of this set (own)
+-- each raised flag is one of this set
 abbrev pub Within : List Bool → (ℕ → Bool) → Type 0
 Within told set = (flag : ℕ) → Holds told flag → IsTrue (set flag)
 
--- one for a flag that is not raised (own)
+-- one for a flag that is not raised
 abbrev pub is_untold : Bool → ℕ
 is_untold true = 0
 is_untold false = 1
 
--- how many flags are not raised (own)
+-- how many flags are not raised
 abbrev pub untold : List Bool → ℕ
 untold told = sum_by is_untold told
 
--- the flag of a task is raised (own)
+-- the flag of a task is raised
 abbrev pub IsDone : List Bool → Deed → Type 0
 IsDone told (Do call) = Unit {0}
 IsDone told (Tell flag) = Holds told flag
 IsDone told (Await flag) = Holds told flag
 
--- a domain waits at this deed (own)
+-- a domain waits at this deed
 unfoldable pub is_waiting : List Bool → Deed → Bool
 is_waiting told (Do call) = false
 is_waiting told (Tell flag) = false
 is_waiting told (Await flag) = not (holds told flag)
 
--- the raised flags behind this deed (own)
+-- the raised flags after this deed
 unfoldable pub told_after : List Bool → Deed → List Bool
 told_after told (Do call) = told
 told_after told (Tell flag) = slice_set told flag true
 told_after told (Await flag) = told
 
--- this deed raises a flag that is not raised yet (own)
+-- this deed raises a flag that is not raised yet
 unfoldable pub is_new : List Bool → Deed → Bool
 is_new told (Do call) = false
 is_new told (Tell flag) = not (holds told flag)
 is_new told (Await flag) = false
 
--- the domain has come to this place: the flags of its own tasks before it are raised (own)
+-- the domain has come to this place: the flags of its own tasks before it are raised
 abbrev pub Comes : List Task → DomId → ℕ → List Bool → Type 0
 Comes tasks dom place told = All (λ t. t.dom.0 ≡ dom.0 → IsDone told t.deed) (take place tasks)
 
--- a domain went on to this place and raised flags on its way; the last part says whether one was new (own)
+-- a domain went on to this place and raised flags on its way; the last part says whether one was new
 pub record WayTo (tasks : List Task) (dom : DomId) (old new : List Bool) (place : ℕ) (is_news : Bool) : Type 0 where
   pub comes : Comes tasks dom place new
   pub grown : (flag : ℕ) → Holds old flag → Holds new flag
@@ -67,22 +67,22 @@ pub record WayTo (tasks : List Task) (dom : DomId) (old new : List Bool) (place 
   pub quiet : is_news ≡ false → new ≡ old
   pub loud : is_news ≡ true → untold new < untold old
 
--- a domain at this place waits there for a flag that is not raised, unless it is at its end (own)
+-- a domain at this place waits there for a flag that is not raised, unless it is at its end
 abbrev pub WaitsFor : List Task → DomId → ℕ → List Bool → Type 0
 WaitsFor tasks dom place told = (task : Task) → slice_get tasks place ≡ Some task
     → (flag : ℕ) × (task.deed ≡ Await flag) × (task.dom.0 ≡ dom.0) × (holds told flag ≡ false)
 
--- a domain went on as far as raised flags let it (own)
+-- a domain went on as far as raised flags let it
 abbrev pub GoesOn : List Task → DomId → List Bool → List Bool → ℕ → Bool → Type 0
 GoesOn tasks dom old new place is_news =
     (place ≤ length tasks) × WayTo tasks dom old new place is_news × WaitsFor tasks dom place new
 
--- each domain has come to its place (own)
+-- each domain has come to its place
 abbrev pub HaveCome : List Task → List DomainConfig → List ℕ → List Bool → Type 0
 HaveCome tasks domains places told = (i : ℕ) (d : DomainConfig) → slice_get domains i ≡ Some d
     → (get_or places i 0 ≤ length tasks) × Comes tasks d.id (get_or places i 0) told
 
--- the first of the domains went on in turn, up to this one (own)
+-- the first of the domains went on in turn, up to this one
 pub record Turning (tasks : List Task) (domains : List DomainConfig) (places : List ℕ) (old new : List Bool) (upto : ℕ)
     (is_news : Bool) : Type 0 where
   pub have : HaveCome tasks domains places new
@@ -93,7 +93,7 @@ pub record Turning (tasks : List Task) (domains : List DomainConfig) (places : L
   pub rest : is_news ≡ false → (i : ℕ) (d : DomainConfig) → i < upto → slice_get domains i ≡ Some d
       → WaitsFor tasks d.id (get_or places i 0) new
 
--- the line where a domain waits, where these flags are raised; none where it comes to its end (own)
+-- the line where a domain waits, if these flags are raised; none if it comes to its end
 abbrev pub WaitsIn : List Bool → List Task → DomId → Option ℕ → Type 0
 WaitsIn told tasks dom None = PassesAll (Holds told) dom tasks
 WaitsIn told tasks dom (Some line) = WaitsAt (Holds told) tasks dom line

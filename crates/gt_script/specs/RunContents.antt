@@ -4,18 +4,18 @@ use Rattle.gt_script.specs.Contents.{Contents, KeptContents, told}
 use Rattle.gt_script.specs.declared.tasks.Task.{Task}
 
 -- what comes before the body, as a script without lines of a body; what each line of
--- the body has its domain do, in order; and how many flags there are (own)
+-- the body has its domain do, in order; and how many flags there are
 pub record RunContents : Type 0 where
   pub head : Contents
   pub tasks : List Task
   pub flags : ℕ
 
--- the same, with the policy as it is kept (own)
+-- the same, with the policy as it is kept
 pub record RunKept : Type 0 where
   pub head : KeptContents
   pub tasks : List Task
   pub flags : ℕ
 
--- what a script holds that is kept so (own)
+-- what a script holds that is kept so
 abbrev pub run_told : RunKept → RunContents
 run_told k = record { head = told k.head; tasks = k.tasks; flags = k.flags }

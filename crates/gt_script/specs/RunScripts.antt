@@ -18,33 +18,33 @@ use Rattle.gt_script.specs.declared.faults.ScriptError.TheVariants as errors
 use Rattle.gt_script.specs.declared.run_script.RunScript.{RunScript}
 use Rattle.gt_script.specs.declared.tasks.Task.{Task}
 
--- the domains and the first generation are within the limits of a run (own)
+-- the domains and the first generation are within the limits of a run
 abbrev pub CanConfigure : Contents → Type 0
 CanConfigure c = AreFaultless c.domains × (1 ≤ length c.domains) × (first_gen c ≤ LAST_GENERATION)
 
--- the list of a domain: its own tasks, in their order (own)
+-- the list of a domain: its own tasks, in their order
 abbrev pub list_of : List Task → DomId → List Task
 list_of tasks dom = filter (λ t. t.dom.0 == dom.0) tasks
 
--- what a script that was read for `run` holds: flags are numbered as they first appear in it (own)
+-- what a script that was read for `run` holds: flags are numbered as they first appear in it
 abbrev pub run_of : Contents → RunContents
 run_of c = record { head = without_orders c; tasks = tasks_of c; flags = length (flags_of c.orders) }
 
--- a script that was read for `run` says this: what it holds, where each domain comes to the end of its
--- list, and else the line where the first one that does not waits for ever (own)
+-- a script that was read for `run` says this: what it holds, if each domain comes to the end of its
+-- list, and else the line where the first one that does not waits for ever
 abbrev pub RunSays : Contents → Result RunContents Wrong → Type 0
 RunSays c (Ok run) = AllEnd (IsTold (tasks_of c)) (tasks_of c) c.domains × (run ≡ run_of c)
 RunSays c (Err (in_script f)) = IsStuckAt (IsTold (tasks_of c)) (tasks_of c) c.domains f.line × (f.kind ≡ Stuck)
 RunSays c (Err (in_policy g)) = ⊥
 
 -- the bytes say this script for `run`, or have this fault, which is their
--- first; that a domain waits for ever is the last of all (own)
+-- first; that a domain waits for ever is the last of all
 abbrev pub RunTells : List ℕ → Result RunContents Wrong → Type 0
 RunTells bytes (Ok run) = (c : Contents) × TellsFor Run bytes (Ok c) × RunSays c (Ok run)
 RunTells bytes (Err wrong) =
     TellsFor Run bytes (Err wrong) ⊎ ((c : Contents) × TellsFor Run bytes (Ok c) × RunSays c (Err wrong))
 
--- what is told is this script, or this fault, unless memory ran out (own)
+-- what is told is this script, or this fault, unless memory ran out
 abbrev pub RunAnswers : Result RunScript ScriptError → (Result RunContents Wrong → Type 0) → Type 0
 RunAnswers (Ok script) Told = Told (Ok (run_told script))
 RunAnswers (Err errors.Memory) Told = Unit {0}

@@ -1,4 +1,4 @@
--- The script that bytes say, its policy block and then line by line, or their first fault (own).
+-- The script that bytes say, its policy block and then line by line, or their first fault.
 use Rattle.std.specs.Prelude.{◌≡◌, ◌⊎◌, ◌<◌, ◌≤◌, ℕ, ◌+◌, ◌==◌, ◌&&◌, ◌||◌, not, Bool, List, [], ◌∷◌, ◌++◌, length}
 use Rattle.std.specs.Prelude.{Option, Some, None, Result, Ok, Err, take, drop, is_none, is_some, ◌^◌, if◌then◌else◌}
 use Rattle.std.specs.Option.{option_map}
@@ -37,11 +37,11 @@ use Rattle.gt_script.specs.declared.faults.ScriptFaultKind.{ScriptFaultKind}
 use Rattle.gt_script.specs.declared.faults.ScriptFaultKind.TheVariants.{Limit, Utf8, Syntax, Config, Mode}
 use Rattle.gt_script.specs.declared.faults.ScriptFault.{ScriptFault}
 
--- a list without elements (own)
+-- a list without elements
 abbrev pub is_empty : {X : Type 0} → List X → Bool
 is_empty xs = length xs == 0
 
--- the domain that a line writes, where its numbers are not larger than a domain's can be (own)
+-- the domain that a line writes, if its numbers are not larger than a domain's can be
 unfoldable pub domain_written : DomainLine → TypeId → Option DomainConfig
 domain_written d label = do
   id ← number_below (2 ^ 16) d.id
@@ -50,27 +50,27 @@ domain_written d label = do
   version ← number_below (2 ^ 32) d.version
   Some (record { id = record { 0 = id }; label = label; frames = frames; table_frames = tables; version = version })
 
--- neither a policy nor a triple (own)
+-- neither a policy nor a triple
 unfoldable pub has_no_rights : Contents → Bool
 has_no_rights c = is_none c.policy && is_empty c.triples
 
--- a line of the body was read (own)
+-- a line of the body was read
 unfoldable pub has_body : Contents → Bool
 has_body c = not (is_empty c.steps) || not (is_empty c.orders)
 
--- the policy or triples come first, then at most one line `wear`, then domains, then the body (own)
+-- the policy or triples come first, then at most one line `wear`, then domains, then the body
 unfoldable pub is_misplaced : Contents → Line → Bool
 is_misplaced c (line.Triple t) = (is_some c.policy || is_some c.wear) || not (is_empty c.domains)
 is_misplaced c (line.Wear first) = (has_no_rights c || is_some c.wear) || not (is_empty c.domains)
 is_misplaced c (line.Domain d) = has_no_rights c || has_body c
 is_misplaced c (line.Body id asks) = is_empty c.domains
 
--- what a line adds, or that it is past a limit (own)
+-- what a line adds, or that it is past a limit
 abbrev pub or_config : Option Contents → Result Contents ScriptFaultKind
 or_config (Some c) = Ok c
 or_config None = Err Config
 
--- a script with one triple more (own)
+-- a script with one triple more
 unfoldable pub with_triple : Contents → TripleLine → Result Contents ScriptFaultKind
 with_triple c t = or_config (do
   source ← with_type c.types t.source
@@ -81,22 +81,22 @@ with_triple c t = or_config (do
         ++ record { source = source.1; target = target.1; perm = t.perm } ∷ [];
   }))
 
--- the number of a domain's type, which the policy has to declare; where there is none, any name is a type (own)
+-- the number of a domain's type, which the policy has to declare; if there is none, any name is a type
 abbrev pub type_in : Option Allowed → List (List ℕ) → List ℕ → Option (List (List ℕ) × TypeId)
 type_in None types name = with_type types name
 type_in (Some p) types name = option_map (λ id. (types, id)) (type_named p.types name)
 
--- a script with these names of its types, and the number of one of them (own)
+-- a script with these names of its types, and the number of one of them
 abbrev pub with_names : Contents → List (List ℕ) × TypeId → Contents × TypeId
 with_names c named = (record c { types = named.0 }, named.1)
 
 -- a name has this number as that of a domain's type, and the script takes in the
--- name where it is new; none where the name is no type (own)
+-- name if it is new; none if the name is no type
 abbrev pub GivesTypeNumber : Contents → Contents → List ℕ → Option TypeId → Type 0
 GivesTypeNumber old new name number =
     option_map (λ id. (new, id)) number ≡ option_map (with_names old) (type_in old.policy old.types name)
 
--- a script with one domain more, which has no fault behind those before it (own)
+-- a script with one domain more, which has no fault after those before it
 unfoldable pub with_domain : Contents → DomainLine → Result Contents ScriptFaultKind
 with_domain c d = or_config (do
   label ← type_in c.policy c.types d.type_name
@@ -104,18 +104,18 @@ with_domain c d = or_config (do
   if is_none (domain_fault c.domains domain)
       then Some (record c { types = label.0; domains = c.domains ++ domain ∷ [] }) else None)
 
--- the domain with this number, where it is configured (own)
+-- the domain with this number, if it is configured
 unfoldable pub configured : List DomainConfig → Number → Option DomId
 configured domains number = do
   id ← number_below (2 ^ 16) number
   if is_taken domains (record { 0 = id }) then Some (record { 0 = id }) else None
 
--- what a line of the body is for `play`: an action (own)
+-- what a line of the body is for `play`: an action
 unfoldable pub action_in : BodyLine → Option ScriptAction
 action_in (bodies.Action a) = Some a
 action_in (bodies.Signal s) = None
 
--- what a line of the body is for `run`: a whole call, or what it says of a flag (own)
+-- what a line of the body is for `run`: a whole call, or what it says of a flag
 unfoldable pub run_line_in : BodyLine → Option RunLine
 run_line_in (bodies.Action (actions.Do call)) = Some (runs.Do call)
 run_line_in (bodies.Action (actions.Begin call)) = None
@@ -123,50 +123,50 @@ run_line_in (bodies.Action (actions.Tick count)) = None
 run_line_in (bodies.Action (actions.Show gref)) = None
 run_line_in (bodies.Signal s) = Some (runs.Signal s)
 
--- what a line adds, or that it is for the other command (own)
+-- what a line adds, or that it is for the other command
 abbrev pub or_mode : Option Contents → Result Contents ScriptFaultKind
 or_mode (Some c) = Ok c
 or_mode None = Err Mode
 
--- a script for `play` with one step more, on line n (own)
+-- a script for `play` with one step more, on line n
 unfoldable pub with_step : Contents → ℕ → DomId → BodyLine → Result Contents ScriptFaultKind
 with_step c n dom asks = or_mode (do
   action ← action_in asks
   Some (record c { steps = c.steps ++ record { line = n; dom = dom; action = action } ∷ [] }))
 
--- a script for `run` with one order more, on line n (own)
+-- a script for `run` with one order more, on line n
 unfoldable pub with_order : Contents → ℕ → DomId → BodyLine → Result Contents ScriptFaultKind
 with_order c n dom asks = or_mode (do
   order ← run_line_in asks
   Some (record c { orders = c.orders ++ record { line = n; dom = dom; asks = order } ∷ [] }))
 
--- a script for this command with a line of the body more (own)
+-- a script for this command with a line of the body more
 abbrev pub with_asked : Command → Contents → ℕ → DomId → BodyLine → Result Contents ScriptFaultKind
 with_asked Play c n dom asks = with_step c n dom asks
 with_asked Run c n dom asks = with_order c n dom asks
 
--- a script with a line of the body more, of a domain that is configured (own)
+-- a script with a line of the body more, of a domain that is configured
 unfoldable pub with_body : Contents → ℕ → Number → BodyLine → Result Contents ScriptFaultKind
 with_body c n number asks =
     elim (configured c.domains number) [ None ↦ Err Config | Some dom ↦ with_asked c.command c n dom asks ]
 
--- a script with line n more, which is in its place (own)
+-- a script with line n more, which is in its place
 abbrev pub with_placed : Contents → ℕ → Line → Result Contents ScriptFaultKind
 with_placed c n (line.Triple t) = with_triple c t
 with_placed c n (line.Wear first) = Ok (record c { wear = Some first })
 with_placed c n (line.Domain d) = with_domain c d
 with_placed c n (line.Body id asks) = with_body c n id asks
 
--- a script with line n more (own)
+-- a script with line n more
 unfoldable pub with_line : Contents → ℕ → Line → Result Contents ScriptFaultKind
 with_line c n l = if is_misplaced c l then Err Syntax else with_placed c n l
 
--- the words of line n: none change nothing (own)
+-- the words of line n: none change nothing
 unfoldable pub with_words : Contents → ℕ → List (List ℕ) → Result Contents ScriptFaultKind
 with_words c n [] = Ok c
 with_words c n (w ∷ ws) = elim (line_of (w ∷ ws)) [ None ↦ Err Syntax | Some l ↦ with_line c n l ]
 
--- lines from number n on: the first that adds nothing but a fault gives the fault (own)
+-- lines from number n on: the first that adds nothing but a fault gives the fault
 abbrev pub with_lines : Contents → ℕ → List (List ℕ) → Result Contents ScriptFault
 with_lines c n [] = Ok c
 with_lines c n (l ∷ ls) = elim (with_words c n (words l)) [
@@ -174,55 +174,55 @@ with_lines c n (l ∷ ls) = elim (with_words c n (words l)) [
   | Err kind ↦ Err (record { line = n; kind = kind })
 ]
 
--- syntax where nothing is allowed (no policy and no triple), config where no domain is configured (own)
+-- syntax if nothing is allowed (no policy and no triple), config if no domain is configured
 unfoldable pub completed : ℕ → Contents → Result Contents ScriptFault
 completed count c = if has_no_rights c then Err (record { line = count + 1; kind = Syntax })
     else (if is_empty c.domains then Err (record { line = count + 1; kind = Config }) else Ok c)
 
--- the same of a script that may have a fault already (own)
+-- the same of a script that may have a fault already
 abbrev pub completed_if_ok : ℕ → Result Contents ScriptFault → Result Contents ScriptFault
 completed_if_ok count (Ok c) = completed count c
 completed_if_ok count (Err f) = Err f
 
--- a script with lines from number n on, behind which the whole of `count` lines ends (own)
+-- a script with lines from number n on, after which the whole of `count` lines ends
 abbrev pub whole : ℕ → Contents → ℕ → List (List ℕ) → Result Contents ScriptFault
 whole count c n lines = completed_if_ok count (with_lines c n lines)
 
--- a fault: of the script, or of its policy block (own)
+-- a fault: of the script, or of its policy block
 pub data Wrong : Type 0 where
   in_script : ScriptFault → Wrong
   in_policy : policy.TokenFault → Wrong
 
--- a script, or a fault that is none of a policy (own)
+-- a script, or a fault that is none of a policy
 abbrev pub in_result : Result Contents ScriptFault → Result Contents Wrong
 in_result (Ok c) = Ok c
 in_result (Err f) = Err (in_script f)
 
--- the lines behind a line `policy` of this number, of which the one at this place is `end`, say this: the rest of
--- a script of `count` lines for this command with the policy of the block, or its fault (own)
+-- the lines after a line `policy` of this number, of which the one at this place is `end`, say this: the rest of
+-- a script of `count` lines for this command with the policy of the block, or its fault
 abbrev pub ClosedSays : Command → ℕ → ℕ → List (List ℕ) → ℕ → Result Contents Wrong → Type 0
 ClosedSays command count first lines end said =
     ((p : Allowed) × Means (take end lines) p
     × (said ≡ in_result (whole count (with_policy command p) (first + end + 1 + 1) (drop (end + 1) lines))))
     ⊎ ((g : policy.TokenFault) × IsFaulty first (take end lines) g × (said ≡ Err (in_policy g)))
 
--- the same, where a line `end` may be missing (own)
+-- the same, if a line `end` may be missing
 abbrev pub BlockSays : Command → ℕ → ℕ → List (List ℕ) → Option ℕ → Result Contents Wrong → Type 0
 BlockSays command count first lines None said = said ≡ Err (in_script (record { line = count + 1; kind = Syntax }))
 BlockSays command count first lines (Some end) said = ClosedSays command count first lines end said
 
--- the lines say this: they begin with a policy block, or have none (own)
+-- the lines say this: they begin with a policy block, or have none
 abbrev pub LinesSay : Command → List (List ℕ) → Option ℕ → Result Contents Wrong → Type 0
 LinesSay command lines None said = said ≡ in_result (whole (length lines) (empty command) 1 lines)
 LinesSay command lines (Some place) said =
     BlockSays command (length lines) (place + 1) (drop (place + 1) lines) (closing (drop (place + 1) lines)) said
 
--- the text says this (own)
+-- the text says this
 abbrev pub TextSays : Command → List ℕ → Result Contents Wrong → Type 0
 TextSays command text said = LinesSay command (lines_in text) (opening (lines_in text)) said
 
 -- the bytes say this script for the command, or have this fault, which is their first:
--- they are too many, or no text, or it is that of the text (own)
+-- they are too many, or no text, or it is that of the text
 abbrev pub TellsFor : Command → List ℕ → Result Contents Wrong → Type 0
 TellsFor command bytes said =
     ((LONGEST_TEXT < length bytes) × (said ≡ Err (in_script (record { line = 1; kind = Limit }))))
@@ -230,6 +230,6 @@ TellsFor command bytes said =
     × (said ≡ Err (in_script (record { line = line_after (take (utf8_valid_len bytes) bytes); kind = Utf8 }))))
     ⊎ ((length bytes ≤ LONGEST_TEXT) × IsUtf8 bytes × TextSays command bytes said))
 
--- the bytes say this script for `play`, or have this fault, which is their first (own)
+-- the bytes say this script for `play`, or have this fault, which is their first
 abbrev pub Tells : List ℕ → Result Contents Wrong → Type 0
 Tells bytes said = TellsFor Play bytes said

@@ -6,42 +6,42 @@ use Rattle.gt_script.specs.declared.tasks.Deed.{Deed}
 use Rattle.gt_script.specs.declared.tasks.Deed.TheVariants.{Do, Tell, Await}
 use Rattle.gt_script.specs.declared.tasks.Task.{Task}
 
--- a flag that a task names is below this number (own)
+-- a flag that a task names is below this number
 abbrev pub IsBelow : ℕ → Deed → Type 0
 IsBelow count (Do call) = Unit {0}
 IsBelow count (Tell flag) = flag < count
 IsBelow count (Await flag) = flag < count
 
--- each flag of these tasks is below this number (own)
+-- each flag of these tasks is below this number
 abbrev pub AreNumbered : ℕ → List Task → Type 0
 AreNumbered count tasks = All (λ t. IsBelow count t.deed) tasks
 
--- a domain goes past a task where the flags that have this are raised: it waits
--- at no other task than one that awaits another flag (own)
+-- a domain goes past a task if the flags that have this are raised: it waits
+-- at no other task than one that awaits another flag
 abbrev pub IsPassed : (ℕ → Type 0) → Deed → Type 0
 IsPassed Told (Do call) = Unit {0}
 IsPassed Told (Tell flag) = Unit {0}
 IsPassed Told (Await flag) = Told flag
 
--- a domain goes past all its own tasks among these (own)
+-- a domain goes past all its own tasks among these
 abbrev pub PassesAll : (ℕ → Type 0) → DomId → List Task → Type 0
 PassesAll Told dom tasks = All (λ t. t.dom.0 ≡ dom.0 → IsPassed Told t.deed) tasks
 
--- a set of flags is closed: it has each flag that a task raises, where the
--- task's domain goes past all that it has to do before it (own)
+-- a set of flags is closed: it has each flag that a task raises, if the
+-- task's domain goes past all that it has to do before it
 abbrev pub IsClosed : List Task → (ℕ → Bool) → Type 0
 IsClosed tasks set = (at : ℕ) (task : Task) (flag : ℕ) → slice_get tasks at ≡ Some task → task.deed ≡ Tell flag
     → PassesAll (λ f. IsTrue (set f)) task.dom (take at tasks) → IsTrue (set flag)
 
--- a flag is raised: each closed set has it, so it is one of the least closed set (own)
+-- a flag is raised: each closed set has it, so it is one of the least closed set
 abbrev pub IsTold : List Task → ℕ → Type 0
 IsTold tasks flag = (set : ℕ → Bool) → IsClosed tasks set → IsTrue (set flag)
 
--- a domain comes to the end of its list, where these flags are raised (own)
+-- a domain comes to the end of its list, if these flags are raised
 abbrev pub Ends : (ℕ → Type 0) → List Task → DomId → Type 0
 Ends Told tasks dom = PassesAll Told dom tasks
 
--- a domain goes on as far as the line with this number, where it waits for a flag that is not raised (own)
+-- a domain goes on as far as the line with this number, where it waits for a flag that is not raised
 pub record WaitsAt (Told : ℕ → Type 0) (tasks : List Task) (dom : DomId) (line : ℕ) : Type 0 where
   pub at : ℕ
   pub task : Task
@@ -53,11 +53,11 @@ pub record WaitsAt (Told : ℕ → Type 0) (tasks : List Task) (dom : DomId) (li
   pub before : PassesAll Told dom (take at tasks)
   pub untold : ¬ Told flag
 
--- each of the domains comes to the end of its list (own)
+-- each of the domains comes to the end of its list
 abbrev pub AllEnd : (ℕ → Type 0) → List Task → List DomainConfig → Type 0
 AllEnd Told tasks domains = All (λ d. Ends Told tasks d.id) domains
 
--- the first of the domains that does not come to its end waits at this line (own)
+-- the first of the domains that does not come to its end waits at this line
 pub record IsStuckAt (Told : ℕ → Type 0) (tasks : List Task) (domains : List DomainConfig) (line : ℕ) : Type 0 where
   pub place : ℕ
   pub domain : DomainConfig
@@ -65,7 +65,7 @@ pub record IsStuckAt (Told : ℕ → Type 0) (tasks : List Task) (domains : List
   pub others : AllEnd Told tasks (take place domains)
   pub waits : WaitsAt Told tasks domain.id line
 
--- the line where the first of the domains that waits for ever does so; none where each comes to its end (own)
+-- the line where the first of the domains that waits for ever does so; none if each comes to its end
 abbrev pub IsJudged : (ℕ → Type 0) → List Task → List DomainConfig → Option ℕ → Type 0
 IsJudged Told tasks domains None = AllEnd Told tasks domains
 IsJudged Told tasks domains (Some line) = IsStuckAt Told tasks domains line

@@ -10,20 +10,20 @@ use Rattle.gt_script.specs.declared.tasks.Deed.{Deed}
 use Rattle.gt_script.specs.declared.tasks.Deed.TheVariants.{Do, Tell, Await}
 use Rattle.gt_script.specs.declared.tasks.Task.{Task}
 
--- what a line has its domain do, where these are the names of the flags (own)
+-- what a line has its domain do, if these are the names of the flags
 unfoldable pub deed_of : List (List ℕ) → RunLine → Deed
 deed_of flags (runs.Do call) = Do call
 deed_of flags (runs.Signal (signals.Tell flag)) = Tell (flag_number flags flag)
 deed_of flags (runs.Signal (signals.Await flag)) = Await (flag_number flags flag)
 
--- the same with the line's number and domain (own)
+-- the same with the line's number and domain
 abbrev pub task_of : List (List ℕ) → Order → Task
 task_of flags o = record { line = o.line; dom = o.dom; deed = deed_of flags o.asks }
 
--- what these lines have their domains do, in their order (own)
+-- what these lines have their domains do, in their order
 abbrev pub tasks_for : List (List ℕ) → List Order → List Task
 tasks_for flags orders = map (task_of flags) orders
 
--- what the lines of a script have its domains do (own)
+-- what the lines of a script have its domains do
 abbrev pub tasks_of : Contents → List Task
 tasks_of c = tasks_for (flags_of c.orders) c.orders

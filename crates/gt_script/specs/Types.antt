@@ -1,17 +1,17 @@
--- The numbers of the types (own).
+-- The numbers of the types.
 use Rattle.std.specs.Prelude.{◌≡◌, ℕ, List, [], ◌∷◌, ◌++◌, length, nat_lt, Option, Some, None, position}
 use Rattle.std.specs.Prelude.{if◌then◌else◌}
 use Rattle.std.specs.Option.{option_map}
 use Rattle.std.specs.Str.{bytes_eq}
 use Rattle.gt_types.specs.declared.TypeId.{TypeId}
 
--- the names with this one among them, and its number: its place. None where it is a 257th (own)
+-- the names with this one among them, and its number: its place. None if it is a 257th
 unfoldable pub with_type : List (List ℕ) → List ℕ → Option (List (List ℕ) × TypeId)
 with_type names name = elim (position (λ t. bytes_eq t name) names) [
   | Some i ↦ Some (names, record { 0 = i })
   | None ↦ if nat_lt (length names) 256 then Some (names ++ name ∷ [], record { 0 = length names }) else None
 ]
 
--- a name has this number among the names, which take it in where it is new; none where it is one too many (own)
+-- a name has this number among the names, which take it in if it is new; none if it is one too many
 abbrev pub GivesNumber : List (List ℕ) → List (List ℕ) → List ℕ → Option TypeId → Type 0
 GivesNumber old new name number = option_map (λ id. (new, id)) number ≡ with_type old name

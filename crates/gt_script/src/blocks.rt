@@ -57,7 +57,7 @@ fn block_text(alloc: Global, lines: &[&str]) -> Result<String, AllocError>
     Ok(text)
 }
 
-/// The policy that the lines of a block say, or its first fault, where `before` lines come in front
+/// The policy that the lines of a block say, or its first fault, if `before` lines come in front
 /// of them in the script.
 pub fn read_policy(alloc: Global, before: usize, lines: &[&str]) -> Result<Policy, ScriptError>
     requires { before < 2 ^ 63 }

@@ -52,7 +52,7 @@ impl<'a> FlagNames<'a> {
         Ok(())
     }
 
-    /// The number of a flag; that of the next new one, where it is none of these.
+    /// The number of a flag; that of the next new one, if it is none of these.
     pub fn number(&self, name: &'a [u8]) -> usize
         ensures { result ≡ flag_number self.now name.entry.now }
     {

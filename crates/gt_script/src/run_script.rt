@@ -89,7 +89,7 @@ fn of_script<'a>(alloc: Global, script: Script<'a>) -> Result<RunScript<'a>, Scr
 }
 
 /// The script for `run` that the bytes say, or their first fault. The faults are those for `play`, but here a line for
-/// `play` alone is a fault. Last of all comes a domain that waits for a flag that is never raised.
+/// only `play` is a fault. Last of all comes a domain that waits for a flag that is never raised.
 pub fn parse_run<'a>(alloc: Global, bytes: &'a [u8]) -> Result<RunScript<'a>, ScriptError>
     ensures script { RunAnswers result (RunTells bytes.entry.now) }
     ensures holds { IfOk result (λ s. CanConfigure (told s.head)) }

@@ -101,7 +101,7 @@ fn is_domain(domains: &[DomainConfig], id: DomId) -> bool
     domains.iter().any(|d| d.id == id)
 }
 
-// The domain with this number, where it is configured.
+// The domain with this number, if it is configured.
 #[tactic(auto, unfolding(crate::specs::Script::configured))]
 fn configured(domains: &[DomainConfig], number: Number) -> Option<DomId>
     ensures { result ≡ configured domains.now number }
@@ -162,7 +162,7 @@ fn copies<'a>(alloc: Global, names: &[Text<'a>]) -> Result<Vec<Text<'a>>, AllocE
     Ok(copies)
 }
 
-// The domain that a line writes, where its numbers are not larger than a domain's can be.
+// The domain that a line writes, if its numbers are not larger than a domain's can be.
 #[tactic(auto, unfolding(crate::specs::Script::domain_written))]
 fn domain_written(line: &DomainLine, label: TypeId) -> Option<DomainConfig>
     ensures { result ≡ domain_written line.now label }
@@ -583,7 +583,7 @@ pub fn parse_for<'a>(
 }
 
 /// The script for `play` that the bytes say, or their first fault: too many bytes, then no UTF-8, then the first line
-/// that is wrong, then what the whole lacks. A policy block is judged as a whole at its end. A line for `run` alone is
+/// that is wrong, then what the whole lacks. A policy block is judged as a whole at its end. A line for only `run` is
 /// a fault.
 pub fn parse<'a>(alloc: Global, bytes: &'a [u8]) -> Result<Script<'a>, ScriptError>
     ensures script { Answers result (Tells bytes.entry.now) }

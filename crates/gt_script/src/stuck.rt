@@ -1,4 +1,4 @@
-//! Whether each domain of a run comes to the end of its list, where calls are taken as done at once.
+//! Whether each domain of a run comes to the end of its list, if calls are taken as done at once.
 //!
 //! Domains go on in turn, each as far as raised flags let it, until a whole turn raises no new flag.
 ghost use Rattle.std.specs.Prelude.{◌≡◌, ◌≤◌, ◌↔◌, ℕ, Bool, IfOk, All, IsTrue, length};

@@ -52,7 +52,7 @@ impl<'a> TypeNames<'a> {
         self.names.as_slice()
     }
 
-    /// The number of a type, which is added if it is new; None where it is one too many.
+    /// The number of a type, which is added if it is new; None if it is one too many.
     #[tactic(auto, unfolding(crate::specs::Types::with_type))]
     pub fn number(&mut self, name: &'a [u8]) -> Result<Option<TypeId>, AllocError>
         ensures { IfOk result (GivesNumber self.old self.new name.entry.now) }

@@ -3,7 +3,7 @@
 //! The words of the command line are the names. The script `x` is `data/x.gt`, read for `play`; those after the word
 //! `--run` are read for `run`, and those after the word `--cut` are cut off after each count of bytes. A file with a
 //! line `====` has a script above it, and below it lines that are tried in the place of the script's `@`, one after the
-//! other: each is printed behind what comes of it. `args` names all files, and `stdout` has what they must print. A
+//! other: each is printed after what comes of it. `args` names all files, and `stdout` has what they must print. A
 //! script is added by its file, its name in `args` and its lines in `stdout`, and a line that is tried by itself and
 //! its line in `stdout`; that costs no proof.
 #![tactic(auto)]

@@ -54,7 +54,7 @@ fn domains_said(alloc: Global, domains: &[DomainConfig]) -> Result<String, Alloc
     Ok(out)
 }
 
-// Whether the policy lets type 1 read type 0, set up itself, and set up type 0; nothing where there is none.
+// Whether the policy lets type 1 read type 0, set up itself, and set up type 0; nothing if there is none.
 fn policy_said(alloc: Global, policy: Option<&Policy>) -> Result<String, AllocError> {
     let Some(policy) = policy else {
         return Ok(String::new(alloc));
@@ -123,7 +123,7 @@ fn lists_said(alloc: Global, script: &RunScript<'_>) -> Result<String, AllocErro
 }
 
 /// Whether a text that was cut off is a script still, or has a fault that can be: never one of memory, and one of a
-/// policy only where the text has a policy.
+/// policy only if the text has a policy.
 pub fn cut_said(alloc: Global, text: &[u8]) -> Result<String, AllocError> {
     let is_policy = text.starts_with("policy\n".as_bytes());
     for end in 0..text.len() {

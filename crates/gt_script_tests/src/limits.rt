@@ -8,7 +8,7 @@ const HEAD: &str = "triple a_t a_t copy\n\
 domain 1 u:r:a_t 8 1 1\n\
 domain 2 u:r:a_t 8 1 1\n";
 
-// The fault of a text, as it prints; nothing where the text is a script.
+// The fault of a text, as it prints; nothing if the text is a script.
 fn fault_text(alloc: Global, text: &[u8]) -> Result<String, AllocError> {
     match parse(alloc, text) {
         Ok(_) => Ok(String::new(alloc)),

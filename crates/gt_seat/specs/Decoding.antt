@@ -14,7 +14,7 @@ use Rattle.gt_seat.specs.declared.answer.Outcome.{Outcome}
 use Rattle.gt_seat.specs.declared.answer.Outcome.TheVariants.{Done, Mapped, Frames, Version, Size as SizeOf, Denied, NoDomain}
 use Rattle.gt_seat.specs.Encoding.{encoded}
 
--- the rule of this number, the last one where there is none (own)
+-- the rule of this number, the last one if there is none
 abbrev pub rule_named : ℕ → Rule
 rule_named n =
     if n == 1 then N1 else
@@ -44,7 +44,7 @@ rule_named n =
     if n == 25 then N25 else
     N26
 
--- the status whose number is below zero by so many and one more (own)
+-- the status whose number is below zero by so many and one more
 abbrev pub status_below : ℕ → Status
 status_below n =
     if n == 1 then statuses.BadDomain else
@@ -61,7 +61,7 @@ abbrev pub status_named : ℤ → Status
 status_named (pos n) = statuses.GeneralError
 status_named (negsuc n) = status_below n
 
--- the field of this number (own)
+-- the field of this number
 abbrev pub field_named : ℕ → Field
 field_named n =
     if n == 1 then fields.Length else
@@ -74,7 +74,7 @@ field_named n =
     if n == 8 then fields.SubPage else
     fields.Reserved
 
--- what a refusal rests on (own)
+-- what a refusal rests on
 abbrev pub facts_in : Answer → Facts
 facts_in a =
     if a.kind == 5 then
@@ -84,7 +84,7 @@ facts_in a =
     if a.kind == 8 then facts.Entry (record { 0 = a.dom }) (record { 0 = a.gref }) a.word else
     facts.None
 
--- what an answer that is Ok gives (own)
+-- what an answer that is Ok gives
 abbrev pub given_in : Answer → Outcome
 given_in a =
     if a.kind == 1 then Mapped (record { serial = a.value; key = a.more }) else
@@ -93,13 +93,13 @@ given_in a =
     if a.kind == 4 then SizeOf (record { frames = a.value; max = a.more }) else
     Done
 
--- the outcome that an answer says (own)
+-- the outcome that an answer says
 abbrev pub decoded : Answer → Outcome
 decoded a =
     if a.rule == 256 then NoDomain else
     if a.rule == 0 then given_in a else
     Denied (record { rule = rule_named a.rule; status = status_named a.status; facts = facts_in a })
 
--- each outcome is read back from its answer (own)
+-- each outcome is read back from its answer
 abbrev pub AnswersAreReadBack : Type 0
 AnswersAreReadBack = (o : Outcome) → decoded (encoded o) ≡ o

@@ -15,7 +15,7 @@ use Rattle.gt_seat.specs.declared.answer.Answer.{Answer}
 use Rattle.gt_seat.specs.declared.answer.Outcome.{Outcome}
 use Rattle.gt_seat.specs.declared.answer.Outcome.TheVariants.{Done, Mapped, Frames, Version, Size as SizeOf, Denied, NoDomain}
 
--- the number of a field of an entry's bytes (own)
+-- the number of a field of an entry's bytes
 abbrev pub field_number : Field → ℕ
 field_number fields.Length = 1
 field_number fields.Kind = 2
@@ -27,7 +27,7 @@ field_number fields.Pat = 7
 field_number fields.SubPage = 8
 field_number fields.Reserved = 9
 
--- an answer that says nothing but its rule and status (own)
+-- an answer that says nothing but its rule and status
 abbrev pub bare : ℕ → ℤ → Answer
 bare rule status =
     record {
@@ -44,11 +44,11 @@ bare rule status =
       more = 0;
     }
 
--- Ok with a value: what it is, and its one or two numbers (own)
+-- Ok with a value: what it is, and its one or two numbers
 abbrev pub given : ℕ → ℕ → ℕ → Answer
 given kind value more = record (bare 0 (pos 0)) { kind = kind; value = value; more = more }
 
--- an answer with what a refusal rests on (own)
+-- an answer with what a refusal rests on
 abbrev pub with_facts : Facts → Answer → Answer
 with_facts facts.None a = a
 with_facts (facts.Policy source target perm) a =
@@ -57,11 +57,11 @@ with_facts (facts.Field field) a = record a { kind = 6; detail = field_number fi
 with_facts (facts.Header dom word) a = record a { kind = 7; dom = dom.0; word = word }
 with_facts (facts.Entry dom gref word) a = record a { kind = 8; dom = dom.0; gref = gref.0; word = word }
 
--- a refusal (own)
+-- a refusal
 abbrev pub refusal : Denial → Answer
 refusal d = with_facts d.facts (bare (rule_number d.rule) (status_number d.status))
 
--- the answer that says this outcome (own)
+-- the answer that says this outcome
 abbrev pub encoded : Outcome → Answer
 encoded Done = bare 0 (pos 0)
 encoded (Mapped handle) = given 1 handle.serial handle.key

@@ -84,7 +84,7 @@ impl<P: Allows + Drop> Guest<P> {
         self.domain.grant_bytes(&self.monitor, gref, bytes)
     }
 
-    /// Makes an entry of its own invalid, where it has no pins.
+    /// Makes an entry of its own invalid, if it has no pins.
     ///
     /// # Errors
     /// N9, N10 or N19.
@@ -110,7 +110,7 @@ impl<P: Allows + Drop> Guest<P> {
         self.domain.withdraw(&self.monitor, gref)
     }
 
-    /// Makes an entry of its own read-only, where it has no write pins.
+    /// Makes an entry of its own read-only, if it has no write pins.
     ///
     /// # Errors
     /// N9, N10, N22, N18 or N19.
@@ -150,7 +150,7 @@ impl<P: Allows + Drop> Guest<P> {
         self.domain.set_version(&self.monitor, version)
     }
 
-    /// Gives its table so many frames, where it has fewer, and answers how many it then has.
+    /// Gives its table so many frames, if it has fewer, and answers how many it then has.
     ///
     /// # Errors
     /// N5 or N23.
@@ -223,7 +223,7 @@ impl<P: Allows + Drop> Guest<P> {
         self.domain.unmap(&self.monitor, handle)
     }
 
-    /// The mapping under a handle, None where the handle names none of its mappings.
+    /// The mapping under a handle, None if the handle names none of its mappings.
     pub fn mapping(&self, handle: Handle) -> Option<Held>
         ensures { result ≡ value_of self.now.1.mappings handle }
     {

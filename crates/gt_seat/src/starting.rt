@@ -57,7 +57,7 @@ fn all_guests<P: Allows + Drop>(
 /// Starts a run, and gives a guest for each domain configured, in order.
 ///
 /// # Errors
-/// The first fault of the configuration, or `Memory` where it has none and memory is refused. No domain is left then.
+/// The first fault of the configuration, or `Memory` if it has none and memory is refused. No domain is left then.
 pub fn start<P: Allows + Drop>(
     alloc: Global,
     config: Config,

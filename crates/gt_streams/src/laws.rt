@@ -10,7 +10,7 @@ pub fn the_read_limit()
     ensures { READ_LIMIT ≡ 1048577 }
 {}
 
-/// A law: where nothing goes out, the writer holds what it held.
+/// A law: if nothing goes out, the writer holds what it held.
 pub fn every_writer_keeps_what_it_has()
     ensures keeps { (a : Option (List ℕ)) → Keeps a a }
     ensures nothing { (a : Option (List ℕ)) → Appends a a [] }

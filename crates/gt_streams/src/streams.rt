@@ -48,7 +48,7 @@ fn read_on<R: Read>(reader: &mut R, bytes: &mut Vec<u8>, room: usize) -> Result<
     }
 }
 
-/// The bytes that the reader has left, or the first 1,048,577 of them where there are more; it loses
+/// The bytes that the reader has left, or the first 1,048,577 of them if there are more; it loses
 /// those bytes and no other. An Err says whether memory was refused, here or in a read, or a read
 /// failed; the reader has then lost 1,048,577 bytes at most.
 pub fn read_text<R: Read>(alloc: Global, reader: &mut R) -> Result<Vec<u8>, ReadFault>

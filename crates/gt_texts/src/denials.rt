@@ -9,7 +9,7 @@ use gt_types::{Denial, Facts, TypeId};
 use std::alloc::AllocError;
 use std::convert::AsSlice;
 
-// The name at a type's number: no bytes where there is none.
+// The name at a type's number: no bytes if there is none.
 fn name_of<'n, N: AsSlice<u8>>(names: &'n [N], id: TypeId) -> &'n [u8]
     ensures { result.now ≡ type_text N.items names.entry.now id }
 {
@@ -19,7 +19,7 @@ fn name_of<'n, N: AsSlice<u8>>(names: &'n [N], id: TypeId) -> &'n [u8]
     }
 }
 
-/// Appends the name of a type: the one at its number in `names`, and nothing where there is none.
+/// Appends the name of a type: the one at its number in `names`, and nothing if there is none.
 pub fn push_type<N: AsSlice<u8>>(
     out: &mut Vec<u8>,
     names: &[N],
@@ -46,7 +46,7 @@ fn push_called<N: AsSlice<u8>>(
     push_type(out, names, id)
 }
 
-/// Appends what a refusal rests on, where its line names that. After an Err a part of it may be there.
+/// Appends what a refusal rests on, if its line names that. After an Err a part of it may be there.
 pub fn push_facts<N: AsSlice<u8>>(
     out: &mut Vec<u8>,
     names: &[N],

@@ -6,7 +6,7 @@
 //! that wait.
 //!
 //! What holds: each function appends exactly its text, for any names, facts and numbers, and bytes that
-//! were UTF-8 stay so. Where memory is refused, a beginning of the text may be there.
+//! were UTF-8 stay so. If memory is refused, a beginning of the text may be there.
 //!
 //! It uses `gt_types` (the names of rules, fields and permissions) and `itoa` (numbers).
 #![tactic(auto)]

@@ -12,7 +12,7 @@ use Rattle.gt_types.specs.declared.config.ConfigFault.TheVariants.{TableFrames, 
 use Rattle.gt_types.specs.declared.limits.TheConstants.{DOMID_SELF, MAX_DOMAINS, MAX_FRAMES, MAX_TABLE_FRAMES}
 use Rattle.gt_types.specs.declared.limits.TheConstants.{LAST_VERSION, LAST_GENERATION}
 
--- the limits of a run (own): 1 to MAX_DOMAINS domains with distinct numbers below DOMID_SELF, 1 to MAX_FRAMES
+-- the limits of a run: 1 to MAX_DOMAINS domains with distinct numbers below DOMID_SELF, 1 to MAX_FRAMES
 -- frames and 1 to MAX_TABLE_FRAMES table frames each, and a first generation that there is
 pub record IsWithinLimits (c : Config) : Type 0 where
   pub some : 1 ≤ length c.domains.items
@@ -24,21 +24,21 @@ pub record IsWithinLimits (c : Config) : Type 0 where
   pub versions : All (λ d. (1 ≤ d.version) × (d.version ≤ LAST_VERSION)) c.domains.items
   pub generation : c.first_gen ≤ LAST_GENERATION
 
--- the fault, where the test holds (own)
+-- the fault, if the test holds
 abbrev pub fault_when : Bool → ConfigFault → Option ConfigFault
 fault_when true fault = Some fault
 fault_when false fault = None
 
--- the number is outside 1 to the last (own)
+-- the number is outside 1 to the last
 abbrev pub is_outside : ℕ → ℕ → Bool
 is_outside last n = not (nat_le 1 n && nat_le n last)
 
--- one of the domains has this number (own)
+-- one of the domains has this number
 abbrev pub is_taken : List DomainConfig → DomId → Bool
 is_taken domains id = list_any (λ d. d.id.0 == id.0) domains
 
 -- the first fault of a domain after those before it, in the order: one domain too
--- many, number, repetition, frames, table frames, version (own)
+-- many, number, repetition, frames, table frames, version
 unfoldable pub domain_fault : List DomainConfig → DomainConfig → Option ConfigFault
 domain_fault before d =
     option_or (fault_when (nat_le MAX_DOMAINS (length before)) (TooMany d.id))
@@ -48,12 +48,12 @@ domain_fault before d =
     (option_or (fault_when (is_outside MAX_TABLE_FRAMES d.table_frames) (TableFrames d.id))
     (fault_when (is_outside LAST_VERSION d.version) (Version d.id))))))
 
--- no domain has a fault after those before it (own)
+-- no domain has a fault after those before it
 pub record AreFaultless (domains : List DomainConfig) : Type 0 where
   pub each : (at : ℕ) (domain : DomainConfig) → slice_get domains at ≡ Some domain
       → domain_fault (take at domains) domain ≡ None
 
--- the fault is that of the first domain that has one (own)
+-- the fault is that of the first domain that has one
 pub record IsFirstDomainFault (domains : List DomainConfig) (fault : ConfigFault) : Type 0 where
   pub at : ℕ
   pub domain : DomainConfig
@@ -62,7 +62,7 @@ pub record IsFirstDomainFault (domains : List DomainConfig) (fault : ConfigFault
   pub here : domain_fault (take at domains) domain ≡ Some fault
 
 -- the first fault of a configuration: no domain at all comes first, then the
--- first domain with a fault, and the first generation last (own)
+-- first domain with a fault, and the first generation last
 abbrev pub IsFirstFault : Config → ConfigFault → Type 0
 IsFirstFault c fault =
     ((fault ≡ NoDomains) × (c.domains.items ≡ []))

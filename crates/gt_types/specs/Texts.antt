@@ -8,11 +8,11 @@ use Rattle.gt_types.specs.declared.config.ConfigFault.TheVariants.{TableFrames, 
 use Rattle.gt_types.specs.declared.config.StartFault.{StartFault}
 use Rattle.gt_types.specs.declared.config.StartFault.TheVariants.{Config, Memory}
 
--- what is wrong with the domain of this number (own)
+-- what is wrong with the domain of this number
 abbrev pub of_domain : DomId → List ℕ → List ℕ
 of_domain id fault = codes "domain " ++ decimal id.0 ++ fault
 
--- the text of a fault of a configuration (own)
+-- the text of a fault of a configuration
 abbrev pub config_fault_text : ConfigFault → List ℕ
 config_fault_text NoDomains = codes "no domain"
 config_fault_text (TooMany id) = of_domain id (codes ": one domain too many")
@@ -23,7 +23,7 @@ config_fault_text (TableFrames id) = of_domain id (codes ": table frames out of 
 config_fault_text (Version id) = of_domain id (codes ": no such version")
 config_fault_text Generation = codes "first generation out of range"
 
--- the text of why a run can't start (own)
+-- the text of why a run can't start
 abbrev pub start_fault_text : StartFault → List ℕ
 start_fault_text (Config fault) = config_fault_text fault
 start_fault_text Memory = codes "memory was refused"

@@ -43,45 +43,45 @@ use Rattle.gt_types.specs.declared.config.StartFault.TheVariants as fault
 use Rattle.gt_entry.specs.declared.change.Change.TheVariants.{Demote, Promote, Publish, Revoke, Withdraw}
 use Rattle.gt_words.specs.declared.view.HeaderStep.TheVariants as header
 
--- what clauses see of the words: which table of words it is, and the run that it serves (own)
+-- what clauses see of the words: which table of words it is, and the run that it serves
 pub record Board : Type 0 where
   pub table : TableId
   pub layout : Layout
 
--- what clauses see of a seat: the table of words that it is of, its domain and its view (own)
+-- what clauses see of a seat: the table of words that it is of, its domain and its view
 pub record SeatOf : Type 0 where
   pub table : TableId
   pub dom : DomId
   pub view : View
 
--- the seat is of these words, knows their domains, and is of the domain at its position (own)
+-- the seat is of these words, knows their domains, and is of the domain at its position
 pub record IsSeatOf (b : Board) (s : SeatOf) : Type 0 where
   pub table : s.table ≡ b.table
   pub inside : s.view.position < length b.layout.ids
   pub named : id_at b.layout.ids s.view.position ≡ s.dom
   pub ids : s.view.ids ≡ b.layout.ids
 
--- the place of the domain among those of the run (own)
+-- the place of the domain among those of the run
 abbrev pub position_at : Board → DomId → ℕ
 position_at b d = position_in b.layout.ids d
 
--- the domain is one of the run (own)
+-- the domain is one of the run
 abbrev pub HasDomain : Layout → DomId → Type 0
 HasDomain k d = position_in k.ids d < length k.ids
 
--- the reference is one of a domain of the run (own)
+-- the reference is one of a domain of the run
 abbrev pub IsEntryOf : Board → DomId → GrantRef → Type 0
 IsEntryOf b d q = HasDomain b.layout d × (q.0 < TABLE_ENTRIES)
 
--- the same header with another version (own)
+-- the same header with another version
 abbrev pub with_version : ℕ → Header → Header
 with_version version h = record h { version = version }
 
--- the same header with another number of table frames (own)
+-- the same header with another number of table frames
 abbrev pub with_frames : ℕ → Header → Header
 with_frames frames h = record h { frames = frames }
 
--- the seat is of the same table and domain and began with the same run, whatever it knows by now (own)
+-- the seat is of the same table and domain and began with the same run, whatever it knows by now
 pub record IsSameSeat (s s' : SeatOf) : Type 0 where
   pub table : s'.table ≡ s.table
   pub dom : s'.dom ≡ s.dom
@@ -90,12 +90,12 @@ pub record IsSameSeat (s s' : SeatOf) : Type 0 where
   pub headers : s'.view.headers ≡ s.view.headers
   pub ids : s'.view.ids ≡ s.view.ids
 
--- there are so many words for each domain, and no more domains than there may be (own)
+-- there are so many words for each domain, and no more domains than there may be
 abbrev pub IsWide : ℕ → Layout → Type 0
 IsWide words k = (words ≡ k.domains * DOMAIN_WORDS) × (k.domains ≤ MAX_DOMAINS)
 
 -- the word has the owner's part and the generation of this record, and some pins:
--- so it says kind, readonly, domain, generation and counts (own)
+-- so it says kind, readonly, domain, generation and counts
 pub record IsWordOf (x : EntryRecord) (word : ℕ) : Type 0 where
   pub reads : ℕ
   pub writes : ℕ
@@ -103,16 +103,16 @@ pub record IsWordOf (x : EntryRecord) (word : ℕ) : Type 0 where
   pub spelled : word ≡ word_of x.entry x.generation reads writes
   pub control : control_of word ≡ control_with x.entry x.generation reads writes
 
--- the word has the owner's part and the generation of this record, and no pins (own)
+-- the word has the owner's part and the generation of this record, and no pins
 abbrev pub IsIdleOf : EntryRecord → ℕ → Type 0
 IsIdleOf x word = word ≡ idle_word_of x.entry x.generation
 
--- the word has the owner's part and the generation of this record, and a pin at least (own)
+-- the word has the owner's part and the generation of this record, and a pin at least
 pub record IsBusyOf (x : EntryRecord) (word : ℕ) : Type 0 where
   pub word_is : IsWordOf x word
   pub pinned : (pins_in Read word ≢ 0) ⊎ (pins_in Write word ≢ 0)
 
--- the seat's last look at the entry r of the domain t found this word, and it read the body words since (own)
+-- the seat's last look at the entry r of the domain t found this word, and it read the body words since
 abbrev pub HasLooked : ℕ → ℕ → View → ℕ → Type 0
 HasLooked t r v word =
     (seen (steps_on t r v) ≡ Some (last_seen t r v)) × ((last_seen t r v).word ≡ word) × HasBody (last_seen t r v)
@@ -130,7 +130,7 @@ pub record PermitsOwnerOfVia (k : Layout) (t r : ℕ) (v : View) (d : Dir) (x : 
   pub permits : PermitsPin x.entry (id_at k.ids owner) d
 
 -- the entry r of the domain t, as the record x has it, permits or forwards the seat's domain for that
--- kind, or permits the owner of a Via to it that the view has pinned for that kind (own)
+-- kind, or permits the owner of a Via to it that the view has pinned for that kind
 abbrev pub MayPin : Layout → ℕ → ℕ → View → Dir → EntryRecord → Type 0
 MayPin k t r v d x =
     PermitsPin x.entry (id_at k.ids v.position) d
@@ -158,7 +158,7 @@ pub record CanRevoke (r word : ℕ) (v : View) : Type 0 where
   pub idle : IsIdleOf (last_of r v) word
   pub some : (last_of r v).entry ≢ Invalid
 
--- the word is one of the owner's last record, which is an entry, worn or not, with pins or without (own)
+-- the word is one of the owner's last record, which is an entry, worn or not, with pins or without
 pub record CanWithdraw (r word : ℕ) (v : View) : Type 0 where
   pub word_is : IsWordOf (last_of r v) word
   pub some : (last_of r v).entry ≢ Invalid
@@ -175,7 +175,7 @@ pub record CanTurn (ro : Bool) (r word : ℕ) (v : View) : Type 0 where
 abbrev pub CanDemote : ℕ → ℕ → View → Type 0
 CanDemote r word v = CanTurn false r word v × (pins_in Write word ≡ 0)
 
--- what the owner's exchange from this word asks (own)
+-- what the owner's exchange from this word asks
 abbrev pub CanChange : Change → ℕ → ℕ → View → Type 0
 CanChange (Publish e) r word v = CanPublish e r word v
 CanChange Revoke r word v = CanRevoke r word v
@@ -183,27 +183,27 @@ CanChange Withdraw r word v = CanWithdraw r word v
 CanChange Demote r word v = CanDemote r word v
 CanChange Promote r word v = CanTurn true r word v
 
--- after these steps of all seats none has a pin of the entry r of the domain t (own)
+-- after these steps of all seats none has a pin of the entry r of the domain t
 abbrev pub HasNoPins : ℕ → ℕ → History → Type 0
 HasNoPins t r past = (i : ℕ) → pins (entry_steps t r (part_of i past)) ≡ []
 
--- after these steps of all seats none has a write pin of the entry r of the domain t (own)
+-- after these steps of all seats none has a write pin of the entry r of the domain t
 abbrev pub HasNoWritePins : ℕ → ℕ → History → Type 0
 HasNoWritePins t r past = (i : ℕ) → pin_count Write (pins (entry_steps t r (part_of i past))) ≡ 0
 
 -- in each state that words and views show, the control word of the entry
--- counts the pins of that kind that a view has of it (own)
+-- counts the pins of that kind that a view has of it
 abbrev pub CountsPins : Layout → ℕ → ℕ → Dir → Type 0
 CountsPins k t r d =
     (s : State (Unit {0}) View) (i : ℕ) (v : View) → Shows k s → get_elem? s.views i ≡ some v
     → pin_count d (pins (steps_on t r v)) ≤ pins_in d (slice_index s.words (place t r 0))
 
--- the word is of no earlier generation than the one that the view saw last of the entry, if it saw one (own)
+-- the word is of no earlier generation than the one that the view saw last of the entry, if it saw one
 abbrev pub IsNotEarlier : ℕ → ℕ → View → ℕ → Type 0
 IsNotEarlier t r v word = seen_generation t r v ≤ generation_of word
 
 -- the seat added the step m on the entry r of the domain t to its view, which was taken
--- after the steps past of all seats, and nothing else (own)
+-- after the steps past of all seats, and nothing else
 pub record AddsToEntry (past : History) (t r : ℕ) (m : EntryStep) (v w : View) : Type 0 where
   pub view : w ≡ with_step past (on_entry t r m) v
   pub here : steps_on t r w ≡ m ∷ steps_on t r v
@@ -211,33 +211,33 @@ pub record AddsToEntry (past : History) (t r : ℕ) (m : EntryStep) (v w : View)
   pub headers : (t' : ℕ) → steps_on_header t' w ≡ steps_on_header t' v
 
 -- the seat added the step m on the header of the domain t to its view, which was taken
--- after the steps past of all seats, and nothing else (own)
+-- after the steps past of all seats, and nothing else
 pub record AddsToHeader (past : History) (t : ℕ) (m : HeaderStep) (v w : View) : Type 0 where
   pub view : w ≡ with_step past (on_header t m) v
   pub here : steps_on_header t w ≡ m ∷ steps_on_header t v
   pub others : (t' : ℕ) → t ≢ t' → steps_on_header t' w ≡ steps_on_header t' v
   pub entries : (t' r' : ℕ) → steps_on t' r' w ≡ steps_on t' r' v
 
--- the step m was taken on the control word of the entry r of the domain t, where it found and left these numbers (own)
+-- the step m was taken on the control word of the entry r of the domain t, if it found and left these numbers
 pub record StepsOnControl (k : Layout) (t r : ℕ) (m : EntryStep) (found left : ℕ) (v w : View) : Type 0 where
   pub past : History
   pub adds : AddsToEntry past t r m v w
   pub step : TakesStep (Unit {0}) k v past (on_entry t r m) (place t r 0) found left
 
--- the step m was taken on the body word h of the entry r of the domain t, where it found and left these numbers (own)
+-- the step m was taken on the body word h of the entry r of the domain t, if it found and left these numbers
 pub record StepsOnBody (k : Layout) (t r : ℕ) (h : Half) (m : EntryStep) (found left : ℕ) (v w : View) : Type 0 where
   pub past : History
   pub adds : AddsToEntry past t r m v w
   pub step : TakesStep (Unit {0}) k v past (on_entry t r m) (place t r (half_index h)) found left
 
--- the step m was taken on the header word of the domain t, where it found and left these numbers (own)
+-- the step m was taken on the header word of the domain t, if it found and left these numbers
 pub record StepsOnHeader (k : Layout) (t : ℕ) (m : HeaderStep) (found left : ℕ) (v w : View) : Type 0 where
   pub past : History
   pub adds : AddsToHeader past t m v w
   pub step : TakesStep (Unit {0}) k v past (on_header t m) (header_place t) found left
 
 -- a look at the header of the domain t found this word: that of a header within the
--- limits, whose table has no more entries than there is room for (own)
+-- limits, whose table has no more entries than there is room for
 pub record LooksAtHeader (k : Layout) (t n : ℕ) (v w : View) : Type 0 where
   pub steps : StepsOnHeader k t (header.Looked n) n n v w
   pub word : n ≡ header_word (header_of n)
@@ -245,18 +245,18 @@ pub record LooksAtHeader (k : Layout) (t n : ℕ) (v w : View) : Type 0 where
   pub size : size_of (header_of n) ≤ TABLE_ENTRIES
   pub keeps : Keeps v w
 
--- a look at the control word of the entry r of the domain t found this word (own)
+-- a look at the control word of the entry r of the domain t found this word
 pub record LooksAtControl (k : Layout) (t r n : ℕ) (v w : View) : Type 0 where
   pub steps : StepsOnControl k t r (Looked n) n n v w
   pub not_earlier : IsNotEarlier t r v n
   pub keeps : Keeps v w
 
--- a look at the body word h of the entry r of the domain t found this value (own)
+-- a look at the body word h of the entry r of the domain t found this value
 pub record LooksAtBody (k : Layout) (t r : ℕ) (h : Half) (n : ℕ) (v w : View) : Type 0 where
   pub steps : StepsOnBody k t r h (ReadBody h n) n n v w
   pub keeps : Keeps v w
 
--- the owner stored this value in the body word h of its entry r, by one step (own)
+-- the owner stored this value in the body word h of its entry r, by one step
 pub record StoresBody (k : Layout) (r : ℕ) (h : Half) (value : ℕ) (v w : View) : Type 0 where
   pub found : ℕ
   pub steps : StepsOnBody k v.position r h (StoredBody h value) found value v w
@@ -269,7 +269,7 @@ pub record StoresBody (k : Layout) (r : ℕ) (h : Half) (value : ℕ) (v w : Vie
   pub pins : KeepsPins v w
   pub seen : SeesNoEarlier v w
 
--- the owner stored this header, by one step (own)
+-- the owner stored this header, by one step
 pub record StoresHeader (k : Layout) (h : Header) (v w : View) : Type 0 where
   pub found : ℕ
   pub steps : StepsOnHeader k v.position (header.Stored (header_word h)) found (header_word h) v w
@@ -278,7 +278,7 @@ pub record StoresHeader (k : Layout) (h : Header) (v w : View) : Type 0 where
   pub pins : KeepsPins v w
   pub seen : SeesNoEarlier v w
 
--- a pin was given back by one step: the word counted one of that kind at least, and counts one less now (own)
+-- a pin was given back by one step: the word counted one of that kind at least, and counts one less now
 pub record Unpins (k : Layout) (t r : ℕ) (d : Dir) (g : ℕ) (v w : View) : Type 0 where
   pub found : ℕ
   pub counted : 0 < pins_in d found
@@ -289,12 +289,12 @@ pub record Unpins (k : Layout) (t r : ℕ) (d : Dir) (g : ℕ) (v w : View) : Ty
   pub header : own_header w ≡ own_header v
   pub seen : SeesNoEarlier v w
 
--- this pin was given back (own)
+-- this pin was given back
 abbrev pub UnpinsPin : Board → Pin → View → View → Type 0
 UnpinsPin b p v w = Unpins b.layout (position_at b p.dom) p.gref.0 p.dir (generation_of p.word) v w
 
 -- a pin was taken by one step: of the entry as it was last seen, which was then the
--- last record of its owner's list, and which the seat may pin (own)
+-- last record of its owner's list, and which the seat may pin
 pub record Pins (k : Layout) (t r : ℕ) (d : Dir) (word : ℕ) (v w : View) : Type 0 where
   pub steps : StepsOnControl k t r (Pinned d word (record_seen (last_seen t r v))) word (word + unit_of d) v w
   pub current : (entry_made k t r steps.past).current ≡ record_seen (last_seen t r v)
@@ -307,14 +307,14 @@ pub record Pins (k : Layout) (t r : ℕ) (d : Dir) (word : ℕ) (v w : View) : T
   pub header : own_header w ≡ own_header v
   pub seen : SeesNoEarlier v w
 
--- a pin was missed: the word found is another (own)
+-- a pin was missed: the word found is another
 pub record MissesPin (k : Layout) (t r : ℕ) (d : Dir) (word found : ℕ) (v w : View) : Type 0 where
   pub another : found ≢ word
   pub steps : StepsOnControl k t r (PinMissed d word (word + unit_of d) found) found found v w
   pub not_earlier : IsNotEarlier t r v found
   pub keeps : Keeps v w
 
--- the owner's exchange was taken, and its last record of the entry r is what the change makes of the one before (own)
+-- the owner's exchange was taken, and its last record of the entry r is what the change makes of the one before
 pub record Changes (k : Layout) (r : ℕ) (c : Change) (word : ℕ) (v w : View) : Type 0 where
   pub steps : StepsOnControl k v.position r
       (Changed c word (changed_word c (last_of r v) word) (changed c (last_of r v))) word
@@ -326,7 +326,7 @@ pub record Changes (k : Layout) (r : ℕ) (c : Change) (word : ℕ) (v w : View)
   pub pins : KeepsPins v w
   pub seen : SeesNoEarlier v w
 
--- the owner's exchange was missed: the word found is another of the same record (own)
+-- the owner's exchange was missed: the word found is another of the same record
 pub record MissesChange (k : Layout) (r : ℕ) (c : Change) (word found : ℕ) (v w : View) : Type 0 where
   pub another : found ≢ word
   pub same_record : IsWordOf (last_of r v) found
@@ -335,32 +335,32 @@ pub record MissesChange (k : Layout) (r : ℕ) (c : Change) (word found : ℕ) (
   pub not_earlier : IsNotEarlier v.position r v found
   pub keeps : Keeps v w
 
--- the owner's exchange was missed: the word found is one of the same record with pins (own)
+-- the owner's exchange was missed: the word found is one of the same record with pins
 pub record MissesBusy (k : Layout) (r : ℕ) (c : Change) (word found : ℕ) (v w : View) : Type 0 where
   pub missed : MissesChange k r c word found v w
   pub busy : IsBusyOf (last_of r v) found
 
--- the entry was published by one exchange, at which no seat had a pin of an earlier one there (own)
+-- the entry was published by one exchange, at which no seat had a pin of an earlier one there
 pub record Publishes (k : Layout) (r : ℕ) (e : Entry) (word : ℕ) (v w : View) : Type 0 where
   pub changes : Changes k r (Publish e) word v w
   pub no_pins : HasNoPins v.position r changes.steps.past
 
--- the entry was made invalid by one exchange, at which no seat had a pin of it (own)
+-- the entry was made invalid by one exchange, at which no seat had a pin of it
 pub record Revokes (k : Layout) (r : ℕ) (word : ℕ) (v w : View) : Type 0 where
   pub changes : Changes k r Revoke word v w
   pub no_pins : HasNoPins v.position r changes.steps.past
 
--- the entry was made read-only by one exchange, at which no seat had a write pin of it (own)
+-- the entry was made read-only by one exchange, at which no seat had a write pin of it
 pub record Demotes (k : Layout) (r : ℕ) (word : ℕ) (v w : View) : Type 0 where
   pub changes : Changes k r Demote word v w
   pub no_write_pins : HasNoWritePins v.position r changes.steps.past
 
--- why words are not made: the first fault of the configuration, or no memory where it has none (own)
+-- why words are not made: the first fault of the configuration, or no memory if it has none
 abbrev pub IsStartFault : Config → StartFault → Type 0
 IsStartFault c (fault.Config f) = (¬ IsWithinLimits c) × IsFirstFault c f
 IsStartFault c fault.Memory = IsWithinLimits c
 
--- the seat at the position i, which has done nothing (own)
+-- the seat at the position i, which has done nothing
 pub record IsNewSeat (b : Board) (i : ℕ) (s : SeatOf) : Type 0 where
   pub seat : IsSeatOf b s
   pub position : s.view.position ≡ i

@@ -12,40 +12,40 @@ use Rattle.gt_entry.specs.Permits.{permits, forwards}
 use Rattle.gt_entry.specs.Spelling.{low_bits}
 use Rattle.gt_entry.specs.Words.{control_of, pins_of, kind_of}
 
--- the generation in a control word (own)
+-- the generation in a control word
 abbrev pub generation_of : ℕ → ℕ
 generation_of word = (control_of word).generation
 
--- the number of pins of this kind that a control word counts (own)
+-- the number of pins of this kind that a control word counts
 abbrev pub pins_in : Dir → ℕ → ℕ
 pins_in d word = pins_of d (control_of word)
 
--- the word is none of an invalid entry (own)
+-- the word is none of an invalid entry
 abbrev pub IsValid : ℕ → Type 0
 IsValid word = kind_of word ≢ KindInvalid
 
--- the invalid word of the same generation, with no pins (own)
+-- the invalid word of the same generation, with no pins
 abbrev pub invalid_word : ℕ → ℕ
 invalid_word word = 17592186044416 * generation_of word
 
--- the invalid word of the same generation, with the same pins (own)
+-- the invalid word of the same generation, with the same pins
 abbrev pub withdrawn_word : ℕ → ℕ
 withdrawn_word word = 17592186044416 * generation_of word + 16 * pins_in Read word + 65536 * pins_in Write word
 
--- the word of the same entry read-only, at the next generation, if the entry was writable (own)
+-- the word of the same entry read-only, at the next generation, if the entry was writable
 abbrev pub demoted_word : ℕ → ℕ
 demoted_word word = word + 17592186044420
 
--- the word of the same entry writable, at the next generation, if the entry was read-only (own)
+-- the word of the same entry writable, at the next generation, if the entry was read-only
 abbrev pub promoted_word : ℕ → ℕ
 promoted_word word = word + 17592186044412
 
--- the word of the same entry with this readonly, at the next generation, if it had the other (own)
+-- the word of the same entry with this readonly, at the next generation, if it had the other
 abbrev pub turned_word : Bool → ℕ → ℕ
 turned_word true word = demoted_word word
 turned_word false word = promoted_word word
 
--- the word is that of an entry that has the other readonly (own)
+-- the word is that of an entry that has the other readonly
 abbrev pub IsTurnable : Bool → ℕ → Type 0
 IsTurnable o word =
     (e : Entry) × (rest : ℕ) × (e ≢ Invalid) × (is_read_only e ≡ not o) × (word ≡ low_bits e + 16 * rest)

@@ -34,30 +34,30 @@ use Rattle.gt_words.specs.declared.view.SeatStep.{SeatStep}
 use Rattle.gt_words.specs.declared.view.View.{View}
 use Rattle.gt_words.specs.declared.word_table.TheConstants.{DOMAIN_WORDS}
 
--- a domain is one of the run exactly where the configuration has it (own)
+-- a domain is one of the run exactly if the configuration has it
 abbrev pub DomainsAreOfRun : Type 0
 DomainsAreOfRun =
     (c : Config) (d : DomId) → (IsSome (domain_of c.domains.items d) → HasDomain (layout_of c) d)
     × (HasDomain (layout_of c) d → IsSome (domain_of c.domains.items d))
 
--- a domain of the run is at its position (own)
+-- a domain of the run is at its position
 abbrev pub DomainsStandThere : Type 0
 DomainsStandThere = (k : Layout) (d : DomId) → HasDomain k d → id_at k.ids (position_in k.ids d) ≡ d
 
--- a seat is at the position of its domain (own)
+-- a seat is at the position of its domain
 abbrev pub SeatsStandThere : Type 0
 SeatsStandThere =
     (c : Config) (b : Board) (s : SeatOf) → IsWithinLimits c → b.layout ≡ layout_of c → IsSeatOf b s
     → s.view.position ≡ position_at b s.dom
 
--- in each state that words and views show, pins of one entry and generation have one record, whoever has them (own)
+-- in each state that words and views show, pins of one entry and generation have one record, whoever has them
 abbrev pub PinsHaveOneRecord : Type 0
 PinsHaveOneRecord =
     (k : Layout) (s : State (Unit {0}) View) (i j : ℕ) (v w : View) (t r : ℕ) (p q : LivePin) → Shows k s
     → get_elem? s.views i ≡ some v → get_elem? s.views j ≡ some w → t < k.domains → r < TABLE_ENTRIES
     → IsIn p (pins (steps_on t r v)) → IsIn q (pins (steps_on t r w)) → p.1.generation ≡ q.1.generation → p.1 ≡ q.1
 
--- in each state that words and views show, each pin is of an entry, and not of an invalid record (own)
+-- in each state that words and views show, each pin is of an entry, and not of an invalid record
 abbrev pub PinsAreOfEntries : Type 0
 PinsAreOfEntries =
     (k : Layout) (s : State (Unit {0}) View) (i : ℕ) (v : View) (t r : ℕ) (p : LivePin) → Shows k s
@@ -65,7 +65,7 @@ PinsAreOfEntries =
     → p.1.entry ≢ Invalid
 
 -- in each state that words and views show, a pin that is left of a record is counted by each word of that record or
--- of a later one that the owner exchanged from: so none is left of a record that was revoked (own)
+-- of a later one that the owner exchanged from: so none is left of a record that was revoked
 abbrev pub PinsLeftAreCounted : Type 0
 PinsLeftAreCounted =
     (k : Layout) (s : State (Unit {0}) View) (i : ℕ) (v : View) (t r e : ℕ) (p : LivePin) → Shows k s
@@ -73,12 +73,12 @@ PinsLeftAreCounted =
     → IsIn p (pins (steps_on t r v)) → IsIn e (exchanged (owner_steps t (map (steps_on t r) s.views)))
     → p.1.generation ≤ generation_of e → 0 < pins_in p.0 e
 
--- the owner with the view v revoked its entry r, or published it: in a state in which no view had a pin of it (own)
+-- the owner with the view v revoked its entry r, or published it: in a state in which no view had a pin of it
 abbrev pub EndsPins : Layout → ℕ → ℕ → View → View → Type 0
 EndsPins k r word v w = Revokes k r word v w ⊎ ((e : Entry) × Publishes k r e word v w)
 
 -- once an entry was revoked, or published, each pin that a view has of it is of a later generation than the record that
--- was there: in each state shown in which the owner has its steps of then, and whichever later (own)
+-- was there: in each state shown in which the owner has its steps of then, and whichever later
 abbrev pub NoPinOutlivesItsRecord : Type 0
 NoPinOutlivesItsRecord =
     (k : Layout) (s : State (Unit {0}) View) (r word i : ℕ) (v w u x : View) (later : List SeatStep) (p : LivePin)
@@ -87,8 +87,8 @@ NoPinOutlivesItsRecord =
     → get_elem? s.views i ≡ some x → IsIn p (pins (steps_on v.position r x))
     → (last_of r v).generation < p.1.generation
 
--- where the owner exchanged from the word e, no step that takes a pin of the record of that word or of an earlier one
--- leads from a state that words and views show to another (own)
+-- if the owner exchanged from the word e, no step that takes a pin of the record of that word or of an earlier one
+-- leads from a state that words and views show to another
 abbrev pub PastPinsAreRefused : Type 0
 PastPinsAreRefused =
     (k : Layout) (s : State (Unit {0}) View) (i : ℕ) (v : View) (t r e at expected left : ℕ) (d : Dir) (y : EntryRecord)
@@ -97,7 +97,7 @@ PastPinsAreRefused =
     → ¬ Shows k (stepped s at left i [] (with_step past (on_entry t r (Pinned d expected y)) v) keeps)
 
 -- two states that words and views show, with the same views, have the same words: so no
--- step leaves another word than what it adds to its view says (own)
+-- step leaves another word than what it adds to its view says
 abbrev pub WordsFollowViews : Type 0
 WordsFollowViews = (k : Layout) (s z : State (Unit {0}) View) → Shows k s → Shows k z → s.views ≡ z.views
     → ((t r j : ℕ) → t < k.domains → r < TABLE_ENTRIES → j < 3
@@ -106,7 +106,7 @@ WordsFollowViews = (k : Layout) (s z : State (Unit {0}) View) → Shows k s → 
 
 -- a step that leads from a state that words and views show to another such state is taken then: it comes right after all
 -- steps before it, its seat knows them, it says the word that is there, it stores or changes only its own,
--- and it takes a pin only of the last record (own)
+-- and it takes a pin only of the last record
 abbrev pub StepsAreTakenThen : Type 0
 StepsAreTakenThen =
     (k : Layout) (s : State (Unit {0}) View) (i : ℕ) (v : View) (x : SeatStep) (past : History) (at left : ℕ)
@@ -115,8 +115,8 @@ StepsAreTakenThen =
     → (past ≡ shown.history) × (after.history ≡ (i, x) ∷ shown.history) × IsOwners i x
     × PinsLast k shown.history x × (place_of x < k.domains * DOMAIN_WORDS → Says x (slice_index s.words (place_of x)))
 
--- where a raw step of the table is allowed that adds the step x to its seat's view, by the number found, x says the word
--- that is there, in every state that words and views show: so no body tells a step of a word that it did not find (own)
+-- if a raw step of the table is allowed that adds the step x to its seat's view, by the number found, x says the word
+-- that is there, in every state that words and views show: so no body tells a step of a word that it did not find
 abbrev pub AllowedStepsSayWhatIsThere : Type 0
 AllowedStepsSayWhatIsThere =
     (k : Layout) (slots id : ℕ) (me : Me (Unit {0}) View) (at : ℕ) (f : ℕ → ℕ) (x : ℕ → SeatStep)
@@ -126,14 +126,14 @@ AllowedStepsSayWhatIsThere =
     → let step : SeatStep = x (slice_index s.words at) in
     place_of step < k.domains * DOMAIN_WORDS → Says step (slice_index s.words (place_of step))
 
--- each step x of the history, by the seat i after the steps h, was taken at that moment (own)
+-- each step x of the history, by the seat i after the steps h, was taken at that moment
 abbrev pub EachStepHappened : Type 0
 EachStepHappened =
     (k : Layout) (s : State (Unit {0}) View) (later h : History) (i : ℕ) (x : SeatStep) (shown : Shows k s)
     → shown.history ≡ later ++ (i, x) ∷ h
     → TookPlace k i (h, x)
 
--- what words and views show has one history, by the views alone (own)
+-- what words and views show has one history, by the views only
 abbrev pub HistoryIsOne : Type 0
 HistoryIsOne =
     (k : Layout) (s z : State (Unit {0}) View) (shown : Shows k s) (also : Shows k z) → s.views ≡ z.views
@@ -151,7 +151,7 @@ bounded x (z ∷ zs) y l (inr h) = let r = bounded z zs y l.2 h in
     ⊎_elim (λ (t : IsRevocation x z). let e = t.1 in omega arith)
     (λ (t : IsNextEntry x z). let e = t.0 in omega arith) l.1
 
--- where the last record is an entry, no other has its generation
+-- if the last record is an entry, no other has its generation
 pub alone : (x : EntryRecord) (xs : List EntryRecord) (y : EntryRecord) → IsLawful x xs → x.entry ≢ Invalid
     → IsIn y (x ∷ xs) → y.generation ≡ x.generation → y ≡ x
 alone x [] y l n (inl e) g = e
@@ -238,7 +238,7 @@ domain_at k d inside = ap numbered (found_at k.ids d (position (λ (x : DomId). 
 id_of : DomainConfig → DomId
 id_of x = x.id
 
--- where the list of a configuration has a domain, and where it has not
+-- if the list of a configuration has a domain, and if it has not
 among : (ds : List DomainConfig) (d : DomId) → IsSome (domain_of ds d)
     → position_or_len (λ (y : DomId). y.0 == d.0) (map (λ z. z.id) ds) < length (map (λ z. z.id) ds)
 among [] d e = cc
@@ -275,7 +275,7 @@ unwrapped n at lt = by (nat_lt at n) (lt-ltb at n lt)
 wrapped : (n at : ℕ) → unwrap_or (cond (nat_lt at n) (Some at) None) n < n → at < n
 wrapped n at lt = grind (arith, nat_tests)
 
--- a domain is one of the run exactly where the configuration has it
+-- a domain is one of the run exactly if the configuration has it
 pub domain_of_run : DomainsAreOfRun
 domain_of_run c d = (λ e. unwrapped _ _ (among c.domains.items d e), λ lt. named c.domains.items d (wrapped _ _ lt))
 

@@ -6,25 +6,25 @@ use Rattle.gt_types.specs.declared.DomId.{DomId}
 use Rattle.gt_words.specs.declared.view.View.{View}
 use Rattle.gt_words.specs.Rule.{Layout}
 
--- the view of a seat that has done nothing (own)
+-- the view of a seat that has done nothing
 abbrev pub new_view : ℕ → List ℕ → List DomId → ℕ → View
 new_view g headers ids t = record { position = t; first = g; headers = headers; ids = ids; dealt = 1; steps = []; past = [] }
 
--- the view of the seat that dealt another, after it (own)
+-- the view of the seat that dealt another, after it
 abbrev pub dealer_after : View → View
 dealer_after v = record v { dealt = v.dealt + 1 }
 
--- the view of the seat that was dealt, by that of the dealer before it (own)
+-- the view of the seat that was dealt, by that of the dealer before it
 abbrev pub dealt_to : View → View
 dealt_to v = new_view v.first v.headers v.ids v.dealt
 
--- the same seat of the table underneath, whatever it knows by now (own)
+-- the same seat of the table underneath, whatever it knows by now
 abbrev pub IsSamePlace : Seat (Unit {0}) View → Seat (Unit {0}) View → Type 0
 IsSamePlace s t =
     (t.table_id ≡ s.table_id) × (t.id ≡ s.id) × (t.me.1 ≡ s.me.1) × (t.me.0.position ≡ s.me.0.position)
     × (t.me.0.first ≡ s.me.0.first) × (t.me.0.headers ≡ s.me.0.headers) × (t.me.0.ids ≡ s.me.0.ids)
 
--- the seat of the table underneath for the position i, which has done nothing (own)
+-- the seat of the table underneath for the position i, which has done nothing
 pub record IsNewPlace (z : TableId) (k : Layout) (i : ℕ) (s : Seat (Unit {0}) View) : Type 0 where
   pub table : s.table_id ≡ z
   pub slots : s.me.1 ≡ []

@@ -28,11 +28,11 @@ use Rattle.gt_words.specs.declared.view.HeaderStep.{HeaderStep}
 use Rattle.gt_words.specs.declared.view.EntryRecord.{EntryRecord}
 use Rattle.gt_words.specs.declared.view.View.{View}
 
--- the header of a domain at the start (own)
+-- the header of a domain at the start
 abbrev pub first_header : DomainConfig → Header
 first_header d = record { version = d.version; frames = d.table_frames }
 
--- the run of a configuration (own)
+-- the run of a configuration
 abbrev pub layout_of : Config → Layout
 layout_of c =
     record {
@@ -42,50 +42,50 @@ layout_of c =
       headers = map (λ d. header_word (first_header d)) c.domains.items;
     }
 
--- the position of a domain among those of the run, or their number where it is none of them (own)
+-- the position of a domain among those of the run, or their number if it is none of them
 abbrev pub position_in : List DomId → DomId → ℕ
 position_in xs d = unwrap_or (position (λ x. x.0 == d.0) xs) (length xs)
 
--- the number of the domain at a position (own)
+-- the number of the domain at a position
 abbrev pub id_at : List DomId → ℕ → DomId
 id_at xs t = slice_index_or xs t (record { 0 = 0 })
 
--- each part of the record is in its range (own)
+-- each part of the record is in its range
 abbrev pub IsRecord : EntryRecord → Type 0
 IsRecord x = IsEntry x.entry × (x.generation < 1048576)
 
--- x is the record y revoked or withdrawn: invalid, of the same generation (own)
+-- x is the record y revoked or withdrawn: invalid, of the same generation
 abbrev pub IsRevocation : EntryRecord → EntryRecord → Type 0
 IsRevocation x y = (x.entry ≡ Invalid) × (x.generation ≡ y.generation)
 
 -- x is an entry of the next generation: a publication after an invalid
--- record, or the record before with the other readonly (own)
+-- record, or the record before with the other readonly
 abbrev pub IsNextEntry : EntryRecord → EntryRecord → Type 0
 IsNextEntry x y =
     (x.generation ≡ y.generation + 1) × (x.entry ≢ Invalid)
     × ((y.entry ≡ Invalid) ⊎ (x.entry ≡ with_ro (not (is_read_only y.entry)) y.entry))
 
--- the record x may come next after y (own)
+-- the record x may come next after y
 abbrev pub MayFollow : EntryRecord → EntryRecord → Type 0
 MayFollow x y = IsRevocation x y ⊎ IsNextEntry x y
 
 -- the owner's list, x the last record and after it the earlier ones: the first is
--- invalid, and each other may come next after the one before it (own)
+-- invalid, and each other may come next after the one before it
 abbrev pub IsLawful : EntryRecord → List EntryRecord → Type 0
 IsLawful x [] = IsRecord x × (x.entry ≡ Invalid)
 IsLawful x (y ∷ ys) = IsRecord x × MayFollow x y × IsLawful y ys
 
--- the pins of a kind on an entry, added up seat by seat (own)
+-- the pins of a kind on an entry, added up seat by seat
 abbrev pub total_pins : Dir → List (List EntryStep) → ℕ
 total_pins d [] = 0
 total_pins d (h ∷ hs) = pin_count d (pins h) + total_pins d hs
 
--- the pins of a kind on an entry that are of the generation g or of an earlier one, added up seat by seat (own)
+-- the pins of a kind on an entry that are of the generation g or of an earlier one, added up seat by seat
 abbrev pub total_until : Dir → ℕ → List (List EntryStep) → ℕ
 total_until d g [] = 0
 total_until d g (h ∷ hs) = pins_until d g (pins h) + total_until d g hs
 
--- the body values read are those of the entry (own)
+-- the body values read are those of the entry
 abbrev pub Agrees : Entry → Option ℕ → Option ℕ → Type 0
 Agrees Invalid a b = Unit {0}
 Agrees (Page d o f) a b = IfSome a (λ x. x ≡ f)
@@ -93,7 +93,7 @@ Agrees (Sub d o f y n) a b = IfSome a (λ x. x ≡ f) × IfSome b (λ x. x ≡ y
 Agrees (Via d o t r) a b = IfSome a (λ x. x ≡ t.0 + r.0 * 65536)
 
 -- the word seen spells a record of the owner's list x ∷ xs, and so do the body
--- values read since, if that record is still the last one (own)
+-- values read since, if that record is still the last one
 pub record IsSeenOf (x : EntryRecord) (xs : List EntryRecord) (s : Seen) : Type 0 where
   pub at : EntryRecord
   pub reads : ℕ
@@ -103,12 +103,12 @@ pub record IsSeenOf (x : EntryRecord) (xs : List EntryRecord) (s : Seen) : Type 
   pub spelled : s.word ≡ word_of at.entry at.generation reads writes
   pub agrees : x ≡ at → Agrees at.entry s.first s.second
 
--- what a seat saw last, if anything, is of the owner's list x ∷ xs (own)
+-- what a seat saw last, if anything, is of the owner's list x ∷ xs
 abbrev pub SawRecord : EntryRecord → List EntryRecord → Option Seen → Type 0
 SawRecord x xs None = Unit {0}
 SawRecord x xs (Some s) = IsSeenOf x xs s
 
--- the words of one entry and the steps of each seat on it show the last record x, after the records xs (own)
+-- the words of one entry and the steps of each seat on it show the last record x, after the records xs
 pub record ShowsRecord (x : EntryRecord) (xs : List EntryRecord) (word a b : ℕ)
     (hs : List (List EntryStep)) : Type 0 where
   -- owner part and generation of the control word spell the last record, and its counts are the sums of the views' pins
@@ -124,14 +124,14 @@ pub record ShowsRecord (x : EntryRecord) (xs : List EntryRecord) (word a b : ℕ
   pub saw : (i : ℕ) (h : List EntryStep) → get_elem? hs i ≡ some h → SawRecord x xs (seen h)
 
 -- the owner's list has gone on from the word e to the last record x: no pin is taken any more of the record
--- of that word or of an earlier one, so of those no more are left than it counts (own)
+-- of that word or of an earlier one, so of those no more are left than it counts
 pub record HasGoneOn (x : EntryRecord) (hs : List (List EntryStep)) (e : ℕ) : Type 0 where
   pub not_later : generation_of e ≤ x.generation
   pub earlier : x.entry ≢ Invalid → generation_of e < x.generation
   pub left : (d : Dir) → total_until d (generation_of e) hs ≤ pins_in d e
 
 -- words and steps show the last record of the owner t, after its earlier ones,
--- and the body words are those that it stored last (own)
+-- and the body words are those that it stored last
 pub record ShowsEntry (g t word a b : ℕ) (hs : List (List EntryStep)) : Type 0 where
   pub record_shown : ShowsRecord (last_record g (owner_steps t hs)) (earlier_records g (owner_steps t hs)) word a b hs
   pub first : a ≡ stored_body First (owner_steps t hs)
@@ -146,16 +146,16 @@ pub record IsKeptHeader (h : Header) : Type 0 where
   pub some : 0 < h.frames
   pub few : h.frames ≤ MAX_TABLE_FRAMES
 
--- the word is that of such a header (own)
+-- the word is that of such a header
 abbrev pub IsHeader : ℕ → Type 0
 IsHeader w = (h : Header) × IsKeptHeader h × (w ≡ header_word h)
 
--- the header of the domain t, by the steps of each seat on it (own)
+-- the header of the domain t, by the steps of each seat on it
 abbrev pub header_now : Layout → ℕ → List (List HeaderStep) → ℕ
 header_now k t hs = stored_header (slice_index k.headers t) (slice_index_or hs t [])
 
 module _ {S : Type 0} where
-  -- words and views show a state of the core, to which the history h has led (own)
+  -- words and views show a state of the core, to which the history h has led
   pub record Stands (k : Layout) (h : History) (s : State S View) : Type 0 where
     pub wide : length s.words ≡ k.domains * DOMAIN_WORDS
     -- the first seat deals the others, and counts them
@@ -173,13 +173,13 @@ module _ {S : Type 0} where
     -- one order of all steps of all seats has led here
     pub led_here : HasLedTo k h s
 
--- before each step of the history words and views showed a state, to which the steps before it had led (own)
+-- before each step of the history words and views showed a state, to which the steps before it had led
 abbrev pub HasStood : Type 0 → Layout → History → Type 0
 HasStood S k [] = Unit {0}
 HasStood S k (p ∷ h) = ((z : State S View) × Stands k h z) × HasStood S k h
 
 module _ {S : Type 0} where
-  -- words and views show a state of the core, and did before each step of their history (own)
+  -- words and views show a state of the core, and did before each step of their history
   pub record Shows (k : Layout) (s : State S View) : Type 0 where
     pub history : History
     pub now : Stands k history s

@@ -30,13 +30,13 @@ use Rattle.gt_words.specs.declared.view.Purpose.TheVariants as purpose
 use Rattle.gt_words.specs.declared.view.HeaderStep.TheVariants as header
 use Rattle.gt_words.specs.declared.view.SeatStep.TheVariants as step_of
 
--- words and views, the view v among them, stood so after these steps of all seats (own)
+-- words and views, the view v among them, stood so after these steps of all seats
 abbrev pub StoodWith : Type 0 → Layout → History → View → Type 0
 StoodWith S k past v = (z : State S View) × Stands k past z × (get_elem? z.views v.position ≡ some v)
 
 -- The seat with the view v takes the step x on this word, after the steps past of all seats. Words and views
 -- showed a state before it and after it. It finds the number that those steps make of the word, says so, and leaves
--- the other. A pin is of the last record then. It takes the state that they make to what the core's event gives (own)
+-- the other. A pin is of the last record then. It takes the state that they make to what the core's event gives
 pub record TakesStep (S : Type 0) (k : Layout) (v : View) (past : History) (x : SeatStep)
     (word found left : ℕ) : Type 0 where
   pub stood : StoodWith S k past v
@@ -47,34 +47,34 @@ pub record TakesStep (S : Type 0) (k : Layout) (v : View) (past : History) (x : 
   pub of_last : PinsLast k past x
   pub happens : Happens k v.position x past
 
--- a step on the entry r of the domain t (own)
+-- a step on the entry r of the domain t
 abbrev pub on_entry : ℕ → ℕ → EntryStep → SeatStep
 on_entry t r m = step_of.Entry t r m
 
--- a step on the header of the domain t (own)
+-- a step on the header of the domain t
 abbrev pub on_header : ℕ → HeaderStep → SeatStep
 on_header t m = step_of.Header t m
 
--- a kind of step: the step by the number found, and the number that it leaves (own)
+-- a kind of step: the step by the number found, and the number that it leaves
 pub record StepKind : Type 0 where
   pub layout : Layout
   pub step : ℕ → SeatStep
   pub leaves : ℕ → ℕ
 
 -- what a step of this kind promises its caller: its view gained the step,
--- which was taken on words and views that show a state (own)
+-- which was taken on words and views that show a state
 abbrev pub tells : {S : Type 0} → StepKind → TableStep S → Me S View → ℕ → Me S View → Type 0
 tells {S} d st m n m' =
     (m'.1 ≡ m.1) × ((past : History) × (m'.0 ≡ with_step past (d.step n) m.0)
     × TakesStep S d.layout m.0 past (d.step n) st.word n (d.leaves n))
 
--- the same of a store, which does not say what it found (own)
+-- the same of a store, which does not say what it found
 abbrev pub tells_stored : {S : Type 0} → StepKind → TableStep S → Me S View → Me S View → Type 0
 tells_stored {S} d st m m' = (found : ℕ) × tells {S = S} d st m found m'
 
 -- the kinds of step
 
--- a kind of step on the entry r of the domain t, by what it adds to the view and what it leaves (own)
+-- a kind of step on the entry r of the domain t, by what it adds to the view and what it leaves
 abbrev pub entry_kind : Layout → ℕ → ℕ → (ℕ → EntryStep) → (ℕ → ℕ) → StepKind
 entry_kind k t r m f = record { layout = k; step = λ n. on_entry t r (m n); leaves = f }
 
@@ -102,13 +102,13 @@ looking_at_header k t = record { layout = k; step = λ n. on_header t (header.Lo
 abbrev pub storing_header : Layout → ℕ → ℕ → StepKind
 storing_header k t w = record { layout = k; step = λ n. on_header t (header.Stored w); leaves = λ n. w }
 
--- the record after an owner's change (own)
+-- the record after an owner's change
 abbrev pub changed : Change → EntryRecord → EntryRecord
 changed c x = record { generation = x.generation + raise_of c; entry = changed_entry c x.entry }
 
--- the word that an owner's exchange stores in place of this one, where the last record is x: the
+-- the word that an owner's exchange stores in place of this one, if the last record is x: the
 -- idle word of the entry published, at the next generation; the invalid one of the same
--- generation, for a withdrawal with the same pins; or the same with the other readonly, at the next generation (own)
+-- generation, for a withdrawal with the same pins; or the same with the other readonly, at the next generation
 abbrev pub changed_word : Change → EntryRecord → ℕ → ℕ
 changed_word (change.Publish e) x word = idle_word_of e (x.generation + 1)
 changed_word change.Revoke x word = invalid_word word
@@ -116,22 +116,22 @@ changed_word change.Withdraw x word = withdrawn_word word
 changed_word change.Demote x word = demoted_word word
 changed_word change.Promote x word = promoted_word word
 
--- the step of an exchange that is taken (own)
+-- the step of an exchange that is taken
 abbrev pub taken : ℕ → ℕ → View → Purpose → ℕ → ℕ → EntryStep
 taken t r v (purpose.Pin d) old new = Pinned d old (record_seen (last_seen t r v))
 taken t r v (purpose.Change c) old new = Changed c old new (changed c (last_of r v))
 
--- the step of an exchange that is missed (own)
+-- the step of an exchange that is missed
 abbrev pub missed : Purpose → ℕ → ℕ → ℕ → EntryStep
 missed (purpose.Pin d) old new n = PinMissed d old new n
 missed (purpose.Change c) old new n = ChangeMissed c old new n
 
--- an exchange of a control word: taken, and the word is the new one, exactly where the
+-- an exchange of a control word: taken, and the word is the new one, exactly if the
 -- one expected is found (C11 atomics: atomic_compare_exchange_strong)
 abbrev pub exchanging : Layout → ℕ → ℕ → View → Purpose → ℕ → ℕ → StepKind
 exchanging k t r v p old new =
     entry_kind k t r (λ n. cond (n == old) (taken t r v p old new) (missed p old new n)) (λ n. either (n == old) new n)
 
--- the body word at an index: the first at 1, else the second (own)
+-- the body word at an index: the first at 1, else the second
 abbrev pub half_of : ℕ → Half
 half_of i = cond (i == 1) First Second

@@ -5,7 +5,7 @@ ghost use Rattle.gt_words.specs.Laws.{NoPinOutlivesItsRecord, PinsHaveOneRecord}
 ghost use Rattle.gt_words.specs.Laws.{PinsLeftAreCounted, SeatsStandThere};
 ghost use Rattle.gt_words.specs.Laws.{StepsAreTakenThen, WordsFollowViews};
 
-/// A law: a domain is one of the run exactly where the configuration has it.
+/// A law: a domain is one of the run exactly if the configuration has it.
 pub fn every_domain_is_of_the_run()
     ensures { DomainsAreOfRun }
 {}
@@ -48,7 +48,7 @@ pub fn no_pin_is_taken_of_a_past_record()
     ensures { PastPinsAreRefused }
 {}
 
-/// A law: what words and views show has one word for each entry and header, by the views alone. So no step
+/// A law: what words and views show has one word for each entry and header, by the views only. So no step
 /// leaves another word than what it adds to its view says.
 pub fn every_word_follows_from_the_views()
     ensures { WordsFollowViews }
@@ -61,12 +61,12 @@ pub fn every_step_is_taken_then()
     ensures { StepsAreTakenThen }
 {}
 
-/// A law: what words and views show has one history, by the views alone.
+/// A law: what words and views show has one history, by the views only.
 pub fn every_history_follows_from_the_views()
     ensures { HistoryIsOne }
 {}
 
-/// A law: where a raw step of the table is allowed, the step that it adds to its seat's view says the word that is there.
+/// A law: if a raw step of the table is allowed, the step that it adds to its seat's view says the word that is there.
 pub fn every_allowed_step_says_what_is_there()
     ensures { AllowedStepsSayWhatIsThere }
 {}

@@ -63,7 +63,7 @@ pub enum HeaderStep {
     Stored(u64),
 }
 
-/// A step, with the position of the domain among those of the run, and the reference where it is on an entry.
+/// A step, with the position of the domain among those of the run, and the reference if it is on an entry.
 #[derive(Clone, Copy)]
 pub enum SeatStep {
     Entry(u64, u64, EntryStep),

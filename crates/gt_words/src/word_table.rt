@@ -258,7 +258,7 @@ impl WordTable {
         load_word::<Brand>(&self.table.shared, seat, at, gref, index_of(half))
     }
 
-    /// Takes a pin, where the control word still is the one looked at. Answers the word found where it is another.
+    /// Takes a pin, if the control word still is the one looked at. Answers the word found if it is another.
     pub(crate) fn pin(
         &self,
         seat: &mut TableSeat,
@@ -327,8 +327,8 @@ impl WordTable {
         store_word::<Brand>(&self.table.shared, seat, at, gref, index_of(half), value);
     }
 
-    /// The owner publishes an entry whose body it has stored, where the invalid one has no pins. Answers the word
-    /// found where it has some.
+    /// The owner publishes an entry whose body it has stored, if the invalid one has no pins. Answers the word
+    /// found if it has some.
     pub(crate) fn grant(
         &self,
         seat: &mut TableSeat,
@@ -353,7 +353,7 @@ impl WordTable {
         if found == word { Ok(()) } else { Err(found) }
     }
 
-    /// The owner makes its entry invalid, where it has no pins. Answers the word found where it has some.
+    /// The owner makes its entry invalid, if it has no pins. Answers the word found if it has some.
     pub(crate) fn revoke(
         &self,
         seat: &mut TableSeat,
@@ -376,7 +376,7 @@ impl WordTable {
         if found == word { Ok(()) } else { Err(found) }
     }
 
-    /// The owner makes its entry invalid and leaves its pins, where its word still is the one handed in.
+    /// The owner makes its entry invalid and leaves its pins, if its word still is the one handed in.
     pub(crate) fn withdraw(
         &self,
         seat: &mut TableSeat,
@@ -399,7 +399,7 @@ impl WordTable {
         if found == word { Ok(()) } else { Err(found) }
     }
 
-    /// The owner makes its entry read-only, where its word still is the one handed in, which has no write pins.
+    /// The owner makes its entry read-only, if its word still is the one handed in, which has no write pins.
     pub(crate) fn demote(
         &self,
         seat: &mut TableSeat,
@@ -422,7 +422,7 @@ impl WordTable {
         if found == word { Ok(()) } else { Err(found) }
     }
 
-    /// The owner makes its entry writable, where its word still is the one handed in.
+    /// The owner makes its entry writable, if its word still is the one handed in.
     pub(crate) fn promote(
         &self,
         seat: &mut TableSeat,

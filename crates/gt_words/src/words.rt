@@ -110,7 +110,7 @@ fn found_in(ids: &[DomId], dom: DomId) -> Option<usize>
     ids.iter().position(|id| id.0 == dom.0)
 }
 
-// The position of a domain, or the number of domains where it is none of them.
+// The position of a domain, or the number of domains if it is none of them.
 #[cold]
 #[inline(never)]
 fn position_of(ids: &[DomId], dom: DomId) -> usize
@@ -126,7 +126,7 @@ impl Words {
     /// The words of a run, all entries invalid at the first generation, and a seat for each domain, in order.
     ///
     /// # Errors
-    /// The first fault of the configuration, or `Memory` where it has none and memory is refused.
+    /// The first fault of the configuration, or `Memory` if it has none and memory is refused.
     pub fn new(alloc: Global, config: &Config) -> Result<(Words, Vec<Seat>), StartFault>
         ensures ok { OnOk result (IsWithinLimits config.now) }
         ensures words { IfOk result (λ r. r.0.layout ≡ layout_of config.now) }
@@ -144,7 +144,7 @@ impl Words {
         }
     }
 
-    // The position of a domain, which is searched where it is another than the last one.
+    // The position of a domain, which is searched if it is another than the last one.
     #[inline(always)]
     fn position(&self, seat: &mut Seat, dom: DomId) -> usize
         requires { IsSeatOf self.now seat.old }
@@ -248,7 +248,7 @@ impl Words {
     /// Takes a pin by one exchange from the control word of the last look, whose body words were read since.
     ///
     /// # Errors
-    /// The word found, where it is another than the one looked at. No pin was taken then.
+    /// The word found, if it is another than the one looked at. No pin was taken then.
     pub fn pin(
         &self,
         seat: &mut Seat,
@@ -318,7 +318,7 @@ impl Words {
     /// the invalid word without pins.
     ///
     /// # Errors
-    /// The word found, where the invalid entry has pins: those that a withdrawal left. The owner's list is then as
+    /// The word found, if the invalid entry has pins: those that a withdrawal left. The owner's list is then as
     /// it was.
     pub fn grant(&self, seat: &mut Seat, gref: GrantRef, word: u64, entry: Entry) -> Result<(), u64>
         requires seat { IsSeatOf self.now seat.old }
@@ -338,7 +338,7 @@ impl Words {
     /// The owner makes its entry invalid by one exchange from its idle word.
     ///
     /// # Errors
-    /// The word found, where the entry has pins. The owner's list is then as it was.
+    /// The word found, if the entry has pins. The owner's list is then as it was.
     pub fn revoke(&self, seat: &mut Seat, gref: GrantRef, word: u64) -> Result<(), u64>
         requires seat { IsSeatOf self.now seat.old }
         requires entry { gref.0 < TABLE_ENTRIES }
@@ -358,7 +358,7 @@ impl Words {
     /// taken of it, and those that there are stay until they are given back.
     ///
     /// # Errors
-    /// The word found, where it is another than the one handed in. The owner's list is then as it was.
+    /// The word found, if it is another than the one handed in. The owner's list is then as it was.
     pub fn withdraw(&self, seat: &mut Seat, gref: GrantRef, word: u64) -> Result<(), u64>
         requires seat { IsSeatOf self.now seat.old }
         requires entry { gref.0 < TABLE_ENTRIES }
@@ -378,7 +378,7 @@ impl Words {
     /// word without write pins.
     ///
     /// # Errors
-    /// The word found, where it is another than the one handed in.
+    /// The word found, if it is another than the one handed in.
     pub fn demote(&self, seat: &mut Seat, gref: GrantRef, word: u64) -> Result<(), u64>
         requires seat { IsSeatOf self.now seat.old }
         requires entry { gref.0 < TABLE_ENTRIES }
@@ -397,7 +397,7 @@ impl Words {
     /// The owner makes its read-only entry writable at the next generation, by one exchange from the word handed in.
     ///
     /// # Errors
-    /// The word found, where it is another than the one handed in.
+    /// The word found, if it is another than the one handed in.
     pub fn promote(&self, seat: &mut Seat, gref: GrantRef, word: u64) -> Result<(), u64>
         requires seat { IsSeatOf self.now seat.old }
         requires entry { gref.0 < TABLE_ENTRIES }

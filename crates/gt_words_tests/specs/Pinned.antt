@@ -8,7 +8,7 @@ use Rattle.gt_words.specs.Controls.{generation_of}
 use Rattle.gt_words.specs.declared.view.View.{View}
 use Rattle.gt_words.specs.declared.words.Pin.{Pin}
 
--- the pin was taken of this entry: the view has one more of its kind and generation, and as many of any other (own)
+-- the pin was taken of this entry: the view has one more of its kind and generation, and as many of any other
 pub record IsPinned (b : Board) (d : DomId) (q : GrantRef) (dir : Dir) (p : Pin) (v w : View) : Type 0 where
   pub pin : p ≡ record { dom = d; gref = q; word = p.word; dir = dir }
   pub held : Holds (position_at b d) q.0 dir (generation_of p.word) w

@@ -44,7 +44,7 @@ pub(crate) fn look(words: &Words, seat: &mut Seat, dom: DomId, gref: GrantRef) -
     Sight { word, entry }
 }
 
-// Takes a pin of the entry that was looked at, where it permits or forwards the seat's domain and has room.
+// Takes a pin of the entry that was looked at, if it permits or forwards the seat's domain and has room.
 pub(crate) fn try_pin(
     words: &Words,
     seat: &mut Seat,
@@ -77,7 +77,7 @@ pub(crate) fn try_pin(
     None
 }
 
-// The owner publishes an entry in place of the invalid one. Answers 0 where its entry is not invalid, or worn.
+// The owner publishes an entry in place of the invalid one. Answers 0 if its entry is not invalid, or worn.
 pub(crate) fn publish(
     words: &Words,
     seat: &mut Seat,
@@ -104,7 +104,7 @@ pub(crate) fn publish(
     Ok(())
 }
 
-// The owner revokes its entry, where it has no pins. Answers Ok where it is invalid already.
+// The owner revokes its entry, if it has no pins. Answers Ok if it is invalid already.
 pub(crate) fn revoke(
     words: &Words,
     seat: &mut Seat,
@@ -126,7 +126,7 @@ pub(crate) fn revoke(
     Ok(())
 }
 
-// The owner withdraws its entry with the pins that it has. Answers Ok where it is invalid already.
+// The owner withdraws its entry with the pins that it has. Answers Ok if it is invalid already.
 pub(crate) fn withdraw(
     words: &Words,
     seat: &mut Seat,
@@ -150,7 +150,7 @@ pub(crate) fn withdraw(
     Ok(())
 }
 
-// The owner makes its entry read-only or writable, where it is the other and has no write pin that it must not have.
+// The owner makes its entry read-only or writable, if it is the other and has no write pin that it must not have.
 pub(crate) fn turn(
     words: &Words,
     seat: &mut Seat,
@@ -187,7 +187,7 @@ pub(crate) fn turn(
 }
 
 // The other domain pins the entry and gives the pin back, and the owner tries to revoke it in between. Answers what the
-// owner was answered, or nothing where the pin was not taken.
+// owner was answered, or nothing if the pin was not taken.
 pub(crate) fn revoke_pinned(
     words: &Words,
     owner: &mut Seat,
@@ -238,7 +238,7 @@ fn withdraw_and_grant(
 }
 
 // The other domain pins the entry to write, the owner withdraws it, and grants this one in its place before and after
-// the pin is given back. Answers the word between, and what both grants were answered, or nothing where the pin was not
+// the pin is given back. Answers the word between, and what both grants were answered, or nothing if the pin was not
 // taken.
 pub(crate) fn withdraw_pinned(
     words: &Words,
@@ -268,7 +268,7 @@ pub(crate) fn withdraw_pinned(
     Some((word, early, late))
 }
 
-// Takes a read pin of the entry that was looked at, where it can be.
+// Takes a read pin of the entry that was looked at, if it can be.
 fn pin_to_read(
     words: &Words,
     seat: &mut Seat,
@@ -290,7 +290,7 @@ fn pin_to_read(
 }
 
 // The other domain pins the entry twice for reading, and gives one pin back and then the other. Answers the control
-// words that the owner saw with both pins, with one and with none, or nothing where one was not taken.
+// words that the owner saw with both pins, with one and with none, or nothing if one was not taken.
 pub(crate) fn pin_twice(
     words: &Words,
     owner: &mut Seat,

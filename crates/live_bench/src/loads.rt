@@ -37,7 +37,7 @@ const FIRST: u32 = 64;
 /// How far the entries of threads lie apart.
 const APART: u32 = 64;
 
-/// How far they lie apart where they are neighbours.
+/// How far they lie apart if they are neighbours.
 const ADJACENT: u32 = 1;
 
 /// Each type may map the pages of each and unmap them, and copy.
@@ -110,7 +110,7 @@ fn grant_each<P: Allows>(owner: &mut Running<'_, P>, count: u32, stride: u32) ->
 }
 
 // Revokes the entries and grants them again by turns, so often, each time with as many tries as it takes. Answers how
-// often: less where entries are worn.
+// often: less if entries are worn.
 fn revoke_and_grant<P: Allows>(
     owner: &mut Running<'_, P>,
     count: u32,

@@ -65,7 +65,7 @@ impl Domain {
         }
     }
 
-    // Drives an open copy to its access, or to its end where it is refused before.
+    // Drives an open copy to its access, or to its end if it is refused before.
     fn walk<P: Allows>(&mut self, monitor: &Monitor<P>, call: &mut Call) -> Stop
         requires mine { IsOf P.may monitor.now self.old }
         requires opened { IsOpened (known P.may monitor.now self.old) self.old.seat.dom call.old }
