@@ -4,11 +4,12 @@ ghost use Rattle.gt_types.specs.declared.Dir.TheVariants as dirs;
 ghost use Rattle.gt_types.specs.declared.Use.TheVariants as uses;
 ghost use Rattle.gt_words.specs.Conditions.{IsSeatOf};
 ghost use Rattle.gt_access.specs.Accesses.{IsReadOf, writing_at, copying_at};
-ghost use Rattle.gt_access.specs.Routes.{MayAccess, MayCopy, Reaches};
+ghost use Rattle.gt_access.specs.Routes.{MayAccess, MayCopy, Reaches, writ_by};
+ghost use Rattle.gt_access.specs.Visiting.{VisitsToCopy, VisitsToRead, VisitsToWrite};
 
 use crate::under::{Run, copy_under, read_under, writ_by, write_under};
 use gt_calls::{Pins, Route};
-use gt_frames::{Copied, FrameName, Read, Spot, Written};
+use gt_frames::{Copied, FrameName, Read, Spot, Visits, Written};
 use gt_types::{Allows, FRAME_SIZE, Memory, Range};
 use gt_words::Seat;
 use std::sync::Wait;
@@ -22,19 +23,14 @@ pub enum Refused {
     Memory,
 }
 
-impl From<Memory> for Refused {
-    fn from(_fault: Memory) -> Refused {
-        Refused::Memory
-    }
-}
-
 /// Reads a range of the frame of this name into `room`, which is empty and has room for it. `None` if
 /// there is no such frame, or another one is in its place.
-#[tactic(auto, using(crate::proofs::Covering::reaches_named))]
+#[tactic(auto, using(crate::proofs::Covering::reaches_named, crate::proofs::Visited::read_visit))]
 pub fn read_by<R: Wait, P: Allows>(
     rt: &R,
     run: &Run<'_, P>,
     seat: &Seat,
+    visits: &mut Visits,
     route: Route,
     name: FrameName,
     range: Range,
@@ -45,10 +41,13 @@ pub fn read_by<R: Wait, P: Allows>(
     requires may { MayAccess run.now.config.now.domains.items (P.may run.now.rights.now) seat.now.dom route }
     requires range { range.off + range.len ≤ FRAME_SIZE }
     requires room { (vec_len room ≡ 0) × (range.len ≤ vec_capacity room) }
-    ensures { IfSome result (λ r. IsReadOf r name range.off range.len) }
+    ensures read { IfSome result (λ r. IsReadOf r name range.off range.len) }
+    ensures visited { VisitsToRead name range.off range.len result visits.old visits.new }
 {
     let frame = run.pool.lock(rt, name)?;
-    Some(read_under(run, seat, &frame, route, range, room))
+    let read = read_under(run, seat, &frame, route, range, room);
+    frame.free(visits);
+    Some(read)
 }
 
 /// Writes `bytes` to the frame of this name, from `off` on.
@@ -56,11 +55,12 @@ pub fn read_by<R: Wait, P: Allows>(
 /// # Errors
 ///
 /// [`Refused`], with all frames as they were.
-#[tactic(auto, using(crate::proofs::Covering::reaches_named))]
+#[tactic(auto, using(crate::proofs::Covering::reaches_named, crate::proofs::Visited::write_visit, crate::proofs::Visited::unwritten_visit))]
 pub fn write_by<'a, R: Wait, P: Allows>(
     rt: &R,
     run: &Run<'_, P>,
     seat: &Seat,
+    visits: &mut Visits,
     route: Route,
     name: FrameName,
     off: u16,
@@ -70,13 +70,20 @@ pub fn write_by<'a, R: Wait, P: Allows>(
     requires reached { Reaches run.now.words.now.layout seat.now dirs.Write uses.Map name off (length bytes.now) route }
     requires may { MayAccess run.now.config.now.domains.items (P.may run.now.rights.now) seat.now.dom route }
     requires range { off + length bytes.now ≤ FRAME_SIZE }
-    ensures { IfOk result (λ r. r ≡ writing_at name off bytes.entry.now seat.now.dom) }
+    ensures written { IfOk result (λ r. r ≡ writing_at name off bytes.entry.now seat.now.dom) }
+    ensures visited { VisitsToWrite name (writ_by seat.now.dom route) off bytes.entry.now
+        result visits.old visits.new }
 {
     let Some(mut frame) = run.pool.lock(rt, name) else {
         return Err(Refused::Gone);
     };
     let writ = writ_by(seat.dom(), route);
-    Ok(write_under(run, seat, &mut frame, route, &writ, off, bytes)?)
+    let written = write_under(run, seat, &mut frame, route, &writ, off, bytes);
+    frame.free(visits);
+    match written {
+        Ok(written) => Ok(written),
+        Err(Memory) => Err(Refused::Memory),
+    }
 }
 
 /// Copies `len` bytes from one place to another, of one frame or of two.
@@ -84,11 +91,12 @@ pub fn write_by<'a, R: Wait, P: Allows>(
 /// # Errors
 ///
 /// [`Refused`], with all frames as they were.
-#[tactic(auto, using(crate::proofs::Covering::reaches_named))]
+#[tactic(auto, using(crate::proofs::Covering::reaches_named, crate::proofs::Visited::copy_visit, crate::proofs::Visited::uncopied_visit))]
 pub fn copy_by<R: Wait, P: Allows>(
     rt: &R,
     run: &Run<'_, P>,
     seat: &Seat,
+    visits: &mut Visits,
     routes: Pins,
     from: Spot,
     to: Spot,
@@ -101,7 +109,8 @@ pub fn copy_by<R: Wait, P: Allows>(
     requires may { MayCopy run.now.config.now.domains.items (P.may run.now.rights.now) seat.now.dom routes }
     requires source_range { from.off + len ≤ FRAME_SIZE }
     requires dest_range { to.off + len ≤ FRAME_SIZE }
-    ensures { IfOk result (λ r. r ≡ copying_at from to len seat.now.dom) }
+    ensures copied { IfOk result (λ r. r ≡ copying_at from to len seat.now.dom) }
+    ensures visited { VisitsToCopy (writ_by seat.now.dom routes.dest) from to len result visits.old visits.new }
 {
     let Some(mut ends) = run.pool.lock_both(rt, from.frame, to.frame) else {
         return Err(Refused::Gone);
@@ -109,6 +118,9 @@ pub fn copy_by<R: Wait, P: Allows>(
     let writ = writ_by(seat.dom(), routes.dest);
     let range = Range { off: from.off, len };
     let copied = copy_under(run, seat, &mut ends, routes, &writ, range, to.off);
-    drop(ends);
-    Ok(copied?)
+    ends.free(visits);
+    match copied {
+        Ok(copied) => Ok(copied),
+        Err(Memory) => Err(Refused::Memory),
+    }
 }

@@ -4,13 +4,13 @@ ghost use Rattle.gt_types.specs.declared.Dir.TheVariants as dirs;
 ghost use Rattle.gt_types.specs.declared.Use.TheVariants as uses;
 ghost use Rattle.gt_words.specs.Conditions.{IsSeatOf};
 ghost use Rattle.gt_frames.specs.Frames.{bytes_at, IsKept, IsWrite};
-ghost use Rattle.gt_frames.specs.Pool.{dest_of, source_of, KeepsSource};
+ghost use Rattle.gt_frames.specs.Pool.{dest_of, source_of, GoesOn, KeepsSource};
 ghost use Rattle.gt_frames.specs.Receipts.{reading_of, writing_of, copying_of};
 ghost use Rattle.gt_frames.specs.Sets.{name_of};
 ghost use Rattle.gt_access.specs.Routes.{MayAccess, MayCopy, Reaches, writ_by};
 
 use gt_calls::{Pins, Route};
-use gt_frames::{Copied, Ends, Frame, Ground, Pool, Read, Writ, Written};
+use gt_frames::{Copied, Ends, Ground, Lent, Pool, Read, Writ, Written};
 use gt_types::{Allows, Config, DomId, FRAME_SIZE, Memory, Range};
 use gt_words::{Seat, Words};
 
@@ -56,18 +56,18 @@ pub fn writ_by(caller: DomId, route: Route) -> Writ
 pub fn read_under<P: Allows>(
     run: &Run<'_, P>,
     seat: &Seat,
-    frame: &Frame,
+    frame: &Lent<'_>,
     route: Route,
     range: Range,
     room: Vec<u8>,
 ) -> Read
     requires seat { IsSeatOf run.now.words.now seat.now }
     requires reached { Reaches run.now.words.now.layout seat.now dirs.Read uses.Map
-        (name_of frame.now) range.off range.len route }
+        (name_of frame.now.after) range.off range.len route }
     requires may { MayAccess run.now.config.now.domains.items (P.may run.now.rights.now) seat.now.dom route }
     requires range { range.off + range.len ≤ FRAME_SIZE }
     requires room { (vec_len room ≡ 0) × (range.len ≤ vec_capacity room) }
-    ensures read { result ≡ reading_of frame.now range.off range.len }
+    ensures read { result ≡ reading_of frame.now.after range.off range.len }
     ensures len { length result.bytes ≡ range.len }
 {
     frame.read_to(range.off, usize::from(range.len), room)
@@ -82,7 +82,7 @@ pub fn read_under<P: Allows>(
 pub fn write_under<'a, P: Allows>(
     run: &Run<'_, P>,
     seat: &Seat,
-    frame: &mut Frame,
+    frame: &mut Lent<'_>,
     route: Route,
     writ: &Writ,
     off: u16,
@@ -90,14 +90,15 @@ pub fn write_under<'a, P: Allows>(
 ) -> Result<Written<'a>, Memory>
     requires seat { IsSeatOf run.now.words.now seat.now }
     requires reached { Reaches run.now.words.now.layout seat.now dirs.Write uses.Map
-        (name_of frame.old) off (length bytes.now) route }
+        (name_of frame.old.after) off (length bytes.now) route }
     requires may { MayAccess run.now.config.now.domains.items (P.may run.now.rights.now) seat.now.dom route }
     requires writ { writ.now ≡ writ_by seat.now.dom route }
     requires range { off + length bytes.now ≤ FRAME_SIZE }
-    ensures written { OnOk result (IsWrite frame.old frame.new writ.now off bytes.now) }
-    ensures kept { IsKept frame.new }
-    ensures receipt { IfOk result (λ r. r ≡ writing_of frame.old off bytes.now seat.now.dom) }
-    ensures refused { OnErr result (frame.new ≡ frame.old) }
+    ensures before { frame.new.before ≡ frame.old.before }
+    ensures written { OnOk result (IsWrite frame.old.after frame.new.after writ.now off bytes.now) }
+    ensures kept { IsKept frame.new.after }
+    ensures receipt { IfOk result (λ r. r ≡ writing_of frame.old.after off bytes.now seat.now.dom) }
+    ensures refused { OnErr result (frame.new.after ≡ frame.old.after) }
 {
     frame.write(writ, off, bytes)
 }
@@ -132,6 +133,7 @@ pub fn copy_under<P: Allows>(
     ensures receipt { IfOk result
         (λ r. r ≡ copying_of (source_of ends.old) from.off (dest_of ends.old) to_off from.len seat.now.dom) }
     ensures refused { OnErr result ((dest_of ends.new ≡ dest_of ends.old) × (source_of ends.new ≡ source_of ends.old)) }
+    ensures on { GoesOn ends.old ends.new }
 {
     ends.copy(writ, from.off, to_off, from.len)
 }

@@ -4,3 +4,4 @@ pub mod Places
 pub mod Pool
 pub mod Receipts
 pub mod Sets
+pub mod Visits

@@ -1,25 +1,50 @@
--- Locked frames.
-use Rattle.std.specs.Prelude.{◌≡◌, false, Option, Some, None}
-use Rattle.std.specs.Sync.Mutex.{mutex_guard_value}
-use Rattle.std.specs.declared.sync.MutexGuard.{MutexGuard}
+-- Locked frames at the two ends of a copy.
+use Rattle.std.specs.Prelude.{◌≡◌, false, Option, Some, None, List, ◌∷◌}
 use Rattle.gt_frames.specs.declared.pool.Ends.{Ends}
 use Rattle.gt_frames.specs.Frames.{FrameState}
 use Rattle.gt_frames.specs.Places.{is_name}
 use Rattle.gt_frames.specs.Sets.{name_of}
+use Rattle.gt_frames.specs.Visits.{Visit, IsFresh, visit_in}
 
--- the frame that the bytes go to
+-- the frame that the bytes go to (own)
 abbrev pub dest_of : Ends → FrameState
-dest_of e = mutex_guard_value e.dest
+dest_of e = e.dest.after
 
--- the frame of this guard, or this one if there is no guard
-abbrev pub frame_or : FrameState → Option (MutexGuard FrameState) → FrameState
+-- the frame of this visit, or this one where there is none (own)
+abbrev pub frame_or : FrameState → Option Visit → FrameState
 frame_or f None = f
-frame_or f (Some g) = mutex_guard_value g
+frame_or f (Some v) = v.after
 
--- the frame that the bytes come from
+-- the frame that the bytes come from (own)
 abbrev pub source_of : Ends → FrameState
 source_of e = frame_or (dest_of e) e.source
 
--- the frame that the bytes come from is as it was, if it is another one than the frame that they go to
+-- the frame that the bytes come from is as it was, where it is another one than the frame that they go to (own)
 abbrev pub KeepsSource : Ends → Ends → Type 0
 KeepsSource old new = is_name (name_of (source_of old)) (name_of (dest_of old)) ≡ false → source_of new ≡ source_of old
+
+-- the visit to the frame that the bytes go to (own)
+abbrev pub dest_visit : Ends → Visit
+dest_visit e = e.dest
+
+-- the visit to the frame that the bytes come from, where it is another one (own)
+abbrev pub source_visit : Ends → Option Visit
+source_visit e = e.source
+
+-- the visits to both frames, or to the one that both ends are (own)
+abbrev pub visits_of : Ends → List Visit
+visits_of e = dest_visit e ∷ visit_in (source_visit e)
+
+-- where there is a visit, its frame was just locked (own)
+abbrev pub IsFreshIn : Option Visit → Type 0
+IsFreshIn None = Unit {0}
+IsFreshIn (Some v) = IsFresh v
+
+-- the frames were just locked (own)
+abbrev pub AreFresh : Ends → Type 0
+AreFresh e = IsFresh (dest_visit e) × IsFreshIn (source_visit e)
+
+-- of the visits only what the frame that the bytes go to holds now has changed (own)
+pub record GoesOn (old new : Ends) : Type 0 where
+  pub source : source_visit new ≡ source_visit old
+  pub begun : (dest_visit new).before ≡ (dest_visit old).before

@@ -1,6 +1,7 @@
 //! The frames of a run, for one thread.
 ghost use Rattle.std.specs.Prelude.{◌≡◌, ◌+◌, ◌<◌, ◌≤◌, slice_get, Some, ◌^◌, ◌++◌, [], ◌∷◌, length, map, set};
 ghost use Rattle.std.specs.Prelude.{get_or, vec_len, IsTrue, IsSome, IfOk, IfSome, OnOk, OnErr, ◌↔◌};
+ghost use Rattle.std.specs.List.{flat_map};
 ghost use Rattle.gt_frames.specs.Frames.{FrameState, covers};
 ghost use Rattle.gt_frames.specs.Receipts.{copying_of};
 ghost use Rattle.gt_frames.specs.Sets.{zero_frames, CopiesAmong};
@@ -44,6 +45,17 @@ fn with_domain(
         all.push(Frame::new(alloc, owner, u64::from(number))?)?;
     }
     Ok(all)
+}
+
+/// The frames of these domains, in their order, each of zeros and by its owner and number.
+pub(crate) fn frames_of_zeros(alloc: Global, domains: &[FrameCount]) -> Result<Vec<Frame>, Memory>
+    ensures { IfOk result (λ frames. frames.items ≡ flat_map zero_frames domains.now) }
+{
+    let mut frames = Vec::new(alloc);
+    'domains: for domain in domains {
+        frames = with_domain(alloc, frames, domain.owner, domain.frames)?;
+    }
+    Ok(frames)
 }
 
 // Copies between two of these frames, or within one.
@@ -98,10 +110,7 @@ impl Frames {
         ensures kept { IfOk result AreKept }
     {
         let domains = frame_counts(alloc, config)?;
-        let mut frames = Vec::new(alloc);
-        'domains: for domain in &domains {
-            frames = with_domain(alloc, frames, domain.owner, domain.frames)?;
-        }
+        let frames = frames_of_zeros(alloc, &domains)?;
         Ok(Frames { domains, frames })
     }
 

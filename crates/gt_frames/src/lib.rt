@@ -23,6 +23,7 @@ mod frames;
 mod places;
 mod pool;
 mod receipts;
+mod visits;
 mod writ;
 
 pub use bytes::FrameBytes;
@@ -31,4 +32,5 @@ pub use frames::Frames;
 pub use places::{FrameCount, FrameName, Spot};
 pub use pool::{Ends, Pool};
 pub use receipts::{Copied, Read, Written};
+pub use visits::{Lent, Visits};
 pub use writ::{Ground, Writ, WriteRecord};

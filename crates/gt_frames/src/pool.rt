@@ -1,14 +1,16 @@
 //! The frames of a run, each under a lock of its own.
-ghost use Rattle.std.specs.Prelude.{◌≡◌, ◌+◌, ◌<◌, ◌≤◌, ◌++◌, [], ◌∷◌, length, IfOk, IfSome, OnOk, OnErr, IsTrue, ◌↔◌};
+ghost use Rattle.std.specs.Prelude.{◌≡◌, ◌+◌, ◌<◌, ◌≤◌, ◌++◌, [], ◌∷◌, length, All, IfOk, IfSome, OnOk, OnErr, IsTrue, ◌↔◌};
 ghost use Rattle.std.specs.Sync.Mutex.{mutex_guard_value};
 ghost use Rattle.gt_frames.specs.Frames.{bytes_at, contents, covers, IsKept, IsWrite};
 ghost use Rattle.gt_frames.specs.Places.{frame_counts, frames_of, pool_number};
-ghost use Rattle.gt_frames.specs.Pool.{source_of, dest_of, KeepsSource};
+ghost use Rattle.gt_frames.specs.Pool.{source_of, dest_of, visits_of, AreFresh, GoesOn, KeepsSource};
 ghost use Rattle.gt_frames.specs.Receipts.{copying_of};
 ghost use Rattle.gt_frames.specs.Sets.{name_of};
+ghost use Rattle.gt_frames.specs.Visits.{IsFresh};
 
+use crate::frames::frames_of_zeros;
 use crate::places::{find, frame_counts};
-use crate::{Copied, Frame, FrameCount, FrameName, Writ};
+use crate::{Copied, Frame, FrameCount, FrameName, Lent, Visits, Writ};
 use crossbeam_utils::CachePadded;
 use gt_types::{Config, FRAME_SIZE, Memory};
 use std::alloc::Global;
@@ -37,26 +39,38 @@ impl Model for Pool {
     ghost invariant = { λ p. length p.frames.items ≡ frames_of p.domains.items };
 }
 
-/// The locked frames at the two ends of a copy.
-#[derive(Drop)]
+/// The locked frames at the two ends of a copy. They can't be dropped: `free` frees them.
 pub struct Ends<'p> {
-    dest: MutexGuard<'p, Frame>,
+    dest: Lent<'p>,
     // None if both ends are one frame.
-    source: Option<MutexGuard<'p, Frame>>,
+    source: Option<Lent<'p>>,
 }
 
-// These frames, and then those of one domain more, all zeros and each under a lock.
-fn with_locks(
-    alloc: Global,
-    frames: Vec<CachePadded<Mutex<Frame>>>,
-    domain: FrameCount,
-) -> Result<Vec<CachePadded<Mutex<Frame>>>, Memory>
-    ensures { IfOk result (λ all. length all.items ≡ length frames.items + domain.frames) }
+// The order in which one access locks its frames: each place is above the ones before it.
+#[derive(Drop)]
+struct Rising {
+    lowest: usize,
+}
+
+// Each of these values under a lock, in their order. It can neither make nor change one: it knows nothing of them.
+fn under_locks<T: Drop>(alloc: Global, values: Vec<T>) -> Result<Vec<CachePadded<Mutex<T>>>, Memory>
+    ensures { IfOk result (λ locks. length locks.items ≡ length values.items) }
 {
-    let mut all = frames;
-    'frames: for number in 0..domain.frames {
-        let frame = Frame::new(alloc, domain.owner, u64::from(number))?;
-        all.push(CachePadded::new(Mutex::new(frame)))?;
+    let mut locks = Vec::new(alloc);
+    'values: for value in values {
+        locks.push(CachePadded::new(Mutex::new(value)))?;
+    }
+    Ok(locks)
+}
+
+// Visits for so many domains.
+fn no_visits(alloc: Global, count: usize) -> Result<Vec<Visits>, Memory>
+    ensures count { IfOk result (λ v. length v.items ≡ count) }
+    ensures none { IfOk result (λ v. All (λ visits. visits ≡ []) v.items) }
+{
+    let mut all = Vec::new(alloc);
+    'domains: for _domain in 0..count {
+        all.push(Visits::new())?;
     }
     Ok(all)
 }
@@ -71,20 +85,21 @@ fn is_named(frame: &Frame, name: FrameName) -> bool
 }
 
 impl Pool {
-    /// The frames of all domains, in their order, each of zeros and under a lock.
+    /// The frames of all domains, in their order, each of zeros and under a lock, and for each domain the visits
+    /// without which no frame is freed.
     ///
     /// # Errors
     ///
     /// `Memory`.
-    pub fn new(alloc: Global, config: &Config) -> Result<Pool, Memory>
-        ensures { IfOk result (λ p. p ≡ frame_counts config.now.domains.items) }
+    pub fn new(alloc: Global, config: &Config) -> Result<(Pool, Vec<Visits>), Memory>
+        ensures pool { IfOk result (λ r. r.0 ≡ frame_counts config.now.domains.items) }
+        ensures count { IfOk result (λ r. length r.1.items ≡ length config.now.domains.items) }
+        ensures none { IfOk result (λ r. All (λ visits. visits ≡ []) r.1.items) }
     {
         let domains = frame_counts(alloc, config)?;
-        let mut frames = Vec::new(alloc);
-        'domains: for domain in &domains {
-            frames = with_locks(alloc, frames, *domain)?;
-        }
-        Ok(Pool { domains, frames })
+        let frames = under_locks(alloc, frames_of_zeros(alloc, &domains)?)?;
+        let visits = no_visits(alloc, domains.len())?;
+        Ok((Pool { domains, frames }, visits))
     }
 
     // The pool number of a frame.
@@ -94,53 +109,59 @@ impl Pool {
         find(&self.domains, name)
     }
 
-    /// Locks a frame. `None` if there is no such frame, or another one is in its place.
-    pub fn lock(&self, rt: &impl Wait, name: FrameName) -> Option<MutexGuard<'_, Frame>>
-        ensures frame { IfSome result (λ g. name_of (mutex_guard_value g) ≡ name) }
-        ensures kept { IfSome result (λ g. IsKept (mutex_guard_value g)) }
-        ensures len { IfSome result (λ g. length (contents (mutex_guard_value g)) ≡ FRAME_SIZE) }
+    // Locks the frame at this place, which is above each place that was locked for this access: two copies between
+    // the same frames then never wait for one another.
+    fn lock_at(
+        &self,
+        rt: &impl Wait,
+        order: &mut Rising,
+        place: usize,
+    ) -> Option<MutexGuard<'_, Frame>>
+        requires { order.old.lowest ≤ place }
+        ensures { IfSome result (λ _. order.new.lowest ≡ place + 1) }
     {
-        let guard = self.frames.get(self.place(name)?)?.lock(rt);
-        if is_named(&guard, name) {
-            Some(guard)
+        let frame = self.frames.get(place)?;
+        order.lowest = place + 1;
+        Some(frame.lock(rt))
+    }
+
+    /// Locks a frame. `None` if there is no such frame, or another one is in its place.
+    pub fn lock(&self, rt: &impl Wait, name: FrameName) -> Option<Lent<'_>>
+        ensures frame { IfSome result (λ l. name_of l.after ≡ name) }
+        ensures fresh { IfSome result IsFresh }
+        ensures kept { IfSome result (λ l. IsKept l.after) }
+        ensures len { IfSome result (λ l. length (contents l.after) ≡ FRAME_SIZE) }
+    {
+        let place = self.place(name)?;
+        let frame = self.lock_at(rt, &mut Rising { lowest: 0 }, place)?;
+        if is_named(&frame, name) {
+            Some(Lent::new(frame))
         } else {
             None
         }
     }
 
-    // Locks two frames, the one with the lower pool number first: two copies between the same frames
-    // then never wait for one another.
-    fn lock_two<'p>(
-        &'p self,
-        rt: &impl Wait,
-        low: usize,
-        high: usize,
-    ) -> Option<(MutexGuard<'p, Frame>, MutexGuard<'p, Frame>)>
-        requires { low < high }
-    {
-        let first = self.frames.get(low)?.lock(rt);
-        let second = self.frames.get(high)?.lock(rt);
-        Some((first, second))
-    }
-
     /// Locks the frames at both ends of a copy: the one with the lower pool number first, and one
-    /// lock if both are one frame. `None` if there is no such frame, or another one is in
-    /// its place.
+    /// lock if both are one frame. `None` if there is no such frame, or another one is in its place.
     pub fn lock_both(&self, rt: &impl Wait, source: FrameName, dest: FrameName) -> Option<Ends<'_>>
         ensures source { IfSome result (λ e. name_of (source_of e) ≡ source) }
         ensures dest { IfSome result (λ e. name_of (dest_of e) ≡ dest) }
+        ensures fresh { IfSome result AreFresh }
         ensures kept { IfSome result (λ e. IsKept (source_of e) × IsKept (dest_of e)) }
     {
         let from = self.place(source)?;
         let to = self.place(dest)?;
+        let mut order = Rising { lowest: 0 };
         if from < to {
-            let (first, second) = self.lock_two(rt, from, to)?;
+            let first = self.lock_at(rt, &mut order, from)?;
+            let second = self.lock_at(rt, &mut order, to)?;
             Ends::apart(first, second, source, dest)
         } else if to < from {
-            let (first, second) = self.lock_two(rt, to, from)?;
+            let first = self.lock_at(rt, &mut order, to)?;
+            let second = self.lock_at(rt, &mut order, from)?;
             Ends::apart(second, first, source, dest)
         } else {
-            Ends::same(self.frames.get(from)?.lock(rt), source, dest)
+            Ends::same(self.lock_at(rt, &mut order, from)?, source, dest)
         }
     }
 }
@@ -150,11 +171,12 @@ impl<'p> Ends<'p> {
     fn same(frame: MutexGuard<'p, Frame>, source: FrameName, dest: FrameName) -> Option<Ends<'p>>
         ensures source { IfSome result (λ e. name_of (source_of e) ≡ source) }
         ensures dest { IfSome result (λ e. name_of (dest_of e) ≡ dest) }
+        ensures fresh { IfSome result AreFresh }
         ensures kept { IfSome result (λ e. IsKept (source_of e) × IsKept (dest_of e)) }
     {
         if is_named(&frame, source) && is_named(&frame, dest) {
             Some(Ends {
-                dest: frame,
+                dest: Lent::new(frame),
                 source: None,
             })
         } else {
@@ -171,15 +193,27 @@ impl<'p> Ends<'p> {
     ) -> Option<Ends<'p>>
         ensures source { IfSome result (λ e. name_of (source_of e) ≡ source) }
         ensures dest { IfSome result (λ e. name_of (dest_of e) ≡ dest) }
+        ensures fresh { IfSome result AreFresh }
         ensures kept { IfSome result (λ e. IsKept (source_of e) × IsKept (dest_of e)) }
     {
         if is_named(&from, source) && is_named(&to, dest) {
             Some(Ends {
-                dest: to,
-                source: Some(from),
+                dest: Lent::new(to),
+                source: Some(Lent::new(from)),
             })
         } else {
             None
+        }
+    }
+
+    /// Frees the frames, the one that the bytes go to first.
+    pub fn free(self, visits: &mut Visits)
+        ensures { visits.new ≡ visits.old ++ visits_of self.entry }
+    {
+        let Ends { dest, source } = self;
+        dest.free(visits);
+        if let Some(source) = source {
+            source.free(visits);
         }
     }
 
@@ -207,12 +241,11 @@ impl<'p> Ends<'p> {
             r ≡ copying_of (source_of self.old) from_off (dest_of self.old) to_off len writ.now.writer) }
         ensures refused { OnErr result
             ((dest_of self.new ≡ dest_of self.old) × (source_of self.new ≡ source_of self.old)) }
+        ensures on { GoesOn self.old self.new }
     {
         match &self.source {
             None => self.dest.copy_within(writ, from_off, to_off, len),
-            Some(source) => {
-                Frame::copy_between(source, &mut self.dest, writ, from_off, to_off, len)
-            }
+            Some(source) => self.dest.copy_from(source, writ, from_off, to_off, len),
         }
     }
 }

@@ -14,6 +14,7 @@ pub mod Once
 pub mod Accessing
 pub mod Maps
 pub mod Tries
+pub mod Visiting
 pub mod NewDomain
 pub mod Taking
 pub mod Copying

@@ -156,6 +156,7 @@ pub record IsUnsettled (d e : Domain) : Type 0 where
   pub own : e.own ≡ d.own
   pub mappings : e.mappings ≡ d.mappings
   pub trail : e.trail ≡ d.trail
+  pub visits : e.visits ≡ d.visits
 
 -- a domain of a run stays one of it
 abbrev pub StaysOfRun : Domain → Domain → Type 0

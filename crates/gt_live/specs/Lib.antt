@@ -1,3 +1,4 @@
+pub mod Visiting
 pub mod Walks
 pub mod Accesses
 pub mod Mappings

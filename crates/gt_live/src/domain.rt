@@ -24,6 +24,7 @@ use gt_calls::{
     judge_unmap,
 };
 use gt_entry::{Change, Entry};
+use gt_frames::Visits;
 use gt_types::{Allows, Denial, DomId, Facts, GrantRef, Memory, Rule, Size, TypeId};
 use gt_words::Seat;
 use std::alloc::Global;
@@ -35,6 +36,7 @@ pub struct Domain {
     own: Vec<Own>,
     mappings: Handles<Held>,
     trail: Trail,
+    visits: Visits,
 }
 
 /// What a domain leaves behind: its records, and its seat, which is spent.
@@ -176,8 +178,16 @@ impl Domain {
         own: Vec<Own>,
         mappings: Handles<Held>,
         trail: Trail,
+        visits: Visits,
     ) -> Domain
-        ensures { result ≡ record { alloc = alloc; seat = seat; own = own; mappings = mappings; trail = trail } }
+        ensures { result ≡ record {
+          alloc = alloc;
+          seat = seat;
+          own = own;
+          mappings = mappings;
+          trail = trail;
+          visits = visits;
+        } }
     {
         Domain {
             alloc,
@@ -185,6 +195,7 @@ impl Domain {
             own,
             mappings,
             trail,
+            visits,
         }
     }
 
@@ -293,6 +304,7 @@ impl Domain {
         ensures answer { IsAnswerTo call.old.request result }
         ensures kept { KeepsPinned self.old self.new }
         ensures silent { self.new.trail ≡ self.old.trail }
+        ensures untouched { self.new.visits ≡ self.old.visits }
     {
         let finished = self.drive(monitor, call);
         if let Effect::Changed(gref, change) = finished.effect {
@@ -311,6 +323,7 @@ impl Domain {
         ensures answer { IsAnswerTo (asked request.entry) result }
         ensures kept { KeepsPinned self.old self.new }
         ensures silent { self.new.trail ≡ self.old.trail }
+        ensures untouched { self.new.visits ≡ self.old.visits }
     {
         match self.begin(monitor, request) {
             Start::Done(verdict) => verdict,
@@ -343,6 +356,7 @@ impl Domain {
         ensures answer { IsAnswerTo (asked request.entry) result }
         ensures kept { KeepsPinned self.old self.new }
         ensures told { Tells self.old.trail (told_of self.old call result) self.new.trail }
+        ensures untouched { self.new.visits ≡ self.old.visits }
     {
         let verdict = self.call(monitor, request);
         let dom = self.seat.dom();
@@ -368,6 +382,7 @@ impl Domain {
             (Request.Grant gref entry.now) (verdict_of result) self.new }
         ensures kept { KeepsPinned self.old self.new }
         ensures silent { self.new.trail ≡ self.old.trail }
+        ensures untouched { self.new.visits ≡ self.old.visits }
     {
         let entry = *entry;
         done(self.call(monitor, Request::Grant { gref, entry }))
@@ -391,6 +406,7 @@ impl Domain {
             (Request.GrantBytes gref bytes.entry) (verdict_of result) self.new }
         ensures kept { KeepsPinned self.old self.new }
         ensures silent { self.new.trail ≡ self.old.trail }
+        ensures untouched { self.new.visits ≡ self.old.visits }
     {
         done(self.call(monitor, Request::GrantBytes { gref, bytes }))
     }
@@ -406,6 +422,7 @@ impl Domain {
         ensures answered { Answered P.may monitor.now self.old (Request.Revoke gref) (verdict_of result) self.new }
         ensures kept { KeepsPinned self.old self.new }
         ensures silent { self.new.trail ≡ self.old.trail }
+        ensures untouched { self.new.visits ≡ self.old.visits }
     {
         done(self.call(monitor, Request::Revoke { gref }))
     }
@@ -425,6 +442,7 @@ impl Domain {
         ensures answered { Answered P.may monitor.now self.old (Request.Withdraw gref) (verdict_of result) self.new }
         ensures kept { KeepsPinned self.old self.new }
         ensures silent { self.new.trail ≡ self.old.trail }
+        ensures untouched { self.new.visits ≡ self.old.visits }
     {
         done(self.call(monitor, Request::Withdraw { gref }))
     }
@@ -440,6 +458,7 @@ impl Domain {
         ensures answered { Answered P.may monitor.now self.old (Request.Demote gref) (verdict_of result) self.new }
         ensures kept { KeepsPinned self.old self.new }
         ensures silent { self.new.trail ≡ self.old.trail }
+        ensures untouched { self.new.visits ≡ self.old.visits }
     {
         done(self.call(monitor, Request::Demote { gref }))
     }
@@ -455,6 +474,7 @@ impl Domain {
         ensures answered { Answered P.may monitor.now self.old (Request.Promote gref) (verdict_of result) self.new }
         ensures kept { KeepsPinned self.old self.new }
         ensures silent { self.new.trail ≡ self.old.trail }
+        ensures untouched { self.new.visits ≡ self.old.visits }
     {
         done(self.call(monitor, Request::Promote { gref }))
     }
@@ -477,6 +497,7 @@ impl Domain {
         ensures kept { KeepsPinned self.old self.new }
         ensures told { Tells self.old.trail
             (told_of self.old (Hypercall.SetVersion version) (verdict_of result)) self.new.trail }
+        ensures untouched { self.new.visits ≡ self.old.visits }
     {
         let call = Hypercall::SetVersion { version };
         done(self.told_call(monitor, Request::SetVersion { version }, call))
@@ -499,6 +520,7 @@ impl Domain {
         ensures kept { KeepsPinned self.old self.new }
         ensures told { Tells self.old.trail
             (told_of self.old (Hypercall.SetupTable frames) (verdict_of_frames result)) self.new.trail }
+        ensures untouched { self.new.visits ≡ self.old.visits }
     {
         let call = Hypercall::SetupTable { frames };
         frames_told(self.told_call(monitor, Request::SetupTable { frames }, call))
@@ -521,6 +543,7 @@ impl Domain {
         ensures kept { KeepsPinned self.old self.new }
         ensures told { Tells self.old.trail
             (told_of self.old (Hypercall.QuerySize dom) (verdict_of_size result)) self.new.trail }
+        ensures untouched { self.new.visits ≡ self.old.visits }
     {
         let call = Hypercall::QuerySize { dom };
         size_told(self.told_call(monitor, Request::QuerySize { dom }, call))
@@ -543,6 +566,7 @@ impl Domain {
         ensures kept { KeepsPinned self.old self.new }
         ensures told { Tells self.old.trail
             (told_of self.old (Hypercall.GetVersion dom) (verdict_of_version result)) self.new.trail }
+        ensures untouched { self.new.visits ≡ self.old.visits }
     {
         let call = Hypercall::GetVersion { dom };
         version_told(self.told_call(monitor, Request::GetVersion { dom }, call))
@@ -597,6 +621,7 @@ impl Domain {
         ensures seat { IsSameSeat self.old.seat self.new.seat }
         ensures answered { MapAnswered P.may monitor.now self.old (Request.Map dom gref flags) result self.new }
         ensures silent { self.new.trail ≡ self.old.trail }
+        ensures untouched { self.new.visits ≡ self.old.visits }
     {
         if let Some(verdict) = self.judge_map(monitor, dom, flags) {
             return Err(refusal_of(verdict));
@@ -631,6 +656,7 @@ impl Domain {
         ensures told { Tells self.old.trail
             (record { dom = self.old.seat.dom; call = Hypercall.Map dom gref flags; reply = mapping_reply result })
             self.new.trail }
+        ensures untouched { self.new.visits ≡ self.old.visits }
     {
         let result = self.make_mapping(monitor, dom, gref, flags);
         let call = Hypercall::Map { dom, gref, flags };
@@ -674,6 +700,7 @@ impl Domain {
         ensures removed { OnOk result ((p : Held) × Removes self.old.mappings self.new.mappings handle p) }
         ensures refused { OnErr result (KeepsPinned self.old self.new) }
         ensures silent { self.new.trail ≡ self.old.trail }
+        ensures untouched { self.new.visits ≡ self.old.visits }
     {
         if let Some(verdict) = self.judge_unmap(monitor, handle) {
             return Err(refusal_of(verdict));
@@ -696,6 +723,7 @@ impl Domain {
         ensures refused { OnErr result (KeepsPinned self.old self.new) }
         ensures told { Tells self.old.trail
             (told_of self.old (Hypercall.Unmap (subject_of self.old handle)) (verdict_of result)) self.new.trail }
+        ensures untouched { self.new.visits ≡ self.old.visits }
     {
         let subject = self.subject(handle);
         let result = self.give_up(monitor, handle);
@@ -733,6 +761,7 @@ impl Domain {
             own: _,
             mappings: _,
             trail,
+            visits: _,
         } = self;
         Left { trail, seat }
     }

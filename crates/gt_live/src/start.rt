@@ -1,5 +1,5 @@
 //! How a run starts.
-ghost use Rattle.std.specs.Prelude.{◌≡◌, ◌+◌, ◌<◌, ◌≤◌, ℕ, length, replicate, All, HoldsAt, IfOk, IfErr, OnOk};
+ghost use Rattle.std.specs.Prelude.{◌≡◌, ◌+◌, ◌<◌, ◌≤◌, ℕ, length, replicate, All, HoldsAt, IfOk, IfErr, OnOk, []};
 ghost use Rattle.gt_types.specs.Config.{IsWithinLimits};
 ghost use Rattle.gt_words.specs.Rule.{layout_of};
 ghost use Rattle.gt_words.specs.Conditions.{IsNewSeat, IsStartFault};
@@ -9,7 +9,7 @@ use crate::domain::Domain;
 use crate::monitor::Monitor;
 use gt_audit::Trail;
 use gt_calls::{ENTRIES, Handles, Own};
-use gt_frames::Pool;
+use gt_frames::{Pool, Visits};
 use gt_types::{Allows, Config, StartFault};
 use gt_words::{Seat, Words};
 use std::alloc::{AllocError, Global};
@@ -25,15 +25,21 @@ fn first_rows(alloc: Global, first_gen: u32) -> Result<Vec<Own>, AllocError>
     Ok(rows)
 }
 
-// Rows for so many domains.
-fn all_rows(alloc: Global, first_gen: u32, count: usize) -> Result<Vec<Vec<Own>>, AllocError>
-    requires { first_gen < 1048576 }
-    ensures count { IfOk result (λ v. length v.items ≡ count) }
-    ensures rows { IfOk result (λ v. All (λ w. w.items ≡ first_rows first_gen) v.items) }
+// Rows for a domain with each of these visits.
+fn all_rows(
+    alloc: Global,
+    first_gen: u32,
+    all_visits: Vec<Visits>,
+) -> Result<Vec<(Vec<Own>, Visits)>, AllocError>
+    requires first { first_gen < 1048576 }
+    requires none { All (λ visits. visits ≡ []) all_visits.items }
+    ensures count { IfOk result (λ v. length v.items ≡ length all_visits.items) }
+    ensures rows { IfOk result (λ v. All (λ w. (w.0.items ≡ first_rows first_gen) × (w.1 ≡ [])) v.items) }
 {
     let mut all = Vec::new(alloc);
-    'rows: for _at in 0..count {
-        all.push(first_rows(alloc, first_gen)?)?;
+    let mut rest = all_visits.into_iter();
+    'rows: while let Some(visits) = rest.next() {
+        all.push((first_rows(alloc, first_gen)?, visits))?;
     }
     Ok(all)
 }
@@ -43,25 +49,28 @@ fn make_domains<P: Allows>(
     alloc: Global,
     monitor: &Monitor<P>,
     mut seats: Vec<Seat>,
+    all_visits: Vec<Visits>,
 ) -> Result<Vec<Domain>, AllocError>
     requires config { IsWithinLimits monitor.now.config }
     requires count { length seats.items ≡ length monitor.now.config.domains.items }
     requires seats { (i : ℕ) → i < length monitor.now.config.domains.items
         → HoldsAt (λ s. IsNewSeat monitor.now.words i s) seats.items i }
+    requires visits { (length all_visits.items ≡ length monitor.now.config.domains.items)
+        × All (λ visits. visits ≡ []) all_visits.items }
     ensures count { IfOk result (λ v. length v.items ≡ length monitor.now.config.domains.items) }
     ensures domains { IfOk result (λ v.
         (i : ℕ) → i < length monitor.now.config.domains.items
         → HoldsAt (λ d. IsNewDomain monitor.now.words monitor.now.config (P.may monitor.now.rights) i d) v.items i) }
 {
     let count = monitor.config.domains.len();
-    let mut rows = all_rows(alloc, monitor.config.first_gen, count)?;
+    let mut rows = all_rows(alloc, monitor.config.first_gen, all_visits)?;
     let mut domains = Vec::with_capacity(alloc, count)?;
     'domains: for at in 0..count {
         let seat = seats.remove(0);
-        if let Some(own) = rows.pop() {
+        if let Some((own, visits)) = rows.pop() {
             let mappings = Handles::new(alloc);
             let trail = Trail::new(alloc);
-            domains.push_reserved(Domain::new(alloc, seat, own, mappings, trail));
+            domains.push_reserved(Domain::new(alloc, seat, own, mappings, trail, visits));
         }
     }
     Ok(domains)
@@ -92,7 +101,7 @@ impl<P: Allows + Drop> Monitor<P> {
             Ok(made) => made,
             Err(fault) => return Err(fault),
         };
-        let Ok(pool) = Pool::new(alloc, &config) else {
+        let Ok((pool, visits)) = Pool::new(alloc, &config) else {
             return Err(StartFault::Memory);
         };
         let monitor = Monitor {
@@ -101,7 +110,7 @@ impl<P: Allows + Drop> Monitor<P> {
             words,
             pool,
         };
-        match make_domains(alloc, &monitor, seats) {
+        match make_domains(alloc, &monitor, seats, visits) {
             Ok(domains) => Ok((monitor, domains)),
             Err(AllocError) => Err(StartFault::Memory),
         }

@@ -8,13 +8,16 @@ ghost use Rattle.gt_access.specs.Routes.{MayAccess, Reaches};
 ghost use Rattle.gt_calls.specs.declared.request.Request.TheVariants as requests;
 ghost use Rattle.gt_live.specs.Accesses.{IsOfAccess, IsReadBy, IsWrittenBy};
 ghost use Rattle.gt_live.specs.Domains.{Accesses, IsOf, KeepsPinned, not_made};
+ghost use Rattle.gt_live.specs.Visiting.{HasVisited, WasRead, WasWritten};
 
 use super::{Domain, refusal_of};
 use crate::monitor::Monitor;
 use gt_access::{Refused, Run, read_by, write_by};
 use gt_calls::{Handle, Route, judge_load, judge_own_access, judge_store};
-use gt_frames::{FrameName, Read, Written};
+use gt_frames::{FrameName, Read, Visits, Written};
 use gt_types::{Allows, Denial, Facts, Range, Rule};
+use gt_words::Seat;
+use std::alloc::Global;
 use std::sync::Wait;
 
 // How an access that was not made is refused.
@@ -27,69 +30,85 @@ pub(super) fn not_made(refused: Refused) -> Denial
     }
 }
 
+// Reads a range of a frame that this route leads to.
+#[tactic(auto, using(crate::proofs::Visiting::none_visited, crate::proofs::Visiting::read_visits))]
+fn read_through<R: Wait, P: Allows>(
+    rt: &R,
+    monitor: &Monitor<P>,
+    alloc: Global,
+    seat: &Seat,
+    visits: &mut Visits,
+    route: Route,
+    name: FrameName,
+    off: u16,
+    len: u16,
+) -> Result<Read, Denial>
+    requires seat { IsSeatOf monitor.now.words seat.now }
+    requires reached { Reaches monitor.now.words.layout seat.now dirs.Read uses.Map name off len route }
+    requires may { MayAccess monitor.now.config.domains.items (P.may monitor.now.rights) seat.now.dom route }
+    requires range { off + len ≤ 4096 }
+    ensures read { IfOk result (λ r. IsReadOf r name off len) }
+    ensures refused { IfErr result IsOfAccess }
+    ensures visited { HasVisited WasRead result visits.old visits.new }
+{
+    let Ok(room) = Vec::with_capacity(alloc, usize::from(len)) else {
+        return Err(not_made(Refused::Memory));
+    };
+    let run = Run {
+        words: &monitor.words,
+        config: &monitor.config,
+        rights: &monitor.rights,
+        pool: &monitor.pool,
+    };
+    match read_by(
+        rt,
+        &run,
+        seat,
+        visits,
+        route,
+        name,
+        Range { off, len },
+        room,
+    ) {
+        Some(read) => Ok(read),
+        None => Err(not_made(Refused::Gone)),
+    }
+}
+
+// Writes bytes to a frame that this route leads to.
+#[tactic(auto, using(crate::proofs::Visiting::unwritten, crate::proofs::Visiting::write_visits))]
+fn write_through<'a, R: Wait, P: Allows>(
+    rt: &R,
+    monitor: &Monitor<P>,
+    seat: &Seat,
+    visits: &mut Visits,
+    route: Route,
+    name: FrameName,
+    off: u16,
+    bytes: &'a [u8],
+) -> Result<Written<'a>, Denial>
+    requires seat { IsSeatOf monitor.now.words seat.now }
+    requires reached { Reaches monitor.now.words.layout seat.now dirs.Write uses.Map
+        name off (length bytes.now) route }
+    requires may { MayAccess monitor.now.config.domains.items (P.may monitor.now.rights) seat.now.dom route }
+    requires range { off + length bytes.now ≤ 4096 }
+    ensures written { IfOk result (λ r. r ≡ writing_at name off bytes.entry.now seat.now.dom) }
+    ensures refused { IfErr result IsOfAccess }
+    ensures visited { HasVisited WasWritten result visits.old visits.new }
+{
+    let run = Run {
+        words: &monitor.words,
+        config: &monitor.config,
+        rights: &monitor.rights,
+        pool: &monitor.pool,
+    };
+    match write_by(rt, &run, seat, visits, route, name, off, bytes) {
+        Ok(written) => Ok(written),
+        Err(refused) => Err(not_made(refused)),
+    }
+}
+
 impl Domain {
-    // Reads a range of a frame that this route leads to.
-    fn read_through<R: Wait, P: Allows>(
-        &self,
-        rt: &R,
-        monitor: &Monitor<P>,
-        route: Route,
-        name: FrameName,
-        off: u16,
-        len: u16,
-    ) -> Result<Read, Denial>
-        requires seat { IsSeatOf monitor.now.words self.now.seat }
-        requires reached { Reaches monitor.now.words.layout self.now.seat dirs.Read uses.Map name off len route }
-        requires may { MayAccess monitor.now.config.domains.items (P.may monitor.now.rights) self.now.seat.dom route }
-        requires range { off + len ≤ 4096 }
-        ensures read { IfOk result (λ r. IsReadOf r name off len) }
-        ensures refused { IfErr result IsOfAccess }
-    {
-        let Ok(room) = Vec::with_capacity(self.alloc, usize::from(len)) else {
-            return Err(not_made(Refused::Memory));
-        };
-        let run = Run {
-            words: &monitor.words,
-            config: &monitor.config,
-            rights: &monitor.rights,
-            pool: &monitor.pool,
-        };
-        match read_by(rt, &run, &self.seat, route, name, Range { off, len }, room) {
-            Some(read) => Ok(read),
-            None => Err(not_made(Refused::Gone)),
-        }
-    }
-
-    // Writes bytes to a frame that this route leads to.
-    fn write_through<'a, R: Wait, P: Allows>(
-        &self,
-        rt: &R,
-        monitor: &Monitor<P>,
-        route: Route,
-        name: FrameName,
-        off: u16,
-        bytes: &'a [u8],
-    ) -> Result<Written<'a>, Denial>
-        requires seat { IsSeatOf monitor.now.words self.now.seat }
-        requires reached { Reaches monitor.now.words.layout self.now.seat dirs.Write uses.Map
-            name off (length bytes.now) route }
-        requires may { MayAccess monitor.now.config.domains.items (P.may monitor.now.rights) self.now.seat.dom route }
-        requires range { off + length bytes.now ≤ 4096 }
-        ensures written { IfOk result (λ r. r ≡ writing_at name off bytes.entry.now self.now.seat.dom) }
-        ensures refused { IfErr result IsOfAccess }
-    {
-        let run = Run {
-            words: &monitor.words,
-            config: &monitor.config,
-            rights: &monitor.rights,
-            pool: &monitor.pool,
-        };
-        match write_by(rt, &run, &self.seat, route, name, off, bytes) {
-            Ok(written) => Ok(written),
-            Err(refused) => Err(not_made(refused)),
-        }
-    }
-
     /// Reads `len` bytes from the offset `off` on through a mapping.
     ///
     /// # Errors
@@ -108,6 +127,7 @@ impl Domain {
         ensures answered { Accesses P.may monitor.now self.old (requests.Load handle off len) IsReadBy result self.new }
         ensures kept { KeepsPinned self.old self.new }
         ensures silent { self.new.trail ≡ self.old.trail }
+        ensures visited { HasVisited WasRead result self.old.visits self.new.visits }
     {
         if let Some(verdict) = judge_load(&self.mappings, handle, off, len) {
             return Err(refusal_of(verdict));
@@ -117,7 +137,9 @@ impl Domain {
             owner: held.dom,
             number: held.entry.frame(),
         };
-        self.read_through(rt, monitor, Route::Direct(held), name, off, len)
+        let route = Route::Direct(held);
+        let (seat, visits) = (&self.seat, &mut self.visits);
+        read_through(rt, monitor, self.alloc, seat, visits, route, name, off, len)
     }
 
     /// Reads `len` bytes from the offset `off` on of a frame of its own.
@@ -138,6 +160,7 @@ impl Domain {
         ensures answered { Accesses P.may monitor.now self.old (requests.Peek frame off len) IsReadBy result self.new }
         ensures kept { KeepsPinned self.old self.new }
         ensures silent { self.new.trail ≡ self.old.trail }
+        ensures visited { HasVisited WasRead result self.old.visits self.new.visits }
     {
         let caller = self.seat.dom();
         let domains = &monitor.config.domains;
@@ -148,7 +171,18 @@ impl Domain {
             owner: caller,
             number: frame,
         };
-        self.read_through(rt, monitor, Route::Own, name, off, len)
+        let (seat, visits) = (&self.seat, &mut self.visits);
+        read_through(
+            rt,
+            monitor,
+            self.alloc,
+            seat,
+            visits,
+            Route::Own,
+            name,
+            off,
+            len,
+        )
     }
 
     /// Writes `bytes` from the offset `off` on through a mapping.
@@ -170,6 +204,7 @@ impl Domain {
             (requests.Store handle off bytes.entry) (IsWrittenBy self.old.seat.dom bytes.entry.now) result self.new }
         ensures kept { KeepsPinned self.old self.new }
         ensures silent { self.new.trail ≡ self.old.trail }
+        ensures visited { HasVisited WasWritten result self.old.visits self.new.visits }
     {
         if let Some(verdict) = judge_store(&self.mappings, handle, off, bytes.len()) {
             return Err(refusal_of(verdict));
@@ -179,7 +214,9 @@ impl Domain {
             owner: held.dom,
             number: held.entry.frame(),
         };
-        self.write_through(rt, monitor, Route::Direct(held), name, off, bytes)
+        let route = Route::Direct(held);
+        let (seat, visits) = (&self.seat, &mut self.visits);
+        write_through(rt, monitor, seat, visits, route, name, off, bytes)
     }
 
     /// Writes `bytes` from the offset `off` on to a frame of its own.
@@ -201,6 +238,7 @@ impl Domain {
             (requests.Poke frame off bytes.entry) (IsWrittenBy self.old.seat.dom bytes.entry.now) result self.new }
         ensures kept { KeepsPinned self.old self.new }
         ensures silent { self.new.trail ≡ self.old.trail }
+        ensures visited { HasVisited WasWritten result self.old.visits self.new.visits }
     {
         let caller = self.seat.dom();
         let domains = &monitor.config.domains;
@@ -211,6 +249,7 @@ impl Domain {
             owner: caller,
             number: frame,
         };
-        self.write_through(rt, monitor, Route::Own, name, off, bytes)
+        let (seat, visits) = (&self.seat, &mut self.visits);
+        write_through(rt, monitor, seat, visits, Route::Own, name, off, bytes)
     }
 }

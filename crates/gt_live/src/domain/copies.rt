@@ -15,6 +15,7 @@ ghost use Rattle.gt_live.specs.Accesses.{IsCopiedBy, IsOfAccess, spot_of};
 ghost use Rattle.gt_live.specs.Domains.{Accesses, IsOf, IsOpened, IsRefused, IsUnsettled, KeepsPinned, Opens, known};
 ghost use Rattle.gt_live.specs.Domains.{told_copy, told_end};
 ghost use Rattle.gt_live.specs.Underway.{AreOfRun, GivesBack, HasTaken, Stops};
+ghost use Rattle.gt_live.specs.Visiting.{HasVisited, WasCopied};
 
 use super::bytes::not_made;
 use super::{Domain, outcome_reply, refusal_of};
@@ -23,8 +24,9 @@ use crate::monitor::Monitor;
 use gt_access::{Run, copy_by};
 use gt_audit::{CopyEnd, Hypercall, Record};
 use gt_calls::{Call, CopyArgs, End, Known, Pins, Place, Request, Start};
-use gt_frames::{Copied, FrameName, Spot};
+use gt_frames::{Copied, FrameName, Spot, Visits};
 use gt_types::{Allows, Denial};
+use gt_words::Seat;
 use std::sync::Wait;
 
 // The byte at this place.
@@ -48,6 +50,42 @@ fn told_end(end: End) -> CopyEnd
         ptr: end.ptr,
         dom: end.domid,
         off: end.offset,
+    }
+}
+
+// Copies between places that these routes lead to.
+fn copy_through<R: Wait, P: Allows>(
+    rt: &R,
+    monitor: &Monitor<P>,
+    seat: &Seat,
+    visits: &mut Visits,
+    routes: Pins,
+    from: Place,
+    to: Place,
+    len: u16,
+) -> Result<Copied, Denial>
+    requires seat { IsSeatOf monitor.now.words seat.now }
+    requires source { Reaches monitor.now.words.layout seat.now dirs.Read uses.Copy
+        (spot_of from).frame from.off len routes.source }
+    requires dest { Reaches monitor.now.words.layout seat.now dirs.Write uses.Copy
+        (spot_of to).frame to.off len routes.dest }
+    requires may { MayCopy monitor.now.config.domains.items (P.may monitor.now.rights) seat.now.dom routes }
+    requires source_range { from.off + len ≤ 4096 }
+    requires dest_range { to.off + len ≤ 4096 }
+    ensures copied { IfOk result (λ r. r ≡ copying_at (spot_of from) (spot_of to) len seat.now.dom) }
+    ensures refused { IfErr result IsOfAccess }
+    ensures visited { HasVisited WasCopied result visits.old visits.new }
+{
+    let run = Run {
+        words: &monitor.words,
+        config: &monitor.config,
+        rights: &monitor.rights,
+        pool: &monitor.pool,
+    };
+    let (from, to) = (spot_of(from), spot_of(to));
+    match copy_by(rt, &run, seat, visits, routes, from, to, len) {
+        Ok(copied) => Ok(copied),
+        Err(refused) => Err(not_made(refused)),
     }
 }
 
@@ -108,47 +146,6 @@ impl Domain {
         give_back(&monitor.words, &known, &mut self.seat, call);
     }
 
-    // Copies between places that these routes lead to.
-    fn copy_through<R: Wait, P: Allows>(
-        &self,
-        rt: &R,
-        monitor: &Monitor<P>,
-        routes: Pins,
-        from: Place,
-        to: Place,
-        len: u16,
-    ) -> Result<Copied, Denial>
-        requires seat { IsSeatOf monitor.now.words self.now.seat }
-        requires source { Reaches monitor.now.words.layout self.now.seat dirs.Read uses.Copy
-            (spot_of from).frame from.off len routes.source }
-        requires dest { Reaches monitor.now.words.layout self.now.seat dirs.Write uses.Copy
-            (spot_of to).frame to.off len routes.dest }
-        requires may { MayCopy monitor.now.config.domains.items (P.may monitor.now.rights) self.now.seat.dom routes }
-        requires source_range { from.off + len ≤ 4096 }
-        requires dest_range { to.off + len ≤ 4096 }
-        ensures copied { IfOk result (λ r. r ≡ copying_at (spot_of from) (spot_of to) len self.now.seat.dom) }
-        ensures refused { IfErr result IsOfAccess }
-    {
-        let run = Run {
-            words: &monitor.words,
-            config: &monitor.config,
-            rights: &monitor.rights,
-            pool: &monitor.pool,
-        };
-        match copy_by(
-            rt,
-            &run,
-            &self.seat,
-            routes,
-            spot_of(from),
-            spot_of(to),
-            len,
-        ) {
-            Ok(copied) => Ok(copied),
-            Err(refused) => Err(not_made(refused)),
-        }
-    }
-
     // Copies, without a record.
     fn make_copy<R: Wait, P: Allows>(
         &mut self,
@@ -163,6 +160,7 @@ impl Domain {
             (Request.Copy copy) (IsCopiedBy self.old.seat.dom) result self.new }
         ensures kept { KeepsPinned self.old self.new }
         ensures silent { self.new.trail ≡ self.old.trail }
+        ensures visited { HasVisited WasCopied result self.old.visits self.new.visits }
     {
         let mut call = match self.judge_copy(monitor, copy) {
             Ok(call) => call,
@@ -171,7 +169,8 @@ impl Domain {
         match self.walk(monitor, &mut call) {
             Stop::Done(verdict) => Err(refusal_of(verdict)),
             Stop::Access { from, to, len } => {
-                let copied = self.copy_through(rt, monitor, call.pins(), from, to, len);
+                let (seat, visits) = (&self.seat, &mut self.visits);
+                let copied = copy_through(rt, monitor, seat, visits, call.pins(), from, to, len);
                 self.give_back(monitor, &mut call);
                 copied
             }
@@ -197,6 +196,7 @@ impl Domain {
             (Request.Copy copy.now) (IsCopiedBy self.old.seat.dom) result self.new }
         ensures kept { KeepsPinned self.old self.new }
         ensures told { Tells self.old.trail (told_copy self.old copy.now result) self.new.trail }
+        ensures visited { HasVisited WasCopied result self.old.visits self.new.visits }
     {
         let copy = *copy;
         let result = self.make_copy(rt, monitor, copy);

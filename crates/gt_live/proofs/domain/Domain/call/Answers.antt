@@ -23,6 +23,7 @@ returns-in-Done g c =
       answer = at-once-answer r verdict once;
       kept = (record { slots = refl; given = refl }, λ t r. refl);
       silent = refl;
+      untouched = refl;
     }
 
 pub run-requires-clause-opened : goal.run-requires-clause-opened
@@ -46,4 +47,5 @@ returns-in-Open g c =
       answer = subst (λ (r : Asked). IsAnswerTo r v) s.3 e.answer;
       kept = e.kept;
       silent = e.silent;
+      untouched = e.untouched;
     }

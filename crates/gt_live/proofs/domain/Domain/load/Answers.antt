@@ -11,6 +11,7 @@ use Rattle.gt_handles.specs.Handles.{value_of}
 use Rattle.gt_live.specs.Accesses.{IsReadBy, frame_named}
 use Rattle.gt_live.specs.Domains.{knowledge}
 use Rattle.gt_live.proofs.Accessing.{mapped-way, none-left, one-access, refused-access, reaches-mapped}
+use Rattle.gt_live.proofs.Kept.{retold}
 use Rattle.gt_live.proofs.domain.Domain.load.Goals as goal
 
 pub read_through-requires-clause-reached : goal.read_through-requires-clause-reached
@@ -38,3 +39,8 @@ returns-in-Some-clause-answered g c =
     let m = c.args.monitor.now in let d = c.args.self.now in
     refused-access m.words.layout (knowledge m.config (g.P.Allows.may m.rights) d) d.seat.dom (requests.Load c.args.handle c.args.off c.args.len) IsReadBy
     c.in-Some.verdict c.refusal_of.result d.seat.view tt (sym c.judge_load.ensures ∙ c.in-Some.is) c.refusal_of.ensures
+
+pub returns-clause-mine : goal.returns-clause-mine
+returns-clause-mine g c =
+    let m = c.args.monitor.now in let d = c.args.self.now in
+    retold m.words m.config (g.P.Allows.may m.rights) d (record d { visits = c.read_through.new.visits }) c.requires.mine refl refl refl

@@ -43,6 +43,7 @@ returns-in-Some g c =
         (record { slots = refl; given = refl }, λ t q. refl),
       );
       silent = refl;
+      untouched = refl;
     }
 
 pub returns-then-is_err-clause-mine : goal.returns-then-is_err-clause-mine
@@ -99,6 +100,7 @@ returns-in-Err g c =
         (record { slots = slots; given = ap (λ (z : HandleMap Held). z.given) (e.mappings ∙ one) }, same.pins),
       );
       silent = e.trail;
+      untouched = e.visits;
     }
 
 pub returns-in-Ok : goal.returns-in-Ok
@@ -125,4 +127,5 @@ returns-in-Ok g c =
         },
       );
       silent = e.trail;
+      untouched = e.visits;
     }

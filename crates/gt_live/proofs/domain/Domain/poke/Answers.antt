@@ -10,6 +10,7 @@ use Rattle.gt_live.specs.Domains.{knowledge}
 use Rattle.gt_live.proofs.Accessing.{none-left, one-access, own-way, refused-access}
 use Rattle.gt_access.specs.Accesses.{writing_at}
 use Rattle.gt_frames.specs.Receipts.{Writing}
+use Rattle.gt_live.proofs.Kept.{retold}
 use Rattle.gt_live.proofs.domain.Domain.poke.Goals as goal
 
 pub returns-clause-answered : goal.returns-clause-answered
@@ -33,3 +34,8 @@ returns-in-Some-clause-answered g c =
     ∙ ap (λ (x : DomId). own_access_begun ds x c.args.frame c.args.off (length c.args.bytes.now)) c.dom-caller.ensures) in
     refused-access m.words.layout (knowledge m.config (g.P.Allows.may m.rights) d) d.seat.dom (requests.Poke c.args.frame c.args.off c.args.bytes) (IsWrittenBy d.seat.dom c.args.bytes.now)
     c.in-Some.verdict c.refusal_of.result d.seat.view tt (sym judged ∙ c.in-Some.is) c.refusal_of.ensures
+
+pub returns-clause-mine : goal.returns-clause-mine
+returns-clause-mine g c =
+    let m = c.args.monitor.now in let d = c.args.self.now in
+    retold m.words m.config (g.P.Allows.may m.rights) d (record d { visits = c.write_through.new.visits }) c.requires.mine refl refl refl

@@ -1,0 +1,27 @@
+-- What was done to frames under their locks.
+use Rattle.std.specs.Prelude.{◌≡◌, Option, Some, None, List, [], ◌∷◌}
+use Rattle.gt_frames.specs.declared.places.FrameName.{FrameName}
+use Rattle.gt_frames.specs.Frames.{FrameState}
+use Rattle.gt_frames.specs.Sets.{name_of}
+
+-- a frame as it was when it was locked, and as it was when it was freed, or is while it is locked (own)
+pub record Visit : Type 0 where
+  pub before : FrameState
+  pub after : FrameState
+
+-- the frame of this name was locked (own)
+abbrev pub IsOf : FrameName → Visit → Type 0
+IsOf name v = name_of v.before ≡ name
+
+-- the frame of this name was locked, and left as it was (own)
+abbrev pub LeavesIt : FrameName → Visit → Type 0
+LeavesIt name v = IsOf name v × (v.after ≡ v.before)
+
+-- the frame was just locked (own)
+abbrev pub IsFresh : Visit → Type 0
+IsFresh v = v.before ≡ v.after
+
+-- the list of this visit, if there is one (own)
+abbrev pub visit_in : Option Visit → List Visit
+visit_in None = []
+visit_in (Some v) = v ∷ []

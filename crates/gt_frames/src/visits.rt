@@ -1,0 +1,173 @@
+//! A locked frame, and what was done to frames under their locks.
+ghost use Rattle.std.specs.Prelude.{◌≡◌, ◌+◌, ◌≤◌, ◌++◌, [], ◌∷◌, length, vec_capacity, vec_len, IfOk, OnOk, OnErr, IsTrue};
+
+use crate::{Copied, Frame, FrameName, Read, Writ, Written};
+use gt_history::History;
+use gt_types::{FRAME_SIZE, Memory};
+use std::marker::Model;
+use std::snapshot::Snapshot;
+use std::sync::MutexGuard;
+
+/// What was done to frames under their locks, by whoever has these visits: each frame as it was when it was locked and
+/// as it was when it was freed, in the order in which they were freed. They take no memory. (own)
+#[derive(Drop)]
+pub struct Visits {
+    history: History<Snapshot<Frame>, Frame>,
+}
+
+impl Model for Visits {
+    ghost use Rattle.std.specs.Prelude.{List, map};
+    ghost use Rattle.gt_frames.specs.Visits.{Visit};
+
+    ghost Value = { List Visit };
+
+    ghost view = { λ v. map (λ p. record { before = p.0.value; after = p.1 }) v.history.items };
+}
+
+/// A locked frame. It can't be dropped: `free` frees it, and tells what was done to it. (own)
+pub struct Lent<'p> {
+    frame: MutexGuard<'p, Frame>,
+    start: Snapshot<Frame>,
+}
+
+impl<'p> Model for Lent<'p> {
+    ghost use Rattle.std.specs.Sync.Mutex.{mutex_guard_value};
+    ghost use Rattle.gt_frames.specs.Visits.{Visit};
+
+    ghost Value = { Visit };
+
+    ghost view = { λ l. record { before = l.start.value; after = mutex_guard_value l.frame } };
+}
+
+impl Visits {
+    /// No frame was locked yet.
+    pub(crate) fn new() -> Visits
+        ensures { result ≡ [] }
+    {
+        Visits {
+            history: History::new(),
+        }
+    }
+}
+
+impl<'p> Lent<'p> {
+    ghost use Rattle.std.specs.Sync.Mutex.{mutex_guard_value};
+    ghost use Rattle.gt_frames.specs.Frames.{bytes_at, contents, covers, IsKept, IsWrite};
+    ghost use Rattle.gt_frames.specs.Receipts.{reading_of, writing_of, copying_of};
+    ghost use Rattle.gt_frames.specs.Sets.{name_of};
+
+    /// The frame that this lock guards, just locked.
+    pub(crate) fn new(frame: MutexGuard<'p, Frame>) -> Lent<'p>
+        ensures before { result.before ≡ mutex_guard_value frame.entry }
+        ensures after { result.after ≡ mutex_guard_value frame.entry }
+    {
+        let start = Snapshot::of(&*frame);
+        Lent { frame, start }
+    }
+
+    /// Its owner and number.
+    pub fn name(&self) -> FrameName
+        ensures name { result ≡ name_of self.now.after }
+        ensures kept { IsKept self.now.after }
+        ensures len { length (contents self.now.after) ≡ FRAME_SIZE }
+    {
+        FrameName {
+            owner: self.frame.owner(),
+            number: self.frame.number(),
+        }
+    }
+
+    /// Reads `len` bytes from the offset `off` on into `room`, which is empty and has room for them. It takes no
+    /// memory.
+    pub fn read_to(&self, off: u16, len: usize, room: Vec<u8>) -> Read
+        requires range { off + len ≤ FRAME_SIZE }
+        requires room { (vec_len room ≡ 0) × (len ≤ vec_capacity room) }
+        ensures read { result ≡ reading_of self.now.after off len }
+        ensures len { length result.bytes ≡ len }
+    {
+        self.frame.read_to(off, len, room)
+    }
+
+    /// Writes `bytes` from the offset `off` on.
+    ///
+    /// # Errors
+    ///
+    /// `Memory`, with the frame as it was.
+    pub fn write<'a>(
+        &mut self,
+        writ: &Writ,
+        off: u16,
+        bytes: &'a [u8],
+    ) -> Result<Written<'a>, Memory>
+        requires range { off + length bytes.now ≤ FRAME_SIZE }
+        requires right { IsTrue (covers writ.now self.old.after.owner self.old.after.number off (length bytes.now)) }
+        ensures before { self.new.before ≡ self.old.before }
+        ensures written { OnOk result (IsWrite self.old.after self.new.after writ.now off bytes.now) }
+        ensures kept { IsKept self.new.after }
+        ensures receipt { IfOk result (λ r. r ≡ writing_of self.old.after off bytes.now writ.now.writer) }
+        ensures refused { OnErr result (self.new.after ≡ self.old.after) }
+    {
+        self.frame.write(writ, off, bytes)
+    }
+
+    /// Copies `len` of its own bytes. The ranges may overlap: what is written is what the source range held before.
+    ///
+    /// # Errors
+    ///
+    /// `Memory`, with the frame as it was.
+    pub(crate) fn copy_within(
+        &mut self,
+        writ: &Writ,
+        from_off: u16,
+        to_off: u16,
+        len: u16,
+    ) -> Result<Copied, Memory>
+        requires source { from_off + len ≤ FRAME_SIZE }
+        requires dest { to_off + len ≤ FRAME_SIZE }
+        requires right { IsTrue (covers writ.now self.old.after.owner self.old.after.number to_off len) }
+        ensures before { self.new.before ≡ self.old.before }
+        ensures written { OnOk result (IsWrite self.old.after self.new.after writ.now to_off
+            (bytes_at self.old.after from_off len)) }
+        ensures kept { IsKept self.new.after }
+        ensures receipt { IfOk result (λ r.
+            r ≡ copying_of self.old.after from_off self.old.after to_off len writ.now.writer) }
+        ensures refused { OnErr result (self.new.after ≡ self.old.after) }
+    {
+        self.frame.copy_within(writ, from_off, to_off, len)
+    }
+
+    /// Copies `len` bytes of another locked frame.
+    ///
+    /// # Errors
+    ///
+    /// `Memory`, with the frame as it was.
+    pub(crate) fn copy_from(
+        &mut self,
+        from: &Lent<'p>,
+        writ: &Writ,
+        from_off: u16,
+        to_off: u16,
+        len: u16,
+    ) -> Result<Copied, Memory>
+        requires source { from_off + len ≤ FRAME_SIZE }
+        requires dest { to_off + len ≤ FRAME_SIZE }
+        requires right { IsTrue (covers writ.now self.old.after.owner self.old.after.number to_off len) }
+        ensures before { self.new.before ≡ self.old.before }
+        ensures written { OnOk result (IsWrite self.old.after self.new.after writ.now to_off
+            (bytes_at from.now.after from_off len)) }
+        ensures kept { IsKept self.new.after }
+        ensures receipt { IfOk result (λ r.
+            r ≡ copying_of from.now.after from_off self.old.after to_off len writ.now.writer) }
+        ensures refused { OnErr result (self.new.after ≡ self.old.after) }
+    {
+        Frame::copy_between(&from.frame, &mut self.frame, writ, from_off, to_off, len)
+    }
+
+    /// Frees the frame. The visits tell then how it was when it was locked, and how it is now.
+    pub fn free(self, visits: &mut Visits)
+        ensures { visits.new ≡ visits.old ++ self.entry ∷ [] }
+    {
+        let Lent { frame, start } = self;
+        visits.history = visits.history.and(&start, &*frame);
+    }
+}
