@@ -11,3 +11,4 @@ pub mod Rows
 pub mod Domains
 pub mod Starting
 pub mod Tries
+pub mod Halves
