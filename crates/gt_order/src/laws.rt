@@ -1,0 +1,14 @@
+//! What the definitions of this crate come to. Each law is a function that does nothing, whose contract is the law.
+ghost use Rattle.gt_order.specs.Laws.{CoreSeesTheWords, StepsKeepAgreement};
+
+/// A law: where the items and the history have made the same of all words, the core's step sees what the step of the
+/// words shows, if that says what is there.
+pub fn core_sees_the_words()
+    ensures { CoreSeesTheWords }
+{}
+
+/// A law: where they have made the same of all words, and the next step of an open call is made on the words and is a
+/// right item, they have made the same after it.
+pub fn steps_keep_agreement()
+    ensures { StepsKeepAgreement }
+{}
