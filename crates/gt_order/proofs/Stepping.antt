@@ -46,13 +46,13 @@ pub record StandsHere (s : Setting) (g : Items) (d : DomId) (c : Underway) (step
   pub here : IsHere s g core.domains d c.request (values c) (reverse c.steps) phase step
   pub clean : IsClean phase c.steps
 
-state-there : (s : Setting) (g : Items) (xs : List State) (d : DomId) → DomainsStand s g xs → domain_of s.domains d ≢ None → (x : State) × (state_of xs d.0 ≡ Some x) × (x.id ≡ d) × Agrees s g x
+pub state-there : (s : Setting) (g : Items) (xs : List State) (d : DomId) → DomainsStand s g xs → domain_of s.domains d ≢ None → (x : State) × (state_of xs d.0 ≡ Some x) × (x.id ≡ d) × Agrees s g x
 state-there s g xs d st named = by (state_of xs d.0) refl (st.each d) where
   by : (o : Option State) → state_of xs d.0 ≡ o → StateAgrees s g d o → (x : State) × (state_of xs d.0 ≡ Some x) × (x.id ≡ d) × Agrees s g x
   by None e a = absurd (named a)
   by (Some x) e a = (x, e, a.1, a.2)
 
-open-there : (s : Setting) (g : Items) (d : DomId) (u : Option Open) (v : Option Underway) (c : Underway) → CallAgrees s g d u v → v ≡ Some c → (o : Open) × OpenAgrees s g d o c
+pub open-there : (s : Setting) (g : Items) (d : DomId) (u : Option Open) (v : Option Underway) (c : Underway) → CallAgrees s g d u v → v ≡ Some c → (o : Open) × OpenAgrees s g d o c
 open-there s g d None None c a e = absurd (none-some c e)
 open-there s g d None (Some z) c a e = absurd a
 open-there s g d (Some o) None c a e = absurd a

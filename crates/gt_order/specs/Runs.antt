@@ -20,7 +20,7 @@ use Rattle.gt_calls.specs.declared.request.Asked.{Asked}
 use Rattle.gt_calls.specs.declared.request.Asked.TheVariants as asks
 use Rattle.gt_calls.specs.declared.request.Request.{Request}
 use Rattle.gt_live.specs.Domains.{AllowRelation, IsDomainOf, knowledge}
-use Rattle.gt_live.specs.Ending.{WaitsForNobody}
+use Rattle.gt_live.specs.Ending.{IsMap, WaitsForNobody}
 use Rattle.gt_live.specs.Mappings.{Adds, KeepsMappings, Removes}
 use Rattle.gt_live.specs.Starting.{IsNewDomain}
 use Rattle.gt_live.specs.Walks.{Called}
@@ -65,7 +65,7 @@ IsAnswered b c may request (Told verdict) steps d e =
     KeepsNoPin verdict × TookSteps b c may request verdict steps d e
     × LeavesMappings (asked request) verdict d.mappings e.mappings
 IsAnswered b c may request (Kept handle p) steps d e =
-    TookSteps b c may request (Mapped p) steps d e × Adds d.mappings e.mappings handle p
+    IsMap (asked request) × TookSteps b c may request (Mapped p) steps d e × Adds d.mappings e.mappings handle p
 IsAnswered b c may request Starved steps d e =
     (steps ≡ []) × (e.seat.view ≡ d.seat.view) × KeepsMappings d.mappings e.mappings
 

@@ -3,4 +3,4 @@
 
 mod laws;
 
-pub use laws::{core_sees_the_words, steps_keep_agreement};
+pub use laws::{core_sees_the_words, every_run_has_a_legal_order, steps_keep_agreement};
