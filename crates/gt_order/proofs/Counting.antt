@@ -1,5 +1,5 @@
 -- Pins, unpins and owners' exchanges keep items and history in agreement.
-use Rattle.std.proofs.Common.{inl, inr, ◌≡◌, ◌≢◌, ℕ, ◌+◌, ◌-◌, ◌*◌, ◌%◌, ◌^◌, ◌<◌, ◌≤◌, Bool, true, false, cond, ◌==◌, ◌&&◌, List, [], ◌∷◌, Option, Some, None, sym, refl, ap, ◌∙◌, subst, arith, eq-eqb, ne_eqb}
+use Rattle.std.proofs.Common.{inl, inr, ◌≡◌, ℕ, ◌+◌, ◌-◌, ◌*◌, ◌%◌, ◌^◌, ◌<◌, Bool, true, false, cond, ◌==◌, ◌&&◌, ◌∷◌, Option, Some, None, sym, refl, ap, ◌∙◌, subst, arith, eq-eqb, ne_eqb}
 use Rattle.std.proofs.lemmas.Bool.{cases_eq}
 use Rattle.gt_types.specs.Config.{IsWithinLimits}
 use Rattle.gt_types.specs.declared.Dir.{Dir}
@@ -12,10 +12,9 @@ use Rattle.gt_entry.specs.Changes.{changed_entry, raise_of}
 use Rattle.gt_entry.specs.Entries.{is_invalid, is_read_only}
 use Rattle.gt_entry.specs.Laws.{control-round}
 use Rattle.gt_entry.specs.Spelling.{control_with, idle_word_of}
-use Rattle.gt_entry.specs.Words.{IsInRange, control_of, control_word, header_word, unit_of}
+use Rattle.gt_entry.specs.Words.{control_of, control_word, header_word, unit_of}
 use Rattle.gt_entry.specs.declared.change.Change.{Change}
 use Rattle.gt_entry.specs.declared.change.Change.TheVariants.{Publish, Revoke, Withdraw, Demote, Promote}
-use Rattle.gt_entry.specs.declared.change.Half.{Half}
 use Rattle.gt_entry.specs.declared.control.Control.{Control}
 use Rattle.gt_entry.specs.declared.control.Kind.{Kind}
 use Rattle.gt_entry.specs.declared.control.Kind.TheVariants as kinds
@@ -23,26 +22,25 @@ use Rattle.gt_entry.specs.declared.entry.Entry.{Entry as EntryOf}
 use Rattle.gt_entry.specs.declared.entry.Entry.TheVariants.{Invalid, Page, Sub, Via}
 use Rattle.gt_words.specs.Conditions.{HasDomain}
 use Rattle.gt_words.specs.Controls.{generation_of, pins_in}
-use Rattle.gt_words.specs.History.{History, Layout, half_index, left_by, place_of, word_after}
+use Rattle.gt_words.specs.History.{History, Layout, half_index, word_after}
 use Rattle.gt_words.specs.Rule.{header_place, layout_of, place, position_in}
 use Rattle.gt_words.specs.Steps.{changed, changed_word}
 use Rattle.gt_words.specs.declared.view.EntryRecord.{EntryRecord}
 use Rattle.gt_words.specs.declared.view.EntryStep.TheVariants.{Pinned, Unpinned, Changed}
 use Rattle.gt_words.specs.declared.view.SeatStep.{SeatStep}
-use Rattle.gt_words.specs.declared.view.SeatStep.TheVariants.{Entry, Header}
+use Rattle.gt_words.specs.declared.view.SeatStep.TheVariants.{Entry}
 use Rattle.gt_calls.specs.declared.held.Held.{Held}
 use Rattle.gt_calls.specs.declared.request.Holder.{Holder}
 use Rattle.gt_calls.specs.declared.action.Seen.{Seen}
 use Rattle.gt_core.proofs.Steps.Observers.{exchanged, exchanged-live, grown-count, kept-entry, kept-raises, kept-table, new_pin, other-entry, other-raises, pinned-live, pins, pins_at, unpinned-live, unpins, unstored}
 use Rattle.gt_core.proofs.Steps.Unpin.{Loses}
-use Rattle.gt_core.proofs.Words.{change_at, count_by, is_pin_on, without}
-use Rattle.gt_core.specs.History.{History as Items, Setting, body_at, control_at, entry_after, entry_at, generation_at, live, raise_after, raises_at, reads_at, same_dir, table_at, word_at, writes_at}
-use Rattle.gt_core.specs.Legal.{IsSafeChange}
+use Rattle.gt_core.proofs.Words.{count_by, is_pin_on, without}
+use Rattle.gt_core.specs.History.{History as Items, Setting, control_at, entry_after, entry_at, generation_at, live, raise_after, raises_at, reads_at, same_dir, word_at, writes_at}
 use Rattle.gt_core.specs.Standing.{FitsWord}
 use Rattle.gt_core.specs.declared.trace.Answer.{Answer}
 use Rattle.gt_core.specs.declared.trace.Item.{Item}
 use Rattle.gt_order.proofs.Kept.{half-few, half-some, word-same}
-use Rattle.gt_order.proofs.Places.{dom-there, header-apart, places-apart, record-else, record-here, record-kept, test-apart, test-same, word-else, word-here}
+use Rattle.gt_order.proofs.Places.{dom-there, header-apart, places-apart, record-else, record-here, record-kept, test-apart, word-else, word-here}
 use Rattle.gt_order.specs.Agreeing.{Agree, dom_at, last_at}
 
 -- counts in a word

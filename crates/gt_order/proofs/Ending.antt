@@ -1,7 +1,7 @@
 -- What the items make of a domain by its own next item: a call begins, goes on, or ends.
-use Rattle.std.proofs.Common.{◌≡◌, ◌≢◌, ℕ, ◌<◌, ◌≤◌, Bool, true, false, cond, ◌==◌, List, [], ◌∷◌, ◌++◌, Option, Some, None, map, sym, refl, ap, ◌∙◌, subst, arith, eq-eqb, append_assoc}
+use Rattle.std.proofs.Common.{◌≡◌, ◌≢◌, ℕ, ◌<◌, Bool, true, false, cond, ◌==◌, List, [], ◌∷◌, ◌++◌, Option, Some, None, sym, refl, ap, ◌∙◌, subst, eq-eqb, append_assoc}
 use Rattle.std.proofs.lemmas.List.{map-append}
-use Rattle.std.proofs.lemmas.Option.{none-some, same_Some}
+use Rattle.std.proofs.lemmas.Option.{none-some}
 use Rattle.gt_types.specs.Config.{IsWithinLimits}
 use Rattle.std.specs.Prelude.{is_none, nat_le, not, ◌||◌}
 use Rattle.gt_types.specs.declared.limits.TheConstants.{MAX_MAPPINGS}
@@ -11,7 +11,6 @@ use Rattle.gt_types.specs.declared.DomId.{DomId}
 use Rattle.gt_types.specs.declared.TypeId.{TypeId}
 use Rattle.gt_types.specs.declared.perms.Perms.{Perms}
 use Rattle.gt_types.specs.declared.rights.Triple.{Triple}
-use Rattle.gt_types.specs.declared.denial.Denial.{Denial}
 use Rattle.gt_types.specs.Denial.{denial_of}
 use Rattle.gt_types.specs.declared.GrantRef.{GrantRef}
 use Rattle.gt_types.specs.declared.denial.Facts.TheVariants.{Policy}
@@ -31,17 +30,16 @@ use Rattle.gt_calls.proofs.Advancing.{opens as starts-open}
 use Rattle.gt_calls.proofs.Saying.{plain-asked, plain-begun}
 use Rattle.gt_calls.specs.Asking.{IsSaid, asked, asked_by, begun_of, bytes_of, given_by, judged_as, plainly_asked}
 use Rattle.gt_calls.specs.Following.{MakesStep as MakesFirst}
-use Rattle.gt_calls.specs.Path.{Continuation, FitsStep, after_beginning, ended, path, path_of, steps_of}
+use Rattle.gt_calls.specs.Path.{FitsStep, after_beginning, path, path_of, steps_of}
 use Rattle.gt_calls.specs.Rules.{CallerKnowledge, begun, denied, first, knowledge_of, map_begun, map_dir, refused_when, rights_to_map, rights_to_unmap, unmap_begun, unmap_denied}
-use Rattle.gt_calls.specs.declared.action.Action.{Action}
 use Rattle.gt_calls.specs.declared.action.Action.TheVariants.{Step as Makes, Done}
 use Rattle.gt_calls.specs.declared.action.Seen.{Seen}
 use Rattle.gt_calls.specs.declared.action.Step.{Step}
 use Rattle.gt_calls.specs.declared.action.Verdict.{Verdict}
-use Rattle.gt_calls.specs.declared.action.Verdict.TheVariants.{Granted, Given, Mapped as KeptPin, Refused}
+use Rattle.gt_calls.specs.declared.action.Verdict.TheVariants.{Mapped as KeptPin, Refused}
 use Rattle.gt_calls.specs.declared.held.Held.{Held}
 use Rattle.gt_calls.specs.declared.request.Asked.{Asked}
-use Rattle.gt_calls.specs.declared.request.Asked.TheVariants.{Grant, Map, Unmap}
+use Rattle.gt_calls.specs.declared.request.Asked.TheVariants.{Map, Unmap}
 use Rattle.gt_calls.specs.declared.request.Request.{Request}
 use Rattle.gt_core.proofs.Beginning.{plain-unmapped}
 use Rattle.gt_core.proofs.Keeping.{open_call-own}
@@ -49,29 +47,28 @@ use Rattle.gt_core.proofs.Mappings.{mappings-same}
 use Rattle.gt_core.proofs.Steps.Observers.{kept-table, stepped}
 use Rattle.gt_core.proofs.Steps.See.{table-fits}
 use Rattle.gt_core.specs.Effects.{Adds}
-use Rattle.gt_core.specs.GoingOn.{IsReached, beginning}
+use Rattle.gt_core.specs.GoingOn.{IsReached}
 use Rattle.gt_core.specs.History.{History as Items, Setting, Underway, known_at, maps_answered_at, mappings_at, one_if_mapped, open_call, seen_by, table_at, underway_after, values}
-use Rattle.gt_core.specs.Legal.{IsRight, LeavesAll}
 use Rattle.gt_core.specs.Standing.{MappingsAgree, answer_of, setting_of}
 use Rattle.gt_core.specs.declared.trace.Answer.{Answer}
 use Rattle.gt_core.specs.declared.trace.Answer.TheVariants.{Mapped}
-use Rattle.gt_core.specs.declared.trace.Happened.TheVariants.{Began, Stepped}
+use Rattle.gt_core.specs.declared.trace.Happened.TheVariants.{Stepped}
 use Rattle.gt_core.specs.declared.trace.Item.{Item}
 use Rattle.gt_live.specs.Domains.{AllowRelation, IsDomainOf, knowledge}
 use Rattle.gt_live.specs.Ending.{IsMap, WaitsForNobody}
 use Rattle.gt_live.specs.Mappings.{Adds as KeepsOneMore, KeepsMappings}
-use Rattle.gt_live.specs.Walks.{after, shown, shown_by, shown_in}
+use Rattle.gt_live.specs.Walks.{shown, shown_by, shown_in}
 use Rattle.gt_live.specs.declared.domain.Domain.{Domain}
 use Rattle.gt_order.proofs.Ends.{KeepsOwn, clean-steps, handles-kept, keeps-own, kept-maps, last-leaves, leaves-known, maps-quiet, stands-open, told-maps}
-use Rattle.gt_order.proofs.Going.{GoesSo, same-way, unanswered}
+use Rattle.gt_order.proofs.Going.{GoesSo, same-way}
 use Rattle.gt_order.proofs.Making.{header-is}
 use Rattle.gt_order.proofs.Resting.{rest-known}
-use Rattle.gt_order.proofs.Stages.{CallNow, SeatNow, Stage, domain_now}
+use Rattle.gt_order.proofs.Stages.{SeatNow}
 use Rattle.gt_order.proofs.Stages.Stage.{Going, Resting}
 use Rattle.gt_order.proofs.Stepping.{state-there}
 use Rattle.gt_order.specs.Agreeing.{Agree, dom_at}
-use Rattle.gt_order.specs.Ordering.{answer_to, item_of, item_of_beginning, items_by, items_by_outcome, items_of_call, items_of_calls, items_of_steps, step_in, way_of}
-use Rattle.gt_order.specs.Runs.{CallMade, IsAnswered, IsAtRest, IsCall, KeepsNoPin, LeavesMappings, Outcome, TookSteps, domain_after}
+use Rattle.gt_order.specs.Ordering.{item_of, item_of_beginning, items_by, items_by_outcome, items_of_call, items_of_calls, items_of_steps, step_in, way_of}
+use Rattle.gt_order.specs.Runs.{CallMade, IsAtRest, IsCall, LeavesMappings, domain_after}
 use Rattle.gt_order.specs.Runs.Outcome.{Told, Kept, Starved}
 
 -- what answers a call at its beginning

@@ -1,11 +1,9 @@
 -- What a domain knows after a step of its call: the same where the call goes on, and where it ends the mappings that the
 -- domain then has.
 use Rattle.std.proofs.Common.{zero, suc, slice_index_or, slice_set, is_some, count_by}
-use Rattle.std.specs.Prelude.{IfSome}
 use Rattle.std.proofs.lemmas.List.Elements.{All-pop}
-use Rattle.std.specs.Option.{option_to_list}
 use Rattle.std.proofs.lemmas.List.Sums.{sum_by-cons}
-use Rattle.gt_core.proofs.Words.{◌≡◌, ◌≢◌, ◌+◌, inl, inr, ℕ, refl, Bool, true, false, cond, ◌==◌, List, [], ◌∷◌, ◌++◌, length, Option, Some, None, sym, ap, ◌∙◌, subst, reverse, same_Some, none-some, arith, eqb-true, fun_ext, All, DomId, domain_of, Held, Handle, HandleMap, Holder, ByMapping, ByLeg, value_of, count_of, Asked, Unmap, Seen, Nothing, Word, Taken, Missed, Step, LookHeader, LookControl, LookBody, PinStep, Unpin, StoreBody, StoreHeader, Exchange, ReadBytes, WriteBytes, CopyBytes, Verdict, Granted, Given, KeptPin, Refused, Makes, Done, Phase, Ending, CallerKnowledge, path, known_at, action_at, Setting, Underway, values, open_call, CallAgrees, OpenAgrees, IsClean, IsRight, StepsRight, StepsRightIn, LeavesAll, Rests, pins_at, PhaseStands, next_to_give, last_first, mapping_of, mappings_at, maps_answered_at, MappingsAgree, one_if_mapped, header_stored, change_at, live, taken, gather, by_mapping, seen_by, word_at, answer_of, FitsStep, Slot, after_beginning, same_handle, Denial, holder_after, FitsNext, eq-eqb, State}
+use Rattle.gt_core.proofs.Words.{◌≡◌, ◌≢◌, ◌+◌, inl, inr, ℕ, refl, Bool, true, false, cond, ◌==◌, List, [], ◌∷◌, ◌++◌, Option, Some, None, sym, ap, ◌∙◌, subst, reverse, same_Some, none-some, arith, eqb-true, fun_ext, All, DomId, domain_of, Held, Handle, HandleMap, ByMapping, ByLeg, value_of, count_of, Asked, Unmap, Seen, Nothing, Word, Taken, Missed, Step, LookHeader, LookControl, LookBody, PinStep, Unpin, StoreBody, StoreHeader, Exchange, ReadBytes, WriteBytes, CopyBytes, Verdict, Granted, Given, KeptPin, Refused, Makes, Done, Phase, Ending, path, known_at, action_at, Setting, Underway, values, open_call, CallAgrees, IsClean, IsRight, StepsRightIn, LeavesAll, Rests, pins_at, PhaseStands, next_to_give, mapping_of, mappings_at, maps_answered_at, MappingsAgree, one_if_mapped, header_stored, change_at, taken, gather, by_mapping, seen_by, word_at, answer_of, FitsStep, Slot, after_beginning, same_handle, Denial, holder_after, FitsNext, eq-eqb, State}
 use Rattle.gt_calls.specs.declared.action.Value.TheVariants.{Frames, Size as SizeTold, Version as VersionTold}
 use Rattle.gt_calls.specs.declared.action.Action.{Action}
 use Rattle.gt_calls.specs.Rules.{begun}
@@ -14,23 +12,21 @@ use Rattle.gt_calls.proofs.Advancing.{leads-here, stands-on}
 use Rattle.gt_core.proofs.Beginning.{plain-unmapped}
 use Rattle.gt_core.proofs.Mappings.{mappings-same}
 use Rattle.gt_core.proofs.Phases.{IsHere, next_of}
-use Rattle.gt_core.proofs.Steps.Observers.{answered-stays, exchanged-live, kept-entry, kept-raises, kept-table, known-as, pins, stepped, unpins}
+use Rattle.gt_core.proofs.Steps.Observers.{answered-stays, exchanged-live, kept-entry, kept-raises, kept-table, known-as, pins, stepped}
 use Rattle.gt_core.proofs.Steps.Pin.{can-pin, leg-maps, map-agrees}
 use Rattle.gt_core.proofs.Steps.Unpin.{leg-mappings, mapping-agrees}
 use Rattle.gt_core.proofs.Values.{MapEnds, call-ends}
 use Rattle.gt_core.specs.Effects.{Adds}
 use Rattle.gt_core.specs.GoingOn.{IsOnWords, IsReached}
 use Rattle.gt_core.specs.History.{History as Items}
-use Rattle.gt_core.specs.declared.trace.Answer.{Answer}
 use Rattle.gt_core.specs.declared.trace.Answer.TheVariants.{Denied, Mapped}
 use Rattle.gt_core.specs.declared.trace.Item.{Item}
-use Rattle.gt_core.specs.declared.underway.Open.{Open}
 use Rattle.gt_handles.specs.Handles.{under}
 use Rattle.gt_live.specs.Ending.{WaitsForNobody}
 use Rattle.gt_live.specs.Mappings.{KeepsMappings, Removes}
 use Rattle.gt_order.proofs.Kept.{KeepsWords, live-kept}
 use Rattle.gt_order.proofs.Stepping.{StandsHere, no-leg, open-there, state-there}
-use Rattle.gt_order.specs.Runs.{KeepsNoPin, LeavesMappings}
+use Rattle.gt_order.specs.Runs.{LeavesMappings}
 
 -- where the core stands at an open call
 

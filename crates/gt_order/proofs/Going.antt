@@ -1,22 +1,15 @@
 -- The next step of a call under way, and its item.
-use Rattle.std.proofs.Common.{◌≡◌, ◌≢◌, ℕ, ◌<◌, ◌≤◌, ◌+◌, Bool, true, false, cond, ◌==◌, List, [], ◌∷◌, ◌++◌, Option, Some, None, map, sym, refl, ap, ◌∙◌, subst, arith, length, reverse}
-use Rattle.std.proofs.lemmas.List.{map-append}
-use Rattle.std.proofs.lemmas.Option.{none-some, same_Some}
+use Rattle.std.proofs.Common.{◌≡◌, ◌≢◌, ℕ, ◌<◌, List, [], ◌∷◌, ◌++◌, Option, Some, None, sym, refl, ap, ◌∙◌, subst, reverse}
 use Rattle.gt_types.specs.Config.{IsWithinLimits}
 use Rattle.gt_types.specs.Names.{domain_of}
 use Rattle.gt_types.specs.declared.DomId.{DomId}
 use Rattle.gt_types.specs.declared.config.Config.{Config}
 use Rattle.gt_types.specs.declared.limits.TheConstants.{TABLE_ENTRIES}
-use Rattle.gt_entry.specs.Words.{header_of, header_word}
-use Rattle.gt_entry.specs.declared.header.Header.{Header}
-use Rattle.gt_handles.specs.Handles.{HandleMap}
 use Rattle.gt_handles.specs.declared.handles.Handle.{Handle}
 use Rattle.gt_words.specs.Conditions.{Board, HasDomain}
-use Rattle.gt_words.specs.History.{History, Layout, Moment, part_of, place_of, word_after}
-use Rattle.gt_words.specs.Rule.{header_place, layout_of}
+use Rattle.gt_words.specs.History.{Layout, Moment}
+use Rattle.gt_words.specs.Rule.{layout_of}
 use Rattle.gt_words.specs.Steps.{StoodWith}
-use Rattle.gt_words.specs.Views.{own_header, own_table, with_step}
-use Rattle.gt_words.specs.declared.view.SeatStep.{SeatStep}
 use Rattle.gt_words.specs.declared.view.View.{View}
 use Rattle.gt_calls.proofs.Saying.{begun-asked}
 use Rattle.gt_calls.specs.Asking.{IsSaid, asked, begun_of}
@@ -29,27 +22,26 @@ use Rattle.gt_calls.specs.declared.action.Step.{Step}
 use Rattle.gt_calls.specs.declared.action.Step.TheVariants.{Unpin}
 use Rattle.gt_calls.specs.declared.action.Verdict.{Verdict}
 use Rattle.gt_calls.specs.declared.held.Held.{Held}
-use Rattle.gt_calls.specs.declared.request.Asked.{Asked}
 use Rattle.gt_calls.specs.declared.request.Holder.{Holder}
 use Rattle.gt_calls.specs.declared.request.Holder.TheVariants.{Mapping as ByMapping, Leg as ByLeg}
 use Rattle.gt_calls.specs.declared.request.Request.{Request}
 use Rattle.gt_core.proofs.GoingOn.{open-calls-can-go-on}
 use Rattle.gt_core.proofs.Steps.Observers.{stepped}
 use Rattle.gt_core.specs.GoingOn.{AnsweredSo, IsOnWords, IsReached}
-use Rattle.gt_core.specs.History.{History as Items, Setting, Underway, known_at, mapping_of, mappings_at, maps_answered_at, open_call, seen_by, values}
+use Rattle.gt_core.specs.History.{History as Items, Setting, Underway, known_at, mapping_of, mappings_at, seen_by, values}
 use Rattle.gt_core.specs.Legal.{IsRight}
-use Rattle.gt_core.specs.Standing.{MappingsAgree, setting_of}
+use Rattle.gt_core.specs.Standing.{setting_of}
 use Rattle.gt_core.specs.declared.trace.Answer.{Answer}
 use Rattle.gt_live.proofs.Making.{made-fits}
 use Rattle.gt_live.proofs.Walking.{after-position}
-use Rattle.gt_live.specs.Domains.{AllowRelation, IsDomainOf, knowledge}
+use Rattle.gt_live.specs.Domains.{AllowRelation, knowledge}
 use Rattle.gt_live.specs.Ending.{WaitsForNobody}
 use Rattle.gt_live.specs.Walks.{Made, MakesStep, after, shown, shown_by, shown_in}
 use Rattle.gt_live.specs.declared.domain.Domain.{Domain}
 use Rattle.gt_order.proofs.Making.{MadeAs, made-as, on-words, one-moment}
 use Rattle.gt_order.proofs.Seeing.{sees}
-use Rattle.gt_order.proofs.Stages.{SeatNow, Stage}
-use Rattle.gt_order.proofs.Stages.Stage.{Going, Resting}
+use Rattle.gt_order.proofs.Stages.{SeatNow}
+use Rattle.gt_order.proofs.Stages.Stage.{Going}
 use Rattle.gt_order.proofs.Stepping.{StandsHere, no-leg, stands-here, step-kept, within}
 use Rattle.gt_order.specs.Agreeing.{Agree, IsThe, IsWithin, dom_at}
 use Rattle.gt_order.specs.Ordering.{way_of}

@@ -1,32 +1,27 @@
 -- Each step keeps items and history in agreement.
-use Rattle.std.proofs.Common.{inl, inr, ◌≡◌, ◌≢◌, ℕ, ◌+◌, ◌-◌, ◌*◌, ◌%◌, ◌^◌, ◌<◌, ◌≤◌, Bool, true, false, cond, ◌==◌, ◌&&◌, List, ◌∷◌, sym, refl, ap, ◌∙◌, subst, arith, eq-eqb, ne_eqb}
+use Rattle.std.proofs.Common.{inl, inr, ◌≡◌, ℕ, ◌+◌, ◌<◌, Bool, true, false, cond, ◌==◌, ◌&&◌, List, ◌∷◌, sym, refl, ap, ◌∙◌, subst, arith, eq-eqb, ne_eqb}
 use Rattle.std.proofs.lemmas.Bool.{cases_eq}
 use Rattle.gt_types.specs.Config.{IsWithinLimits}
-use Rattle.gt_types.specs.declared.Dir.{Dir}
-use Rattle.gt_types.specs.declared.Dir.TheVariants.{Read, Write}
 use Rattle.gt_types.specs.declared.DomId.{DomId}
 use Rattle.gt_types.specs.declared.config.Config.{Config}
 use Rattle.gt_types.specs.declared.limits.TheConstants.{TABLE_ENTRIES}
 use Rattle.gt_entry.specs.Spelling.{control_with}
-use Rattle.gt_entry.specs.Words.{control_word, header_word, unit_of}
+use Rattle.gt_entry.specs.Words.{control_word, header_word}
 use Rattle.gt_entry.specs.declared.change.Half.{Half}
 use Rattle.gt_entry.specs.declared.change.Half.TheVariants.{First, Second}
-use Rattle.gt_entry.specs.declared.entry.Entry.{Entry as EntryOf}
-use Rattle.gt_entry.specs.declared.entry.Entry.TheVariants.{Invalid, Page, Sub, Via}
-use Rattle.gt_words.specs.History.{History, Layout, half_index, left_by, place_of, word_after}
+use Rattle.gt_words.specs.History.{History, Layout, half_index, left_by, word_after}
 use Rattle.gt_words.specs.Rule.{header_place, layout_of, place}
-use Rattle.gt_words.specs.declared.view.EntryStep.{EntryStep}
-use Rattle.gt_words.specs.declared.view.EntryStep.TheVariants.{Looked, ReadBody, Pinned, PinMissed, Unpinned, StoredBody, Changed, ChangeMissed}
+use Rattle.gt_words.specs.declared.view.EntryStep.TheVariants.{StoredBody}
 use Rattle.gt_words.specs.declared.view.HeaderStep.TheVariants as header
 use Rattle.gt_words.specs.declared.view.SeatStep.{SeatStep}
 use Rattle.gt_words.specs.declared.view.SeatStep.TheVariants.{Entry, Header}
 use Rattle.gt_core.proofs.Steps.Observers.{kept-entry, kept-raises, kept-table, other-body, other-table, stepped, unstored}
 use Rattle.gt_core.proofs.Words.{GrantRef, None, Option, Pin, Seen, Some, StoreBody, StoreHeader, [], append-nil, header_or, or_else, pinned_by, unpinned_by, ◌++◌}
 use Rattle.gt_words.specs.declared.view.EntryRecord.{EntryRecord}
-use Rattle.gt_core.specs.History.{History as Items, Setting, body_at, change_at, control_at, entry_at, generation_at, header_stored, live, raises_at, reads_at, same_half, stored_at, table_at, word_at, writes_at}
+use Rattle.gt_core.specs.History.{History as Items, Setting, body_at, change_at, entry_at, generation_at, header_stored, live, raises_at, reads_at, same_half, stored_at, table_at, word_at, writes_at}
 use Rattle.gt_core.specs.declared.trace.Answer.{Answer}
 use Rattle.gt_core.specs.declared.trace.Item.{Item}
-use Rattle.gt_order.proofs.Places.{ChangesNothing, header-apart, headers-apart, one-position, places-apart, record-else, record-here, record-kept, test-apart, test-same, word-else, word-here, word-kept}
+use Rattle.gt_order.proofs.Places.{ChangesNothing, header-apart, headers-apart, places-apart, record-kept, test-apart, word-else, word-here, word-kept}
 use Rattle.gt_order.specs.Agreeing.{Agree, dom_at, last_at}
 
 -- the word of an entry whose parts are the same is the same

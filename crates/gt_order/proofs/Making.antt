@@ -1,20 +1,14 @@
 -- What a call's step is among the steps of the history.
-use Rattle.std.proofs.Common.{◌≡◌, ℕ, refl, sym, ap, ◌∙◌, subst, List, [], ◌∷◌, Option, Some, None, get_or, map, zero, suc, arith, ◌<◌}
-use mathlib.Core.Option.{some, some-injective, some-ne-none}
-use lib.ListN.{get_elem?}
-use Rattle.atomic_table.specs.Table.{State}
+use Rattle.std.proofs.Common.{◌≡◌, ℕ, refl, sym, ap, ◌∙◌, subst, [], ◌∷◌, get_or, map, arith, ◌<◌}
 use Rattle.atomic_table.proofs.Lists.{at_map}
-use Rattle.gt_types.specs.declared.DomId.{DomId}
 use Rattle.gt_entry.specs.declared.change.Change.{Change}
 use Rattle.gt_entry.specs.declared.change.Change.TheVariants.{Publish, Revoke, Withdraw, Demote, Promote}
-use Rattle.gt_entry.specs.declared.change.Half.{Half}
 use Rattle.gt_words.proofs.Lists.{whose_at}
-use Rattle.gt_words.specs.History.{History, Layout, Moment, Says, part_of, place_of, up_to, word_after}
-use Rattle.gt_words.specs.Rule.{Stands, header_place, position_in}
+use Rattle.gt_words.specs.History.{History, Layout, Moment, Says, place_of, word_after}
+use Rattle.gt_words.specs.Rule.{header_place}
 use Rattle.gt_words.specs.Steps.{StoodWith, TakesStep, changed, changed_word}
 use Rattle.gt_words.specs.Views.{entry_steps, last_of, last_record, own_header, steps_on_header, with_step, stored_header}
 use Rattle.gt_words.specs.declared.view.EntryRecord.{EntryRecord}
-use Rattle.gt_words.specs.declared.view.HeaderStep.{HeaderStep}
 use Rattle.gt_words.specs.declared.view.SeatStep.{SeatStep}
 use Rattle.gt_words.specs.declared.view.View.{View}
 use Rattle.gt_calls.specs.declared.action.Seen.{Seen}

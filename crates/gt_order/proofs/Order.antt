@@ -1,60 +1,51 @@
 -- Each run of the monitor has a legal order: by its history, from the newest step back.
-use Rattle.std.proofs.Common.{◌≡◌, ◌≢◌, ℕ, zero, suc, ◌+◌, ◌<◌, ◌≤◌, Bool, true, false, cond, ◌==◌, List, [], ◌∷◌, ◌++◌, length, Option, Some, None, sym, refl, ap, ◌∙◌, subst, arith, ◌⊎◌, inl, inr, eq-eqb, ne_eqb}
+use Rattle.std.proofs.Common.{◌≡◌, ◌≢◌, ℕ, zero, suc, ◌<◌, ◌≤◌, Bool, cond, ◌==◌, List, [], ◌∷◌, ◌++◌, length, Option, Some, None, sym, refl, ap, ◌∙◌, subst, arith, ◌⊎◌, inl, inr, eq-eqb, ne_eqb}
 use Rattle.std.proofs.lemmas.Bool.{cases_eq, cases_lt}
 use Rattle.std.specs.Prelude.{IsSome}
-use mathlib.Core.Option.{some}
-use lib.ListN.{get_elem?}
-use Rattle.atomic_table.specs.Table.{State}
 use Rattle.gt_types.specs.Config.{IsWithinLimits}
 use Rattle.gt_types.specs.Names.{domain_of}
 use Rattle.gt_types.specs.declared.DomId.{DomId}
 use Rattle.gt_types.specs.declared.config.Config.{Config}
 use Rattle.gt_types.specs.declared.config.DomainConfig.{DomainConfig}
-use Rattle.gt_words.proofs.Order.{part_else, part_here, up_else, up_here, within as at-within}
+use Rattle.gt_words.proofs.Order.{part_else, part_here, up_else}
 use Rattle.gt_words.specs.Conditions.{Board, HasDomain, SeatOf}
 use Rattle.gt_words.specs.History.{History, Layout, Moment, part_of, up_to}
-use Rattle.gt_words.specs.Laws.{domain_of_run, length-ids, seat_at}
-use Rattle.gt_words.specs.Rule.{Shows, layout_of, position_in}
+use Rattle.gt_words.specs.Laws.{domain_of_run, seat_at}
+use Rattle.gt_words.specs.Rule.{layout_of, position_in}
 use Rattle.gt_words.specs.Views.{with_step}
 use Rattle.gt_words.specs.declared.view.SeatStep.{SeatStep}
 use Rattle.gt_words.specs.declared.view.View.{View}
 use Rattle.gt_calls.specs.Asking.{IsSaid, asked, begun_of}
-use Rattle.gt_calls.specs.Path.{path, path_of, steps_of}
+use Rattle.gt_calls.specs.Path.{path, steps_of}
 use Rattle.gt_calls.specs.Rules.{CallerKnowledge}
 use Rattle.gt_calls.specs.declared.action.Action.{Action}
 use Rattle.gt_calls.specs.declared.action.Action.TheVariants.{Step as Makes, Done}
-use Rattle.gt_calls.specs.declared.action.Seen.{Seen}
-use Rattle.gt_calls.specs.declared.action.Step.{Step}
 use Rattle.gt_calls.specs.declared.action.Verdict.{Verdict}
 use Rattle.gt_calls.specs.declared.action.Verdict.TheVariants.{Granted, Given, Mapped as KeptPin, Refused}
-use Rattle.gt_calls.specs.declared.held.Held.{Held}
 use Rattle.gt_calls.specs.declared.request.Request.{Request}
-use Rattle.gt_handles.specs.declared.handles.Handle.{Handle}
 use Rattle.gt_core.proofs.GoingOn.{calls-can-begin}
 use Rattle.gt_core.proofs.Steps.Observers.{stepped}
 use Rattle.gt_core.specs.GoingOn.{AnsweredSo, IsReached, MayBeGiven, begin_answer, beginning}
 use Rattle.gt_core.specs.History.{History as Items, Setting, known_at, seen_by, table_at, values}
 use Rattle.gt_core.specs.Legal.{IsRight}
 use Rattle.gt_core.specs.Standing.{answer_of, setting_of}
-use Rattle.gt_core.specs.declared.trace.Answer.{Answer}
 use Rattle.gt_core.specs.declared.trace.Answer.TheVariants.{Mapped}
-use Rattle.gt_core.specs.declared.trace.Item.{Item}
 use Rattle.gt_live.proofs.Walking.{after-position}
 use Rattle.gt_live.specs.Domains.{AllowRelation, knowledge}
 use Rattle.gt_live.specs.Starting.{IsNewDomain}
-use Rattle.gt_live.specs.Walks.{Called, IsWalk, MakesStep, after, shown, shown_by, shown_in}
+use Rattle.gt_live.specs.Walks.{IsWalk, MakesStep, after, shown, shown_by, shown_in}
 use Rattle.gt_live.specs.declared.domain.Domain.{Domain}
 use Rattle.gt_order.proofs.Ending.{RefusesOnly, answered-at-once, answers, asked-refuses, begins, core-adds, ends-kept, ends-told, going-on, keeps-at-once, known-alike, no-pin-at-once, starves}
-use Rattle.gt_order.proofs.Going.{GoesSo, goes-so, on-way, unanswered}
+use Rattle.gt_order.proofs.Going.{goes-so, on-way, unanswered}
 use Rattle.gt_order.proofs.Making.{made-as, one-moment}
 use Rattle.gt_order.proofs.Resting.{can-be-answered, keeps-agreement}
-use Rattle.gt_order.proofs.Stages.{Fits, IsGoing, IsStage, Ordered, SeatNow, Stage, one-more, view_now}
+use Rattle.gt_order.proofs.Stages.{Fits, IsGoing, Ordered, SeatNow, Stage, one-more}
 use Rattle.gt_order.proofs.Stages.Stage.{Going, Resting}
 use Rattle.gt_order.proofs.Start.{ordered-first}
-use Rattle.gt_order.specs.Agreeing.{Agree, dom_at}
+use Rattle.gt_order.specs.Agreeing.{dom_at}
 use Rattle.gt_order.specs.Laws.{RunsHaveLegalOrders}
-use Rattle.gt_order.specs.Ordering.{AreStepsOf, IsLegalOrder, item_of_beginning, way_of}
-use Rattle.gt_order.specs.Runs.{AreCalls, CallMade, IsAnswered, IsAtRest, IsCall, IsRun, KeepsNoPin, LeavesMappings, Outcome, SeatRun, TookSteps, domain_after}
+use Rattle.gt_order.specs.Ordering.{IsLegalOrder, item_of_beginning, way_of}
+use Rattle.gt_order.specs.Runs.{AreCalls, CallMade, IsAnswered, IsAtRest, IsCall, KeepsNoPin, Outcome, TookSteps, domain_after}
 use Rattle.gt_order.specs.Runs.Outcome.{Told, Kept, Starved}
 
 -- a stage in the place of another

@@ -4,7 +4,7 @@ use Rattle.std.proofs.lemmas.Bool.{cases_lt}
 use Rattle.std.proofs.lemmas.Option.{slice_get_past}
 use Rattle.std.specs.Prelude.{position}
 use Rattle.gt_calls.specs.declared.known.Own.{Own}
-use Rattle.gt_core.proofs.Words.{◌≡◌, ◌≢◌, ◌+◌, ◌<◌, ◌≤◌, inl, inr, ℕ, refl, Bool, true, false, List, [], ◌∷◌, length, Option, Some, None, is_some, sym, ap, ◌∙◌, subst, same_Some, none-some, arith, fun_ext, DomId, domain_of, Entry, Request, begun_of, Verdict, CallerKnowledge, knowledge_of, known_at, Setting, open_call, CallAgrees, Agrees, CoreStands, State, state_of, IsRight, MappingsAgree, mappings_at, maps_answered_at, entry_at, generation_at, table_at, entry_in, generation_in, row_entry, row_generation, answer_of, TABLE_ENTRIES, LAST_GENERATION, min, slice_get, header_stored, stored_at, Half, Underway}
+use Rattle.gt_core.proofs.Words.{◌≡◌, ◌≢◌, ◌+◌, ◌<◌, ◌≤◌, inl, inr, ℕ, refl, false, List, ◌∷◌, length, Option, Some, None, is_some, sym, ap, ◌∙◌, subst, same_Some, none-some, arith, fun_ext, DomId, domain_of, Entry, Request, begun_of, Verdict, CallerKnowledge, knowledge_of, known_at, Setting, open_call, CallAgrees, Agrees, State, state_of, IsRight, MappingsAgree, mappings_at, maps_answered_at, entry_at, generation_at, table_at, entry_in, generation_in, row_entry, row_generation, answer_of, TABLE_ENTRIES, slice_get, header_stored, stored_at, Half, Underway}
 use Rattle.gt_core.proofs.Beginning.{begin-answers}
 use Rattle.gt_core.proofs.Keeping.{known-same}
 use Rattle.gt_core.proofs.Playing.{legal-grows}
@@ -23,7 +23,6 @@ use Rattle.gt_entry.specs.Words.{header_word}
 use Rattle.gt_types.specs.declared.config.Config.{Config}
 use Rattle.gt_words.specs.Conditions.{Board}
 use Rattle.gt_words.specs.History.{History, Layout, part_of}
-use Rattle.gt_words.specs.Rule.{layout_of}
 use Rattle.gt_words.specs.Views.{entry_steps, last_of, last_record, own_table}
 use Rattle.gt_words.specs.declared.view.EntryRecord.{EntryRecord}
 use Rattle.gt_live.specs.Domains.{AllowRelation, IsDomainOf, knowledge}

@@ -1,5 +1,5 @@
 -- Where each domain of a run is, after some steps of the history, and the items so far.
-use Rattle.std.proofs.Common.{◌≡◌, ◌≢◌, ℕ, ◌<◌, ◌≤◌, Bool, true, false, cond, ◌==◌, List, [], ◌∷◌, ◌++◌, Option, Some, None, map, sym, refl, ap, ◌∙◌, subst, arith, inl, inr, eq-eqb, ne_eqb}
+use Rattle.std.proofs.Common.{◌≡◌, ◌≢◌, ℕ, ◌<◌, Bool, false, cond, ◌==◌, List, [], ◌∷◌, ◌++◌, Option, Some, None, sym, refl, ap, ◌∙◌, subst, inl, inr}
 use Rattle.std.proofs.lemmas.Bool.{cases_eq}
 use Rattle.gt_types.specs.Config.{IsWithinLimits}
 use Rattle.gt_types.specs.Names.{domain_of}
@@ -30,7 +30,7 @@ use Rattle.gt_live.specs.Walks.{IsWalk, after, shown}
 use Rattle.gt_live.specs.declared.domain.Domain.{Domain}
 use Rattle.gt_order.proofs.Places.{test-apart}
 use Rattle.gt_order.specs.Agreeing.{Agree, dom_at}
-use Rattle.gt_order.specs.Ordering.{AreStepsOf, ThenSteps, event_in, events_of, item_of_beginning, items_by, items_of_calls, items_of_steps, trace_of, way_of}
+use Rattle.gt_order.specs.Ordering.{AreStepsOf, event_in, events_of, item_of_beginning, items_by, items_of_calls, items_of_steps, trace_of, way_of}
 use Rattle.gt_order.specs.Runs.{AreCalls, CallMade, IsAtRest, IsCall, domain_after}
 
 -- where a domain is: between two calls, after these; or after these in a call that has made these steps

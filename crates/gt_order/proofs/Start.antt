@@ -1,5 +1,5 @@
 -- Before the first step of all: no items, and no history.
-use Rattle.std.proofs.Common.{◌≡◌, ◌≢◌, ℕ, zero, suc, ◌+◌, ◌*◌, ◌/◌, ◌%◌, ◌<◌, ◌≤◌, Bool, true, false, cond, ◌==◌, List, [], ◌∷◌, length, map, get_or, Option, Some, None, sym, refl, ap, ◌∙◌, subst, arith, eq-eqb, ne_eqb}
+use Rattle.std.proofs.Common.{◌≡◌, ◌≢◌, ℕ, zero, suc, ◌+◌, ◌*◌, ◌/◌, ◌%◌, ◌<◌, Bool, true, false, cond, ◌==◌, List, [], ◌∷◌, length, map, get_or, Option, Some, None, sym, refl, ap, ◌∙◌, subst, arith, eq-eqb, ne_eqb}
 use Rattle.gt_types.specs.Config.{IsWithinLimits}
 use Rattle.gt_types.specs.Names.{domain_of}
 use Rattle.gt_types.specs.declared.DomId.{DomId}
@@ -9,13 +9,12 @@ use Rattle.gt_types.specs.declared.limits.TheConstants.{TABLE_ENTRIES}
 use Rattle.gt_entry.specs.Words.{header_of, header_word}
 use Rattle.gt_entry.specs.declared.change.Half.{Half}
 use Rattle.gt_entry.specs.declared.change.Half.TheVariants.{First, Second}
-use Rattle.gt_entry.specs.declared.header.Header.{Header}
 use Rattle.gt_handles.specs.Handles.{HandleMap}
 use Rattle.gt_words.specs.Conditions.{Board}
-use Rattle.gt_words.specs.History.{Layout, half_index, initial, word_after}
+use Rattle.gt_words.specs.History.{Layout, half_index, initial}
 use Rattle.gt_words.specs.Laws.{id_at-map}
 use Rattle.gt_words.specs.Rule.{first_header, header_place, layout_of, place}
-use Rattle.gt_words.specs.Views.{header_steps, own_header, own_table, stored_header}
+use Rattle.gt_words.specs.Views.{header_steps, own_header, stored_header}
 use Rattle.gt_calls.specs.declared.held.Held.{Held}
 use Rattle.gt_core.proofs.GoingOn.{runs-start}
 use Rattle.gt_core.proofs.Mappings.{no-handles}
@@ -29,7 +28,7 @@ use Rattle.gt_live.specs.Starting.{IsNewDomain}
 use Rattle.gt_live.specs.declared.domain.Domain.{Domain}
 use Rattle.gt_order.proofs.Resting.{rest-known}
 use Rattle.gt_order.proofs.Stages.{Ordered, SeatNow, Stage}
-use Rattle.gt_order.proofs.Stages.Stage.{Going, Resting}
+use Rattle.gt_order.proofs.Stages.Stage.{Resting}
 use Rattle.gt_order.proofs.Stepping.{state-there}
 use Rattle.gt_order.specs.Agreeing.{Agree, dom_at}
 

@@ -1,5 +1,5 @@
 -- A step of an open call keeps items and history in agreement.
-use Rattle.gt_core.proofs.Words.{◌≡◌, ◌≢◌, ◌<◌, ◌≤◌, ◌⊎◌, inl, inr, ℕ, refl, Bool, true, false, not, List, [], ◌∷◌, ◌++◌, Option, Some, None, is_none, sym, ap, ◌∙◌, subst, reverse, same_Some, none-some, arith, DomId, GrantRef, domain_of, Dir, Entry as EntryOf, Change, Publish, ToInvalid, ToWithdrawn, ToReadOnly, ToWritable, Half, FirstHalf, SecondHalf, Held, Holder, ByMapping, ByLeg, Asked, Map, Grant, Copy, Seen, Nothing, Word, Taken, Missed, Step, LookHeader, LookControl, LookBody, PinStep, Unpin, StoreBody, StoreHeader, Exchange, ReadBytes, WriteBytes, CopyBytes, Action, Makes, Done, State, state_of, Phase, Storing, StoringSecond, Exchanging, Looking, Changing, Walking, Accessing, Asking, Last, Ending, AsksSize, AsksVersion, CallerKnowledge, path, known_at, action_at, Setting, Underway, HasShown, PhaseStands, Rests, pins_at, DomainConfig, values, open_call, DomainsStand, Agrees, CallAgrees, OpenAgrees, StateAgrees, CoreStands, IsClean, IsRight, IsSafe, begun, entry_at, table_at, reads_at, writes_at, control_at, live, without, mapping_of, mappings_at, last_first, next_to_give, size_of, TABLE_ENTRIES, CoreState}
+use Rattle.gt_core.proofs.Words.{◌≡◌, ◌≢◌, ◌<◌, ◌≤◌, inl, inr, ℕ, refl, Bool, true, false, not, List, ◌∷◌, Option, Some, None, sym, ap, ◌∙◌, subst, reverse, same_Some, none-some, arith, DomId, GrantRef, domain_of, Entry as EntryOf, Change, Publish, ToInvalid, ToWithdrawn, ToReadOnly, ToWritable, FirstHalf, SecondHalf, Held, Holder, ByMapping, ByLeg, Asked, Grant, Seen, Nothing, Word, Taken, Missed, Step, LookHeader, LookControl, LookBody, PinStep, Unpin, StoreBody, StoreHeader, Exchange, ReadBytes, WriteBytes, CopyBytes, Makes, Done, State, state_of, Phase, Storing, StoringSecond, Exchanging, Looking, Changing, Walking, Accessing, Asking, Last, Ending, path, known_at, action_at, Setting, Underway, HasShown, PhaseStands, Rests, pins_at, DomainConfig, values, open_call, DomainsStand, Agrees, CallAgrees, OpenAgrees, StateAgrees, CoreStands, IsClean, IsRight, IsSafe, begun, entry_at, table_at, reads_at, writes_at, next_to_give, size_of, TABLE_ENTRIES, CoreState}
 use Rattle.std.specs.Prelude.{IsSome}
 use Rattle.gt_core.proofs.Phases.{IsHere, by-leg, by-quiet}
 use Rattle.gt_core.proofs.EachStep.{each-step}
@@ -14,7 +14,7 @@ use Rattle.gt_core.specs.declared.underway.Open.{Open}
 use Rattle.gt_core.specs.Legal.{IsSafeChange}
 use Rattle.gt_entry.specs.Entries.{is_read_only}
 use Rattle.gt_calls.specs.declared.request.Asked.TheVariants.{Demote, Promote}
-use Rattle.gt_core.specs.Standing.{FitsWord, setting_of}
+use Rattle.gt_core.specs.Standing.{setting_of}
 use Rattle.gt_calls.specs.Opening.{opens}
 use Rattle.gt_types.specs.Config.{IsWithinLimits}
 use Rattle.gt_types.specs.declared.config.Config.{Config}
@@ -23,7 +23,6 @@ use Rattle.gt_words.specs.History.{History, Layout, Says, place_of, word_after}
 use Rattle.gt_words.specs.Laws.{domain_of_run}
 use Rattle.gt_words.specs.Rule.{layout_of, place}
 use Rattle.gt_words.specs.Steps.{changed, changed_word}
-use Rattle.gt_words.specs.declared.view.EntryRecord.{EntryRecord}
 use Rattle.gt_words.specs.declared.view.EntryStep.TheVariants.{Looked, ReadBody, Pinned, PinMissed, Unpinned, StoredBody, Changed, ChangeMissed}
 use Rattle.gt_words.specs.declared.view.HeaderStep.TheVariants as header
 use Rattle.gt_words.specs.declared.view.SeatStep.{SeatStep}
@@ -32,8 +31,7 @@ use Rattle.gt_live.specs.Domains.{AllowRelation}
 use Rattle.gt_live.specs.Ending.{WaitsForNobody}
 use Rattle.gt_live.specs.Walks.{shown_in}
 use Rattle.gt_order.proofs.Counting.{IsIdleFor, IsTurned, changes-entry, gives-back, takes-pin}
-use Rattle.gt_order.proofs.Kept.{KeepsWords, quiet, stores-body, stores-header}
-use Rattle.gt_order.proofs.Places.{dom-there}
+use Rattle.gt_order.proofs.Kept.{quiet, stores-body, stores-header}
 use Rattle.gt_order.specs.Agreeing.{Agree, IsThe, IsWithin, StoresChange, dom_at, last_at}
 use Rattle.gt_order.specs.Laws.{StepsKeepAgreement}
 

@@ -1,5 +1,5 @@
 -- When the items of the core and the steps of the words have made the same of all entries and headers.
-use Rattle.std.specs.Prelude.{◌≡◌, ℕ, ◌<◌, ◌∷◌}
+use Rattle.std.specs.Prelude.{◌≡◌, ℕ, ◌<◌}
 use Rattle.gt_types.specs.declared.limits.TheConstants.{TABLE_ENTRIES}
 use Rattle.gt_entry.specs.Words.{header_word}
 use Rattle.gt_entry.specs.declared.change.Half.{Half}
