@@ -140,8 +140,8 @@ impl Domain {
         ensures silent { self.new.trail ≡ self.old.trail }
     {
         let caller = self.seat.dom();
-        let domains = &monitor.config.domains;
-        if let Some(verdict) = judge_own_access(domains, caller, frame, off, usize::from(len)) {
+        let config = &monitor.config;
+        if let Some(verdict) = judge_own_access(config, caller, frame, off, usize::from(len)) {
             return Err(refusal_of(verdict));
         }
         let name = FrameName {
@@ -203,8 +203,8 @@ impl Domain {
         ensures silent { self.new.trail ≡ self.old.trail }
     {
         let caller = self.seat.dom();
-        let domains = &monitor.config.domains;
-        if let Some(verdict) = judge_own_access(domains, caller, frame, off, bytes.len()) {
+        let config = &monitor.config;
+        if let Some(verdict) = judge_own_access(config, caller, frame, off, bytes.len()) {
             return Err(refusal_of(verdict));
         }
         let name = FrameName {

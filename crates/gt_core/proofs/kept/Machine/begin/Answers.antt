@@ -1,6 +1,6 @@
 use Rattle.gt_core.proofs.Words.{sym, ◌∙◌, ap, Some, ◌≡◌, ℕ, List, refl, subst, None, Option, position, is_some, Open, with_call, given_by, State, kept_by, ◌<◌, ◌+◌, knowledge_of, DomainsStand, Opens, same_Some, set, ◌∷◌, Opening, ◌^◌}
-use Rattle.gt_core.{proofs.Beginning.serial-left, proofs.Beginning.begin-wants, proofs.Beginning.begin-nowhere, proofs.Beginning.begin-busy, proofs.Beginning.begin-answers, proofs.Beginning.begin-opened, proofs.Beginning.place-at, proofs.Beginning.began, proofs.Rows.has_id, proofs.Rows.on-err, specs.Standing.setting_by}
-use Rattle.gt_core.proofs.machine.Machine.begin.Goals as goal
+use Rattle.gt_core.{proofs.Beginning.serial-left, proofs.Beginning.begin-wants, proofs.Beginning.begin-nowhere, proofs.Beginning.begin-busy, proofs.Beginning.begin-answers, proofs.Beginning.begin-opened, proofs.Beginning.place-at, proofs.Beginning.began, proofs.Placed.either-way, proofs.Placed.ids-set, proofs.Rows.has_id, proofs.Rows.on-err, specs.Standing.setting_by}
+use Rattle.gt_core.proofs.kept.Machine.begin.Goals as goal
 
 pub returns-in_default-clause-stands : goal.returns-in_default-clause-stands
 returns-in_default-clause-stands g c =
@@ -57,3 +57,9 @@ begin-requires g c = let s = setting_by g.P.Allows.may c.args.self.now in let xs
     let y = c.index_mut.result.now in
     let same : x ≡ y = same_Some x y (sym (place-at xs c.args.dom.0 c.in-Some.at x p c.index.ensures) ∙ place-at xs c.args.dom.0 c.in-Some.at y p c.index_mut.ensures.value) in
     λ m. subst (λ (z : State). z.mappings.given + 1 < 2 ^ 64) same (serial-left k c.args.dom c.args.request c.in-Open.open.call.request opens.asks opens.none m)
+
+pub invariant_of-self-in-Open : goal.invariant_of-self-in-Open
+invariant_of-self-in-Open g c =
+    let xs = c.args.self.now.domains.items in let y = c.index_mut.result.now in let z = c.begin.new.self in
+    let same : z.id ≡ y.id = either-way c.begin.result _ _ (z.id ≡ y.id) c.begin.ensures.opened c.begin.ensures.refused (λ e. ap (λ (x : State). x.id) e) (λ e. ap (λ (x : State). x.id) e) in
+    record { placed = ids-set xs c.in-Some.at z y c.index_mut.ensures.value same ∙ c.args.self.now.placed }

@@ -1,6 +1,6 @@
 use Rattle.gt_core.proofs.Words.{◌≡◌, ℕ, length, Option, Some, None, refl, sym, ap, ◌∙◌, subst, set, same_Some, slice_get_read, slice_get, IsTrue, bytes_at, FrameSet, frame_at, has_range, Open, Step, BytesAnswer, State, IsLoading, asked_in, IsReadable, with_underway, Closed, vec_len}
-use Rattle.gt_core.proofs.Settling.{loaded, closed-plain}
-use Rattle.gt_core.proofs.machine.Machine.close.Goals as goal
+use Rattle.gt_core.proofs.{Placed.ids-set, Settling.loaded, Settling.closed-plain}
+use Rattle.gt_core.proofs.kept.Machine.close.Goals as goal
 
 pub read_bytes-bytes-requires : goal.read_bytes-bytes-requires
 read_bytes-bytes-requires g c = let xs = c.args.self.now.domains.items in let at = c.args.at in
@@ -35,3 +35,13 @@ returns-in_default g c = let xs = c.args.self.now.domains.items in let at = c.ar
           closed-plain c.args.self.now.frames xs (set xs at c.close.new.self) at d c.args.last.step c.in_default.not-Read
           (ap (λ (z : State). set xs at z) (c.close.ensures ∙ ap (with_underway None) same));
     }
+
+pub invariant_of-self : goal.invariant_of-self
+invariant_of-self g c =
+    let y = c.index_mut.result.now in
+    record { placed = ids-set c.args.self.now.domains.items c.args.at c.close_load-out.new.self y c.index_mut.ensures.value (ap (λ (z : State). z.id) c.close_load-out.ensures.closed) ∙ c.args.self.now.placed }
+
+pub invariant_of-self-in_default : goal.invariant_of-self-in_default
+invariant_of-self-in_default g c =
+    let y = c.index_mut-in_default.result.now in
+    record { placed = ids-set c.args.self.now.domains.items c.args.at c.close.new.self y c.index_mut-in_default.ensures.value (ap (λ (z : State). z.id) c.close.ensures) ∙ c.args.self.now.placed }

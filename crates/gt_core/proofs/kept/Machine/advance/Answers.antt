@@ -1,6 +1,6 @@
 use Rattle.gt_core.proofs.Words.{◌≡◌, List, length, refl, sym, ◌∙◌, subst, same_Some, slice_get_read, Own, knowledge_of, State}
 use Rattle.gt_calls.specs.Following.{IsLeftAlike}
-use Rattle.gt_core.proofs.machine.Machine.advance.Goals as goal
+use Rattle.gt_core.proofs.kept.Machine.advance.Goals as goal
 
 pub returns-clause-goes : goal.returns-clause-goes
 returns-clause-goes g c = let core = c.args.self.now in let xs = core.domains.items in

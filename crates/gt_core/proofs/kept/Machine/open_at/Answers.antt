@@ -1,5 +1,5 @@
 use Rattle.gt_core.proofs.Words.{◌≡◌, List, length, refl, sym, ◌∙◌, subst, same_Some, slice_get_read, Own, knowledge_of, State, Opens}
-use Rattle.gt_core.proofs.machine.Machine.open_at.Goals as goal
+use Rattle.gt_core.proofs.kept.Machine.open_at.Goals as goal
 
 pub returns : goal.returns
 returns g c = let core = c.args.self.now in let xs = core.domains.items in let y = c.index-domain.result.now in

@@ -1,5 +1,5 @@
-use Rattle.gt_core.proofs.{Words.◌≡◌, Words.length, Words.Some, Words.None, Words.refl, Words.sym, Words.ap, Words.◌∙◌, Words.subst, Words.set, Words.same_Some, Words.slice_get_read, Words.HandleMap, Words.Held, Words.Action, Words.Done, Words.Verdict, Words.Mapped, Words.Option, Words.Open, Words.State, Words.Adds, Words.with_underway, Words.with_mapping, Words.Settled, Settling.ended-plain}
-use Rattle.gt_core.proofs.machine.Machine.settle.Goals as goal
+use Rattle.gt_core.proofs.{Words.◌≡◌, Words.length, Words.Some, Words.None, Words.refl, Words.sym, Words.ap, Words.◌∙◌, Words.subst, Words.set, Words.same_Some, Words.slice_get_read, Words.HandleMap, Words.Held, Words.Action, Words.Done, Words.Verdict, Words.Mapped, Words.Option, Words.Open, Words.State, Words.Adds, Words.with_underway, Words.with_mapping, Words.Settled, Words.IsMapping, Words.IsRoomFor, Words.asked_in, Placed.ids-set, Settling.ended-plain}
+use Rattle.gt_core.proofs.kept.Machine.settle.Goals as goal
 
 pub returns-in-Mapped-clause-settles : goal.returns-in-Mapped-clause-settles
 returns-in-Mapped-clause-settles g c = λ d here. let xs = c.args.self.now.domains.items in let at = c.args.at in
@@ -30,3 +30,22 @@ pub returns-in-Granted-clause-settles : goal.returns-in-Granted-clause-settles
 returns-in-Granted-clause-settles g c = λ d here.
     subst (λ (z : Action). Settled c.args.self.now.frames c.args.self.now.domains.items c.args.at d c.args.last.step c.args.call z (Some c.close.result) c.close.new.self.domains.items)
     (sym (c.in-Done.is ∙ ap (λ (v : Verdict). Done v) c.in-Granted.is)) (c.close.result, refl, c.close.ensures.settles d here)
+
+pub invariant_of-self : goal.invariant_of-self
+invariant_of-self g c =
+    record { placed = ids-set c.args.self.now.domains.items c.args.at c.go_on.new.self c.index_mut.result.now c.index_mut.ensures.value (ap (λ (z : State). z.id) c.go_on.ensures) ∙ c.args.self.now.placed }
+
+pub add_mapping-requires : goal.add_mapping-requires
+add_mapping-requires g c =
+    let xs = c.args.self.now.domains.items in let y = c.index_mut-in-Mapped.result.now in
+    let here = slice_get_read xs (length xs) c.args.at y refl c.requires.there c.index_mut-in-Mapped.ensures.value in
+    subst (λ (o : Option Open). IsMapping (asked_in o)) (sym (c.requires.under y here))
+    (subst (IsRoomFor c.args.last.call.request) (c.in-Done.is ∙ ap (λ (v : Verdict). Done v) c.in-Mapped.is) c.requires.room)
+
+pub invariant_of-self-in-Mapped : goal.invariant_of-self-in-Mapped
+invariant_of-self-in-Mapped g c =
+    record { placed = ids-set c.args.self.now.domains.items c.args.at c.add_mapping.new.self c.index_mut-in-Mapped.result.now c.index_mut-in-Mapped.ensures.value (ap (λ (z : State). z.id) c.add_mapping.ensures.added) ∙ c.args.self.now.placed }
+
+pub invariant_of-self-in_default : goal.invariant_of-self-in_default
+invariant_of-self-in_default g c =
+    record { placed = ids-set c.args.self.now.domains.items c.args.at c.close-in_default.new.self c.index_mut-in_default.result.now c.index_mut-in_default.ensures.value (ap (λ (z : State). z.id) c.close-in_default.ensures) ∙ c.args.self.now.placed }

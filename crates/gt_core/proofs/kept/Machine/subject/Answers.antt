@@ -1,7 +1,7 @@
 use Rattle.gt_core.proofs.Words.{◌≡◌, List, Option, Some, None, sym, ap, ◌∙◌, position, Held, State, place_of, Bor, option_copied}
 use Rattle.std.specs.Prelude.{option_map}
 use Rattle.gt_core.{proofs.Rows.has_id, proofs.Showing.subject-nowhere, proofs.Showing.subject-there, specs.Standing.setting_by}
-use Rattle.gt_core.proofs.machine.Machine.subject.Goals as goal
+use Rattle.gt_core.proofs.kept.Machine.subject.Goals as goal
 
 pub returns-in_err-at : goal.returns-in_err-at
 returns-in_err-at g c = let s = setting_by g.P.Allows.may c.args.self.now in let xs = c.args.self.now.domains.items in
