@@ -11,13 +11,14 @@ ghost use Rattle.gt_access.specs.Routes.{MayAccess, MayCopy, Reaches, writ_by};
 
 use gt_calls::{Pins, Route};
 use gt_frames::{Copied, Ends, Ground, Lent, Pool, Read, Writ, Written};
-use gt_types::{Allows, Config, DomId, FRAME_SIZE, Memory, Range};
+use gt_positions::Roster;
+use gt_types::{Allows, DomId, FRAME_SIZE, Memory, Range};
 use gt_words::{Seat, Words};
 
 /// The run that an access belongs to: its words, its domains, what its policy allows, and its frames.
 pub struct Run<'m, P> {
     pub words: &'m Words,
-    pub config: &'m Config,
+    pub config: &'m Roster,
     pub rights: &'m P,
     pub pool: &'m Pool,
 }

@@ -3,9 +3,10 @@ use gt_calls::{
     Action, Call, Half, Handles, Held, Holder, Known, Own, Request, Seen, Start, Step, Verdict,
 };
 use gt_entry::{Entry, Header};
+use gt_positions::Roster;
 use gt_types::{
-    Config, Denial, DomId, DomainConfig, Facts, GrantRef, Memory, Perms, Rule, Triple, Triples,
-    TypeId,
+    Config, Denial, DomId, DomainConfig, Facts, GrantRef, Memory, Perms, Rule, StartFault, Triple,
+    Triples, TypeId,
 };
 use std::alloc::Global;
 
@@ -197,11 +198,12 @@ const DOMAINS: [DomainConfig; 3] = [
 ];
 
 /// Three domains whose labels are numbered as they are.
-pub fn three_domains(alloc: Global) -> Result<Config, Memory> {
-    Ok(Config {
+pub fn three_domains(alloc: Global) -> Result<Roster, StartFault> {
+    let config = Config {
         domains: DOMAINS.to_vec(alloc)?,
         first_gen: 0,
-    })
+    };
+    Roster::new(alloc, config)
 }
 
 /// The rights to all that is given, of each of these pairs.
@@ -221,7 +223,7 @@ pub fn rights(alloc: Global, perms: &[Perms], pairs: &[(DomId, DomId)]) -> Resul
 
 /// What a domain with a table of version 2 and one frame knows.
 pub fn known<'a>(
-    config: &'a Config,
+    config: &'a Roster,
     rights: &'a Triples,
     own: &'a [Own],
     mappings: &'a Handles<Held>,

@@ -12,6 +12,7 @@ pub mod Outcomes
 pub mod Phases
 pub mod Performing
 pub mod Pins
+pub mod Placed
 pub mod Playing
 pub mod Rows
 pub mod Settling

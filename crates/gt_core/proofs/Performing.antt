@@ -13,7 +13,7 @@ changed-swap : (xs : List State) (d t : ℕ) (f g : State → State) → ((x : S
 changed-swap [] d t f g a b c = refl
 changed-swap (z ∷ zs) d t f g a b c = grind (arith, changed-swap zs d t f g a b c, a z, b z, c z)
 
-kept-id : (holder : Holder) (x : State) → (without_mapping holder x).id ≡ x.id
+pub kept-id : (holder : Holder) (x : State) → (without_mapping holder x).id ≡ x.id
 kept-id (ByMapping handle) x = refl
 kept-id (ByLeg n) x = refl
 

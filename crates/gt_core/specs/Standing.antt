@@ -63,7 +63,7 @@ use Rattle.gt_core.specs.declared.core_state.Begun.TheVariants.{NoDomain as Begu
 use Rattle.gt_core.specs.declared.core_state.Ticked.{Ticked}
 use Rattle.gt_core.specs.declared.core_state.Ticked.TheVariants.{Step as TickedStep, Done as TickedDone}
 use Rattle.gt_core.specs.declared.core_state.Ticked.TheVariants.{Idle as TickedIdle, NoDomain as TickedNoDomain}
-use Rattle.gt_core.specs.declared.machine.Machine.{Machine}
+use Rattle.gt_core.specs.declared.kept.Machine.{Machine}
 use Rattle.gt_core.specs.declared.machine.Opening.{Opening}
 use Rattle.gt_core.specs.declared.machine.Opening.TheVariants.{Open as OpeningOpen, Done as OpeningDone}
 use Rattle.gt_calls.specs.Rules.{CallerKnowledge, knowledge_of, begun, entry_in, generation_in, first_look, first_body}

@@ -1,7 +1,7 @@
 -- A domain's state, as the core keeps it: the code's own representation.
 -- It is in specs/ because private contracts cite it.
 use Rattle.std.specs.Prelude.{Bool, true, false, ℕ, List, [], ◌∷◌, Option, Some, None, ◌==◌, ◌≡◌, ◌<◌, ◌≤◌, ◌+◌, ◌^◌}
-use Rattle.std.specs.Prelude.{◌%◌, min, replicate, if◌then◌else◌}
+use Rattle.std.specs.Prelude.{◌%◌, min, map, replicate, if◌then◌else◌}
 use Rattle.gt_types.specs.declared.config.DomainConfig.{DomainConfig}
 use Rattle.gt_entry.specs.declared.entry.Entry.TheVariants.{Invalid}
 use Rattle.gt_calls.specs.declared.known.TheConstants.{ENTRIES}
@@ -99,3 +99,7 @@ state_of (x ∷ xs) d = if x.id.0 == d then Some x else state_of xs d
 abbrev pub changed_in : ℕ → (State → State) → List State → List State
 changed_in d f [] = []
 changed_in d f (x ∷ xs) = if x.id.0 == d then f x ∷ xs else x ∷ changed_in d f xs
+
+-- these are the states of the domains of a configuration, in order (own)
+abbrev pub IsPlaced : List DomainConfig → List State → Type 0
+IsPlaced configured domains = map (λ d. d.id) domains ≡ map (λ d. d.id) configured

@@ -4,7 +4,7 @@ ghost use Rattle.gt_types.specs.Config.{IsWithinLimits};
 ghost use Rattle.gt_core.specs.Legal.{Legal};
 ghost use Rattle.gt_core.specs.Standing.{Does, IsStartFaultOf, setting_in, setting_of};
 
-use crate::machine::Machine;
+use crate::kept::Machine;
 use crate::trace::{Answer, Element, Event, Happened, Item, Trace};
 use gt_calls::{Handle, Request, Seen, Step};
 use gt_entry::Entry;

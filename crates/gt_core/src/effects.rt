@@ -1,70 +1,101 @@
 //! What steps do to the states of the domains.
 ghost use Rattle.std.specs.Prelude.{◌≡◌};
-ghost use Rattle.gt_core.specs.States.{changed_in};
+ghost use Rattle.gt_core.specs.States.{changed_in, IsPlaced};
 ghost use Rattle.gt_core.specs.Effects.{with_slot, applied, without_mapping, with_own, with_header};
 
 use crate::pin_counts::CountsChange;
 use crate::state::{DomainState, find};
 use gt_calls::{Change, Holder, Seen, Step};
+use gt_positions::Roster;
 use gt_types::{DomId, GrantRef};
 
-fn change_slot(domains: &mut [DomainState], dom: DomId, gref: GrantRef, change: CountsChange)
+fn change_slot(
+    config: &Roster,
+    domains: &mut [DomainState],
+    dom: DomId,
+    gref: GrantRef,
+    change: CountsChange,
+)
+    requires { IsPlaced config.now.domains.items domains.old }
     ensures { domains.new ≡ changed_in dom.0 (with_slot gref.0 change) domains.old }
 {
-    if let Some(at) = find(domains, dom) {
+    if let Some(at) = find(config, domains, dom) {
         domains[at].change_slot(gref, change);
     }
 }
 
-fn change_own(domains: &mut [DomainState], dom: DomId, gref: GrantRef, change: Change)
+fn change_own(
+    config: &Roster,
+    domains: &mut [DomainState],
+    dom: DomId,
+    gref: GrantRef,
+    change: Change,
+)
+    requires { IsPlaced config.now.domains.items domains.old }
     ensures { domains.new ≡ changed_in dom.0 (with_own gref.0 change) domains.old }
 {
-    if let Some(at) = find(domains, dom) {
+    if let Some(at) = find(config, domains, dom) {
         domains[at].change_own(gref, change);
     }
 }
 
-fn forget(domains: &mut [DomainState], dom: DomId, holder: Holder)
+fn forget(config: &Roster, domains: &mut [DomainState], dom: DomId, holder: Holder)
+    requires { IsPlaced config.now.domains.items domains.old }
     ensures { domains.new ≡ changed_in dom.0 (without_mapping holder) domains.old }
 {
-    if let Some(at) = find(domains, dom) {
+    if let Some(at) = find(config, domains, dom) {
         domains[at].forget(holder);
     }
 }
 
-fn store_header(domains: &mut [DomainState], dom: DomId, version: u32, frames: u32)
+fn store_header(config: &Roster, domains: &mut [DomainState], dom: DomId, version: u32, frames: u32)
+    requires { IsPlaced config.now.domains.items domains.old }
     ensures { domains.new ≡ changed_in dom.0 (with_header version frames) domains.old }
 {
-    if let Some(at) = find(domains, dom) {
+    if let Some(at) = find(config, domains, dom) {
         domains[at].store_header(version, frames);
     }
 }
 
 /// What a step of the domain that saw this does to the words, and to the actor's mappings if it gives one up.
-pub fn apply(domains: &mut [DomainState], actor: DomId, step: Step, seen: Seen)
+pub fn apply(config: &Roster, domains: &mut [DomainState], actor: DomId, step: Step, seen: Seen)
+    requires { IsPlaced config.now.domains.items domains.old }
     ensures { domains.new ≡ applied actor step seen domains.old }
 {
     match (step, seen) {
         (Step::Pin { held }, Seen::Taken) => {
-            change_slot(domains, held.dom, held.gref, CountsChange::Pinned(held.dir));
+            change_slot(
+                config,
+                domains,
+                held.dom,
+                held.gref,
+                CountsChange::Pinned(held.dir),
+            );
         }
         (Step::Unpin { held, holder }, _) => {
             change_slot(
+                config,
                 domains,
                 held.dom,
                 held.gref,
                 CountsChange::Unpinned(held.dir),
             );
-            forget(domains, actor, holder);
+            forget(config, domains, actor, holder);
         }
         (Step::StoreBody { gref, half, word }, _) => {
-            change_slot(domains, actor, gref, CountsChange::Stored(half, word));
+            change_slot(
+                config,
+                domains,
+                actor,
+                gref,
+                CountsChange::Stored(half, word),
+            );
         }
         (Step::StoreHeader { version, frames }, _) => {
-            store_header(domains, actor, version, frames);
+            store_header(config, domains, actor, version, frames);
         }
         (Step::Exchange { gref, change, .. }, Seen::Taken) => {
-            change_own(domains, actor, gref, change);
+            change_own(config, domains, actor, gref, change);
         }
         _ => {}
     }

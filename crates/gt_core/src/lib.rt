@@ -17,6 +17,7 @@
 mod accesses;
 mod core_state;
 mod effects;
+mod kept;
 mod laws;
 mod machine;
 mod pin_counts;

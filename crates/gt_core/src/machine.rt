@@ -24,24 +24,16 @@ ghost use Rattle.gt_core.specs.declared.trace.Event.TheVariants.{Begin, Tick};
 use crate::accesses::{read_bytes, write_bytes};
 use crate::core_state::{Begun, Shown, Ticked};
 use crate::effects::apply;
+use crate::kept::Machine;
 use crate::sight::see;
 use crate::state::{DomainState, find};
 use crate::trace::{Answer, Bytes};
 use crate::underway::Open;
 use gt_calls::{Action, Call, Known, Request, Seen, Start, Step, Value, Verdict, asked_fits};
 use gt_frames::{FrameName, Frames};
+use gt_positions::Roster;
 use gt_types::{Allows, Config, DomId, GrantRef, Memory, StartFault};
 use std::alloc::Global;
-
-/// The domains and frames of a run, under its configuration and policy.
-#[derive(Drop)]
-pub struct Machine<P> {
-    pub(crate) alloc: Global,
-    pub(crate) config: Config,
-    pub(crate) rights: P,
-    pub(crate) domains: Vec<DomainState>,
-    pub(crate) frames: Frames,
-}
 
 /// How a call begins in the core.
 #[derive(Clone, Copy)]
@@ -139,7 +131,7 @@ impl<P: Allows> Machine<P> {
             OnErr result (WantsMemory (setting_by P.may self.old) h dom request.entry) }
         ensures err { OnErr result (self.new.domains.items ≡ self.old.domains.items) }
     {
-        let Some(at) = find(&self.domains, dom) else {
+        let Some(at) = find(&self.config, &self.domains, dom) else {
             return Ok(Begun::NoDomain);
         };
         if self.domains[at].underway().is_some() {
@@ -174,8 +166,8 @@ impl<P: Allows> Machine<P> {
         ensures frames { OnErr result (self.new.frames ≡ self.old.frames) }
     {
         write_bytes(&mut self.frames, &self.domains[at], open)?;
-        let seen = see(&self.domains, dom, open.step);
-        apply(&mut self.domains, dom, open.step, seen);
+        let seen = see(&self.config, &self.domains, dom, open.step);
+        apply(&self.config, &mut self.domains, dom, open.step, seen);
         Ok(seen)
     }
 
@@ -278,7 +270,7 @@ impl<P: Allows> Machine<P> {
         ensures domains { OnErr result (self.new.domains.items ≡ self.old.domains.items) }
         ensures frames { OnErr result (self.new.frames ≡ self.old.frames) }
     {
-        let Some(at) = find(&self.domains, dom) else {
+        let Some(at) = find(&self.config, &self.domains, dom) else {
             return Ok(Ticked::NoDomain);
         };
         let Some(open) = self.domains[at].underway() else {
@@ -295,7 +287,7 @@ impl<P: Allows> Machine<P> {
         ensures { (h : History) → DomainsStand (setting_by P.may self.now) h self.now.domains.items →
             result ≡ shown_at (setting_by P.may self.now) h dom gref.0 }
     {
-        let at = find(&self.domains, dom)?;
+        let at = find(&self.config, &self.domains, dom)?;
         let domain = &self.domains[at];
         if gref.0 >= domain.header.entries() {
             return None;
@@ -334,6 +326,9 @@ impl<P: Allows + Drop> Machine<P> {
         }
         let domains = start_domains(alloc, &config)?;
         let frames = Frames::new(alloc, &config)?;
+        let Ok(config) = Roster::new(alloc, config) else {
+            return Err(StartFault::Memory);
+        };
         Ok(Machine {
             alloc,
             config,

@@ -2,11 +2,13 @@
 ghost use Rattle.std.specs.Prelude.{◌≡◌};
 ghost use Rattle.gt_core.specs.Sight.{reads_in, writes_in, control_in, body_in, control_seen, header_seen, body_seen};
 ghost use Rattle.gt_core.specs.Sight.{exchange_sees, sees};
+ghost use Rattle.gt_core.specs.States.{IsPlaced};
 
 use crate::pin_counts::PinCounts;
-use crate::state::DomainState;
+use crate::state::{DomainState, find};
 use gt_calls::{Half, Own, Seen, Step, own_at};
 use gt_entry::Control;
+use gt_positions::Roster;
 use gt_types::{DomId, GrantRef};
 
 fn slot_at(slots: &[PinCounts], gref: GrantRef) -> PinCounts
@@ -38,40 +40,49 @@ fn body_word(slots: &[PinCounts], gref: GrantRef, half: Half) -> u64
     slot.body(half)
 }
 
-fn look_header(domains: &[DomainState], dom: DomId) -> u64
+fn look_header(config: &Roster, domains: &[DomainState], dom: DomId) -> u64
+    requires { IsPlaced config.now.domains.items domains.now }
     ensures { result ≡ header_seen domains.now dom.0 }
 {
-    for domain in domains {
-        let domain: &DomainState = domain;
-        if domain.id.0 == dom.0 {
-            return domain.header.pack();
+    match find(config, domains, dom) {
+        Some(at) => {
+            let domain = &domains[at];
+            domain.header.pack()
         }
+        None => 0,
     }
-    0
 }
 
-fn look_control(domains: &[DomainState], dom: DomId, gref: GrantRef) -> u64
+fn look_control(config: &Roster, domains: &[DomainState], dom: DomId, gref: GrantRef) -> u64
+    requires { IsPlaced config.now.domains.items domains.now }
     ensures { result ≡ control_seen domains.now dom.0 gref.0 }
 {
-    for domain in domains {
-        let domain: &DomainState = domain;
-        if domain.id.0 == dom.0 {
-            return control_word(&domain.own, &domain.slots, gref);
+    match find(config, domains, dom) {
+        Some(at) => {
+            let domain = &domains[at];
+            control_word(&domain.own, &domain.slots, gref)
         }
+        None => 0,
     }
-    0
 }
 
-fn look_body(domains: &[DomainState], dom: DomId, gref: GrantRef, half: Half) -> u64
+fn look_body(
+    config: &Roster,
+    domains: &[DomainState],
+    dom: DomId,
+    gref: GrantRef,
+    half: Half,
+) -> u64
+    requires { IsPlaced config.now.domains.items domains.now }
     ensures { result ≡ body_seen domains.now dom.0 gref.0 half }
 {
-    for domain in domains {
-        let domain: &DomainState = domain;
-        if domain.id.0 == dom.0 {
-            return body_word(&domain.slots, gref, half);
+    match find(config, domains, dom) {
+        Some(at) => {
+            let domain = &domains[at];
+            body_word(&domain.slots, gref, half)
         }
+        None => 0,
     }
-    0
 }
 
 fn exchange(word: u64, looked: u64) -> Seen
@@ -85,16 +96,22 @@ fn exchange(word: u64, looked: u64) -> Seen
 }
 
 /// What a step of the domain sees.
-pub fn see(domains: &[DomainState], actor: DomId, step: Step) -> Seen
+pub fn see(config: &Roster, domains: &[DomainState], actor: DomId, step: Step) -> Seen
+    requires { IsPlaced config.now.domains.items domains.now }
     ensures { result ≡ sees domains.now actor step }
 {
     match step {
-        Step::LookHeader { dom } => Seen::Word(look_header(domains, dom)),
-        Step::LookControl { dom, gref } => Seen::Word(look_control(domains, dom, gref)),
-        Step::LookBody { dom, gref, half } => { Seen::Word(look_body(domains, dom, gref, half)) }
-        Step::Pin { held } => exchange(look_control(domains, held.dom, held.gref), held.word),
+        Step::LookHeader { dom } => Seen::Word(look_header(config, domains, dom)),
+        Step::LookControl { dom, gref } => Seen::Word(look_control(config, domains, dom, gref)),
+        Step::LookBody { dom, gref, half } => {
+            Seen::Word(look_body(config, domains, dom, gref, half))
+        }
+        Step::Pin { held } => exchange(
+            look_control(config, domains, held.dom, held.gref),
+            held.word,
+        ),
         Step::Exchange { gref, looked, .. } => {
-            exchange(look_control(domains, actor, gref), looked)
+            exchange(look_control(config, domains, actor, gref), looked)
         }
         Step::Unpin { .. }
         | Step::StoreBody { .. }

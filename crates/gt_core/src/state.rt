@@ -1,6 +1,7 @@
 //! The state of a domain, as plain lists.
 ghost use Rattle.std.specs.Prelude.{◌≡◌, ◌==◌, ◌%◌, position};
 ghost use Rattle.gt_core.specs.Accesses.{ground_of};
+ghost use Rattle.gt_core.specs.States.{IsPlaced};
 
 use crate::core_state::Shown;
 use crate::pin_counts::{CountsChange, PinCounts};
@@ -9,6 +10,7 @@ use gt_calls::{Asked, Call, Change, ENTRIES, Held, Holder, Own, Route};
 use gt_entry::Header;
 use gt_frames::{Ground, Writ};
 use gt_handles::{Handle, Handles};
+use gt_positions::Roster;
 use gt_types::{DomId, DomainConfig, GrantRef, LAST_GENERATION, Memory};
 use std::alloc::Global;
 use std::marker::Model;
@@ -47,14 +49,13 @@ impl Model for DomainState {
         (d.header.version < 4) × HasRoom (asked_in d.underway) d.mappings (option_map (λ v. vec_len v) d.room) };
 }
 
-/// The place of the domain with this number.
-pub fn find(domains: &[DomainState], dom: DomId) -> Option<usize>
+/// The place of the domain with this number, in one look.
+pub fn find(config: &Roster, domains: &[DomainState], dom: DomId) -> Option<usize>
+    requires { IsPlaced config.now.domains.items domains.now }
     ensures { result ≡ position (λ d. d.id.0 == dom.0) domains.now }
 {
-    domains.iter().position(|d| {
-        let d: &DomainState = d;
-        d.id.0 == dom.0
-    })
+    let _ = domains;
+    config.position(dom)
 }
 
 // The header of a table, as far as its word has room.

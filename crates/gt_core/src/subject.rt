@@ -5,7 +5,7 @@ ghost use Rattle.gt_core.specs.History.{History};
 ghost use Rattle.gt_core.specs.Standing.{DomainsStand, setting_by};
 ghost use Rattle.gt_core.specs.Subject.{subject_at};
 
-use crate::machine::Machine;
+use crate::kept::Machine;
 use crate::state::{DomainState, find};
 use gt_calls::{Handle, Held};
 use gt_types::{Allows, DomId, GrantRef};
@@ -25,7 +25,7 @@ impl<P: Allows> Machine<P> {
         ensures { (h : History) → DomainsStand (setting_by P.may self.now) h self.now.domains.items →
             result ≡ subject_at (setting_by P.may self.now) h dom handle }
     {
-        let at = find(&self.domains, dom)?;
+        let at = find(&self.config, &self.domains, dom)?;
         let held = self.domains[at].mapping(handle)?;
         Some((held.dom, held.gref))
     }

@@ -6,6 +6,7 @@ use crate::places::{BYTES, config, text};
 use gt_access::{Run, copy_by, read_by, write_by};
 use gt_calls::{Pins, Route};
 use gt_frames::{FrameName, Pool, Read, Spot};
+use gt_positions::Roster;
 use gt_types::{Allows, Config, Perms, Range, StartFault, TypeId};
 use gt_words::{Seat, Words};
 use std::alloc::{AllocError, Global};
@@ -117,9 +118,10 @@ fn own_frames_are_written_copied_and_read(rt: HostRuntime) -> Result<(), Fail> {
     let config = config(alloc)?;
     let (words, seat) = start(&rt, alloc, &config)?;
     let pool = Pool::new(alloc, &config)?;
+    let roster = Roster::new(alloc, config)?;
     let run = Run {
         words: &words,
-        config: &config,
+        config: &roster,
         rights: &Everything,
         pool: &pool,
     };

@@ -672,7 +672,7 @@ impl Domain {
         requires mine { IsOf P.may monitor.now self.now }
         ensures { result ≡ label_of monitor.now.config.domains.items self.now.seat.dom }
     {
-        monitor.config.domains[self.seat.position()].label
+        monitor.config.config().domains[self.seat.position()].label
     }
 
     // The verdict at the beginning of a map, if one is given there.

@@ -10,6 +10,7 @@ use crate::monitor::Monitor;
 use gt_audit::Trail;
 use gt_calls::{ENTRIES, Handles, Own};
 use gt_frames::{Pool, Visits};
+use gt_positions::Roster;
 use gt_types::{Allows, Config, StartFault};
 use gt_words::{Seat, Words};
 use std::alloc::{AllocError, Global};
@@ -50,8 +51,10 @@ fn make_domains<P: Allows>(
     monitor: &Monitor<P>,
     mut seats: Vec<Seat>,
     all_visits: Vec<Visits>,
+    first_gen: u32,
 ) -> Result<Vec<Domain>, AllocError>
     requires config { IsWithinLimits monitor.now.config }
+    requires first { first_gen ≡ monitor.now.config.first_gen }
     requires count { length seats.items ≡ length monitor.now.config.domains.items }
     requires seats { (i : ℕ) → i < length monitor.now.config.domains.items
         → HoldsAt (λ s. IsNewSeat monitor.now.words i s) seats.items i }
@@ -62,8 +65,8 @@ fn make_domains<P: Allows>(
         (i : ℕ) → i < length monitor.now.config.domains.items
         → HoldsAt (λ d. IsNewDomain monitor.now.words monitor.now.config (P.may monitor.now.rights) i d) v.items i) }
 {
-    let count = monitor.config.domains.len();
-    let mut rows = all_rows(alloc, monitor.config.first_gen, all_visits)?;
+    let count = seats.len();
+    let mut rows = all_rows(alloc, first_gen, all_visits)?;
     let mut domains = Vec::with_capacity(alloc, count)?;
     'domains: for at in 0..count {
         let seat = seats.remove(0);
@@ -104,13 +107,17 @@ impl<P: Allows + Drop> Monitor<P> {
         let Ok((pool, visits)) = Pool::new(alloc, &config) else {
             return Err(StartFault::Memory);
         };
+        let first_gen = config.first_gen;
+        let Ok(config) = Roster::new(alloc, config) else {
+            return Err(StartFault::Memory);
+        };
         let monitor = Monitor {
             config,
             rights,
             words,
             pool,
         };
-        match make_domains(alloc, &monitor, seats, visits) {
+        match make_domains(alloc, &monitor, seats, visits, first_gen) {
             Ok(domains) => Ok((monitor, domains)),
             Err(AllocError) => Err(StartFault::Memory),
         }

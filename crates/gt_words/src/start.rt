@@ -22,17 +22,6 @@ impl Split<View> for Deal {
     ghost right = { dealt_to };
 }
 
-/// The domains of the run, in order.
-pub(crate) fn domain_ids(alloc: Global, config: &Config) -> Result<Vec<DomId>, AllocError>
-    ensures { IfOk result (λ v. v.items ≡ (layout_of config.now).ids) }
-{
-    let mut ids = Vec::with_capacity(alloc, config.domains.len())?;
-    for domain in &config.domains {
-        ids.push(domain.id)?;
-    }
-    Ok(ids)
-}
-
 // The header of a domain at the start.
 fn first_header(domain: DomainConfig) -> Header
     requires { (domain.version < 4) × (domain.table_frames < 256) }

@@ -14,10 +14,11 @@ ghost use Rattle.gt_words.specs.Conditions.{LooksAtHeader, LooksAtControl, Looks
 ghost use Rattle.gt_words.specs.Conditions.{UnpinsPin, Pins, MissesPin, Changes, MissesChange, MissesBusy, Revokes};
 ghost use Rattle.gt_words.specs.Conditions.{Demotes, Publishes};
 
-use crate::start::{deal_seats, domain_ids, first_words};
+use crate::start::{deal_seats, first_words};
 use crate::word_table::{TableSeat, WordTable};
 use atomic_table::Table;
 use gt_entry::{Change, Control, Entry, Half, Header};
+use gt_positions::Positions;
 use gt_types::{Config, Dir, DomId, GrantRef, MAX_TABLE_FRAMES, StartFault, TABLE_ENTRIES};
 use std::alloc::{AllocError, Global};
 use std::marker::Model;
@@ -79,7 +80,7 @@ impl Seat {
 #[derive(Drop)]
 pub struct Words {
     pub(crate) words: WordTable,
-    pub(crate) ids: Vec<DomId>,
+    pub(crate) ids: Positions,
 }
 
 impl Model for Words {
@@ -90,7 +91,7 @@ impl Model for Words {
       layout = layout_of w.words.table.shared.key;
     } };
 
-    ghost invariant = { λ w. (w.ids.items ≡ (layout_of w.words.table.shared.key).ids)
+    ghost invariant = { λ w. (w.ids ≡ (layout_of w.words.table.shared.key).ids)
         × IsWithinLimits w.words.table.shared.key };
 }
 
@@ -103,22 +104,15 @@ pub struct Pin {
     pub dir: Dir,
 }
 
-// The place of the domain in the list.
-fn found_in(ids: &[DomId], dom: DomId) -> Option<usize>
-    ensures { result ≡ position (λ x. x.0 == dom.0) ids.now }
-{
-    ids.iter().position(|id| id.0 == dom.0)
-}
-
 // The position of a domain, or the number of domains if it is none of them.
 #[cold]
 #[inline(never)]
-fn position_of(ids: &[DomId], dom: DomId) -> usize
+fn position_of(ids: &Positions, dom: DomId) -> usize
     ensures { result ≡ position_in ids.now dom }
 {
-    match found_in(ids, dom) {
+    match ids.position(dom) {
         Some(at) => at,
-        None => ids.len(),
+        None => ids.count(),
     }
 }
 
@@ -423,7 +417,7 @@ fn make_words(alloc: Global, config: &Config) -> Result<(Words, Vec<Seat>), Allo
         → HoldsAt (λ s. IsNewSeat r.0 i s) r.1.items i) }
 {
     let start = first_words(alloc, config)?;
-    let ids = domain_ids(alloc, config)?;
+    let ids = Positions::new(alloc, config)?;
     let (table, first) = Table::of_words(alloc, &start, config)?;
     let words = WordTable { table };
     let seats = deal_seats(alloc, &words, config, first)?;

@@ -15,7 +15,7 @@ table-fits x f = let v = f.version in let few = f.frames in
     by false le = omega arith
 
 -- what is seen of the states is of the first one with the number
-seen-state : {A : Type 0} (seen : List State → A) (of : State → A) (d : ℕ) (x : State) → ((y : State) (ys : List State) → seen (y ∷ ys) ≡ cond (y.id.0 == d) (of y) (seen ys))
+pub seen-state : {A : Type 0} (seen : List State → A) (of : State → A) (d : ℕ) (x : State) → ((y : State) (ys : List State) → seen (y ∷ ys) ≡ cond (y.id.0 == d) (of y) (seen ys))
     → (xs : List State) → state_of xs d ≡ Some x → seen xs ≡ of x
 seen-state seen of d x more [] e = cc
 seen-state seen of d x more (y ∷ ys) e = more y ys ∙ by (y.id.0 == d) e (seen-state seen of d x more ys) where

@@ -163,8 +163,8 @@ impl Domain {
         ensures visited { HasVisited WasRead result self.old.visits self.new.visits }
     {
         let caller = self.seat.dom();
-        let domains = &monitor.config.domains;
-        if let Some(verdict) = judge_own_access(domains, caller, frame, off, usize::from(len)) {
+        let config = &monitor.config;
+        if let Some(verdict) = judge_own_access(config, caller, frame, off, usize::from(len)) {
             return Err(refusal_of(verdict));
         }
         let name = FrameName {
@@ -241,8 +241,8 @@ impl Domain {
         ensures visited { HasVisited WasWritten result self.old.visits self.new.visits }
     {
         let caller = self.seat.dom();
-        let domains = &monitor.config.domains;
-        if let Some(verdict) = judge_own_access(domains, caller, frame, off, bytes.len()) {
+        let config = &monitor.config;
+        if let Some(verdict) = judge_own_access(config, caller, frame, off, bytes.len()) {
             return Err(refusal_of(verdict));
         }
         let name = FrameName {

@@ -18,8 +18,7 @@ returns-clause-answered g c =
     let m = c.args.monitor.now in let d = c.args.self.now in let may = g.P.Allows.may m.rights in let k = knowledge m.config may d in
     let ds = m.config.domains.items in
     let judged : c.judge_own_access.result ≡ own_access_begun ds d.seat.dom c.args.frame c.args.off c.args.len =
-    c.judge_own_access.ensures ∙ (ap (λ (n : ℕ). own_access_begun c.deref.result.now c.dom-caller.result c.args.frame c.args.off n) c.from.ensures
-    ∙ ap (λ (xs : List DomainConfig). own_access_begun xs c.dom-caller.result c.args.frame c.args.off c.args.len) c.deref.ensures.value
+    c.judge_own_access.ensures ∙ (ap (λ (n : ℕ). own_access_begun ds c.dom-caller.result c.args.frame c.args.off n) c.from.ensures
     ∙ ap (λ (x : DomId). own_access_begun ds x c.args.frame c.args.off c.args.len) c.dom-caller.ensures) in
     let access = steps.Read d.seat.dom c.args.frame c.args.off c.args.len in
     let way = own-way k d.seat.dom (requests.Peek c.args.frame c.args.off c.args.len) access (sym judged ∙ none-left c.judge_own_access.result c.in_default.not-Some) refl in
@@ -31,8 +30,7 @@ returns-in-Some-clause-answered g c =
     let m = c.args.monitor.now in let d = c.args.self.now in
     let ds = m.config.domains.items in
     let judged : c.judge_own_access.result ≡ own_access_begun ds d.seat.dom c.args.frame c.args.off c.args.len =
-    c.judge_own_access.ensures ∙ (ap (λ (n : ℕ). own_access_begun c.deref.result.now c.dom-caller.result c.args.frame c.args.off n) c.from.ensures
-    ∙ ap (λ (xs : List DomainConfig). own_access_begun xs c.dom-caller.result c.args.frame c.args.off c.args.len) c.deref.ensures.value
+    c.judge_own_access.ensures ∙ (ap (λ (n : ℕ). own_access_begun ds c.dom-caller.result c.args.frame c.args.off n) c.from.ensures
     ∙ ap (λ (x : DomId). own_access_begun ds x c.args.frame c.args.off c.args.len) c.dom-caller.ensures) in
     refused-access m.words.layout (knowledge m.config (g.P.Allows.may m.rights) d) d.seat.dom (requests.Peek c.args.frame c.args.off c.args.len) IsReadBy
     c.in-Some.verdict c.refusal_of.result d.seat.view tt (sym judged ∙ c.in-Some.is) c.refusal_of.ensures

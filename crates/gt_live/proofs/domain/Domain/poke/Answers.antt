@@ -18,8 +18,7 @@ returns-clause-answered g c =
     let m = c.args.monitor.now in let d = c.args.self.now in let may = g.P.Allows.may m.rights in let k = knowledge m.config may d in
     let ds = m.config.domains.items in
     let judged : c.judge_own_access.result ≡ own_access_begun ds d.seat.dom c.args.frame c.args.off (length c.args.bytes.now) =
-    c.judge_own_access.ensures ∙ (ap (λ (xs : List DomainConfig). own_access_begun xs c.dom-caller.result c.args.frame c.args.off (length c.args.bytes.now)) c.deref.ensures.value
-    ∙ ap (λ (x : DomId). own_access_begun ds x c.args.frame c.args.off (length c.args.bytes.now)) c.dom-caller.ensures) in
+    c.judge_own_access.ensures ∙ (ap (λ (x : DomId). own_access_begun ds x c.args.frame c.args.off (length c.args.bytes.now)) c.dom-caller.ensures) in
     let access = steps.Write d.seat.dom c.args.frame c.args.off (length c.args.bytes.now) in
     let way = own-way k d.seat.dom (requests.Poke c.args.frame c.args.off c.args.bytes) access (sym judged ∙ none-left c.judge_own_access.result c.in_default.not-Some) refl in
     one-access m.words.layout _ access (IsWrittenBy d.seat.dom c.args.bytes.now) c.write_through.result d.seat.view tt way
@@ -30,8 +29,7 @@ returns-in-Some-clause-answered g c =
     let m = c.args.monitor.now in let d = c.args.self.now in
     let ds = m.config.domains.items in
     let judged : c.judge_own_access.result ≡ own_access_begun ds d.seat.dom c.args.frame c.args.off (length c.args.bytes.now) =
-    c.judge_own_access.ensures ∙ (ap (λ (xs : List DomainConfig). own_access_begun xs c.dom-caller.result c.args.frame c.args.off (length c.args.bytes.now)) c.deref.ensures.value
-    ∙ ap (λ (x : DomId). own_access_begun ds x c.args.frame c.args.off (length c.args.bytes.now)) c.dom-caller.ensures) in
+    c.judge_own_access.ensures ∙ (ap (λ (x : DomId). own_access_begun ds x c.args.frame c.args.off (length c.args.bytes.now)) c.dom-caller.ensures) in
     refused-access m.words.layout (knowledge m.config (g.P.Allows.may m.rights) d) d.seat.dom (requests.Poke c.args.frame c.args.off c.args.bytes) (IsWrittenBy d.seat.dom c.args.bytes.now)
     c.in-Some.verdict c.refusal_of.result d.seat.view tt (sym judged ∙ c.in-Some.is) c.refusal_of.ensures
 
