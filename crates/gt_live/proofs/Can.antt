@@ -21,8 +21,7 @@ use Rattle.gt_entry.specs.Words.{control_of, kind_of, size_of}
 use Rattle.gt_words.specs.Conditions.{CanTurn, Changes, HasDomain, Holds, IsIdleOf, IsWordOf, Pins}
 use Rattle.gt_words.specs.Controls.{generation_of, pins_in}
 use Rattle.gt_words.specs.Rule.{IsKeptHeader, Layout, id_at, position_in}
-use Rattle.gt_words.specs.Views.{HasBody, is_pin, pins_like, IsIn, LivePin, Seen as Looks, last_of, last_seen, own_body, pins, record_seen, seen, seen_or_none, steps_on, stored_body}
-use Rattle.gt_words.specs.declared.view.EntryStep.{EntryStep}
+use Rattle.gt_words.specs.Views.{HasBody, is_pin, pins_like, IsIn, LivePin, Seen as Looks, last_of, last_seen, own_body, pins, record_seen, seen, seen_or_none, steps_on}
 use Rattle.gt_entry.specs.declared.change.Half.TheVariants.{First as FirstHalf, Second as SecondHalf}
 use Rattle.gt_words.specs.declared.view.EntryRecord.{EntryRecord}
 use Rattle.gt_words.specs.History.{Moment}

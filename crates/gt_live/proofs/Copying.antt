@@ -32,7 +32,6 @@ use Rattle.gt_words.specs.Rule.{Layout, id_at, position_in}
 use Rattle.gt_words.specs.Views.{HasBody, Seen as Looks, last_seen, record_seen, seen, seen_or_none, steps_on, value_or_zero, with_body}
 use Rattle.gt_words.specs.declared.view.EntryRecord.{EntryRecord}
 use Rattle.gt_words.specs.History.{Moment}
-use Rattle.gt_words.specs.declared.view.SeatStep.{SeatStep}
 use Rattle.gt_words.specs.declared.view.View.{View}
 use Rattle.gt_calls.specs.declared.action.Action.TheVariants.{Step as Makes}
 use Rattle.gt_calls.specs.declared.action.Place.{Place}

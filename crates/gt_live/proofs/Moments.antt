@@ -1,6 +1,5 @@
 -- Each step of a call was taken at its moment, and none of them is an access to bytes.
 use Rattle.std.proofs.Common.{◌≡◌, ◌⊎◌, inl, inr, ⊎_elim, ℕ, refl, sym, ap, ◌∙◌, subst, List, [], ◌∷◌, ◌++◌, Option, Some, None, append_assoc}
-use Rattle.gt_words.specs.Conditions.{Unpins}
 use Rattle.gt_words.specs.Events.{TookPlace}
 use Rattle.gt_words.specs.History.{History, Moment, part_of}
 use Rattle.gt_words.specs.Rule.{Layout}

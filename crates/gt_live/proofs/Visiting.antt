@@ -1,5 +1,5 @@
 -- What an access did to the frames that it locked, as a call of a domain tells it.
-use Rattle.std.proofs.Common.{◌≡◌, ◌∙◌, ℕ, sym, ap, subst, refl, Option, Some, None, Ok, Err, List, [], ◌∷◌, ◌++◌, length, append-nil}
+use Rattle.std.proofs.Common.{◌≡◌, ◌∙◌, ℕ, sym, ap, subst, refl, Option, Some, None, Ok, Err, List, [], ◌∷◌, length, append-nil}
 use Rattle.gt_types.specs.declared.DomId.{DomId}
 use Rattle.gt_types.specs.declared.denial.Denial.{Denial}
 use Rattle.gt_calls.specs.declared.held.Route.{Route}
@@ -11,7 +11,7 @@ use Rattle.gt_frames.specs.Receipts.{Copying, Reading, Writing, reading_of}
 use Rattle.gt_frames.specs.Visits.{Visit, visit_in}
 use Rattle.gt_access.specs.Accesses.{IsReadOf, copying_at, writing_at}
 use Rattle.gt_access.specs.Routes.{writ_by}
-use Rattle.gt_access.specs.Visiting.{CopiesIn, LeavesBoth, VisitsToCopy, VisitsToRead, VisitsToWrite}
+use Rattle.gt_access.specs.Visiting.{LeavesBoth, VisitsToCopy, VisitsToRead, VisitsToWrite}
 use Rattle.gt_access.specs.declared.by.Refused.{Refused}
 use Rattle.gt_access.specs.declared.by.Refused.TheVariants.{Gone, Memory}
 use Rattle.gt_live.specs.Visiting.{HasVisited, LeaveAll, WasCopied, WasRead, WasWritten}

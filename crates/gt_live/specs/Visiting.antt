@@ -1,5 +1,5 @@
 -- What the calls of a domain do to frames under their locks.
-use Rattle.std.specs.Prelude.{◌≡◌, ℕ, Option, Result, Ok, Err, List, [], ◌∷◌, ◌++◌, length}
+use Rattle.std.specs.Prelude.{◌≡◌, Option, Result, Ok, Err, List, [], ◌∷◌, ◌++◌, length}
 use Rattle.gt_types.specs.declared.denial.Denial.{Denial}
 use Rattle.gt_frames.specs.declared.places.Spot.{Spot}
 use Rattle.gt_frames.specs.declared.writ.Writ.{Writ}
