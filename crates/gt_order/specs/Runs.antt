@@ -1,9 +1,10 @@
 -- A run of the monitor: the order of all steps of all seats, and for each domain the calls that it made.
-use Rattle.std.specs.Prelude.{◌≡◌, ℕ, ◌<◌, List, [], ◌∷◌, length, None}
+use Rattle.std.specs.Prelude.{◌≡◌, ℕ, ◌<◌, All, List, [], ◌∷◌, length, Option, Some, None}
 use mathlib.Core.Option.{some}
 use lib.ListN.{get_elem?}
 use Rattle.atomic_table.specs.Table.{State}
 use Rattle.gt_types.specs.Config.{IsWithinLimits}
+use Rattle.gt_types.specs.declared.GrantRef.{GrantRef}
 use Rattle.gt_types.specs.declared.config.Config.{Config}
 use Rattle.gt_words.specs.Conditions.{Board, IsSameSeat}
 use Rattle.gt_words.specs.History.{Moment}
@@ -11,7 +12,7 @@ use Rattle.gt_words.specs.Rule.{Shows, layout_of}
 use Rattle.gt_words.specs.declared.view.View.{View}
 use Rattle.gt_handles.specs.Handles.{HandleMap}
 use Rattle.gt_handles.specs.declared.handles.Handle.{Handle}
-use Rattle.gt_calls.specs.Asking.{FitsAsked, IsSaid, asked, begun_of}
+use Rattle.gt_calls.specs.Asking.{FitsAsked, asked, bytes_of}
 use Rattle.gt_calls.specs.Path.{path_of}
 use Rattle.gt_calls.specs.declared.action.Verdict.{Verdict}
 use Rattle.gt_calls.specs.declared.action.Verdict.TheVariants.{Mapped, Refused}
@@ -69,11 +70,14 @@ IsAnswered b c may request (Kept handle p) steps d e =
 IsAnswered b c may request Starved steps d e =
     (steps ≡ []) × (e.seat.view ≡ d.seat.view) × KeepsMappings d.mappings e.mappings
 
--- what the types of a request give: each number of an entry fits, and bytes that no rule refuses spell an entry (own)
-abbrev pub FitsTypes : Config → AllowRelation → Domain → Request → Type 0
-FitsTypes c may d request =
-    FitsAsked (asked request)
-    × (begun_of (knowledge c may d) d.seat.dom request ≡ None → IsSaid (knowledge c may d).header request)
+-- each byte is one (own)
+abbrev pub AreBytesOf : Option (GrantRef × List ℕ) → Type 0
+AreBytesOf None = Unit {0}
+AreBytesOf (Some b) = All (λ byte. byte < 256) b.1
+
+-- what the types of a request give: each number of an entry fits its type, and bytes are below 256 (own)
+abbrev pub FitsTypes : Request → Type 0
+FitsTypes request = FitsAsked (asked request) × AreBytesOf (bytes_of request)
 
 -- The call is one that waits for nobody, and was made as the contract of its function of Domain says (own)
 pub record IsCall (b : Board) (c : Config) (may : AllowRelation) (m : CallMade) : Type 0 where
@@ -81,7 +85,7 @@ pub record IsCall (b : Board) (c : Config) (may : AllowRelation) (m : CallMade) 
   pub afterwards : IsDomainOf b c may m.new
   pub seat : IsSameSeat m.old.seat m.new.seat
   pub waits : WaitsForNobody (asked m.request)
-  pub fits : FitsTypes c may m.old m.request
+  pub fits : FitsTypes m.request
   pub answered : IsAnswered b c may m.request m.outcome m.steps m.old m.new
 
 -- between two calls the domain changed nothing but its records (own)

@@ -3,4 +3,7 @@
 
 mod laws;
 
-pub use laws::{core_sees_the_words, every_run_has_a_legal_order, steps_keep_agreement};
+pub use laws::{
+    calls_of_domains_are_made, core_sees_the_words, every_run_has_a_legal_order,
+    steps_keep_agreement,
+};
