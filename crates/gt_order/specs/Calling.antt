@@ -23,27 +23,27 @@ use Rattle.gt_live.specs.declared.monitor.Monitor.{Monitor}
 use Rattle.gt_order.specs.Runs.{CallMade, FitsTypes, IsCall, KeepsNoPin, Outcome}
 use Rattle.gt_order.specs.Runs.Outcome.{Told, Kept, Starved}
 
--- the domain d of the monitor m asked this, with these steps and this outcome, after which it is e: a call of a run (own)
+-- the domain d of the monitor m asked this, with these steps and this outcome, after which it is e: a call of a run
 abbrev pub WasMade : {P : Type 0} → (P → AllowRelation) → Monitor P → Request → Outcome → List Moment → Domain → Domain
     → Type 0
 WasMade may m request outcome steps d e =
     IsCall m.words m.config (may m.rights)
     (record { request = request; outcome = outcome; steps = steps; old = d; new = e })
 
--- what each call of a domain ensures of it: it is of the monitor before and after, and has the same seat (own)
+-- what each call of a domain ensures of it: it is of the monitor before and after, and has the same seat
 pub record StaysOf {P : Type 0} (may : P → AllowRelation) (m : Monitor P) (d e : Domain) : Type 0 where
   pub before : IsOf may m d
   pub afterwards : IsOf may m e
   pub seat : IsSameSeat d.seat e.seat
 
--- the calls that wait for nobody and neither map nor unmap (own)
+-- the calls that wait for nobody and neither map nor unmap
 abbrev pub PlainCallsAreMade : {P : Type 0} → (P → AllowRelation) → Monitor P → Type 0
 PlainCallsAreMade may m =
     (d e : Domain) (request : Request) (verdict : Verdict) → StaysOf may m d e → WaitsForNobody (asked request)
     → (IsOfMapping (asked request) → ⊥) → FitsTypes request → KeepsNoPin verdict → Answered may m d request verdict e
     → KeepsPinned d e → (steps : List Moment) × WasMade may m request (Told verdict) steps d e
 
--- an unmap (own)
+-- an unmap
 abbrev pub UnmapsAreMade : {P : Type 0} → (P → AllowRelation) → Monitor P → Type 0
 UnmapsAreMade may m =
     (d e : Domain) (handle : Handle) (result : Result (Unit {0}) Denial) → StaysOf may m d e
@@ -51,14 +51,14 @@ UnmapsAreMade may m =
     → OnOk result ((p : Held) × Removes d.mappings e.mappings handle p) → OnErr result (KeepsPinned d e)
     → (steps : List Moment) × WasMade may m (requests.Unmap handle) (Told (verdict_of result)) steps d e
 
--- the outcome of a map that was answered so (own)
+-- the outcome of a map that was answered so
 abbrev pub IsOutcomeOf : Result Handle Denial → Outcome → Type 0
 IsOutcomeOf (Ok handle) (Kept given p) = given ≡ handle
 IsOutcomeOf (Err denial) (Told verdict) = verdict ≡ Refused denial
 IsOutcomeOf (Err denial) Starved = denial ≡ denial_of N26 NoFacts
 IsOutcomeOf result outcome = ⊥
 
--- a map (own)
+-- a map
 abbrev pub MapsAreMade : {P : Type 0} → (P → AllowRelation) → Monitor P → Type 0
 MapsAreMade may m =
     (d e : Domain) (dom : DomId) (gref : GrantRef) (flags : ℕ) (result : Result Handle Denial) → StaysOf may m d e
