@@ -38,6 +38,7 @@ use Rattle.gt_live.specs.Domains.{AllowRelation, knowledge}
 use Rattle.gt_live.specs.Ending.{WaitsForNobody}
 use Rattle.gt_live.specs.Walks.{Made, MakesStep, after, shown, shown_by, shown_in}
 use Rattle.gt_live.specs.declared.domain.Domain.{Domain}
+use Rattle.gt_order.proofs.Bytes.{said}
 use Rattle.gt_order.proofs.Making.{MadeAs, made-as, on-words, one-moment}
 use Rattle.gt_order.proofs.Seeing.{sees}
 use Rattle.gt_order.proofs.Stages.{SeatNow}
@@ -115,7 +116,7 @@ module _ (b : Board) (c : Config) (may : AllowRelation) (limits : IsWithinLimits
   pub on-way : (step : Step) → way (shown xs) ≡ Some (Makes step) → (vs : List Seen) → path (known_at s g d) d cl.request vs ≡ way vs
   on-way step next vs =
       let none : begun_of know m.old.seat.dom m.request ≡ None = unanswered (begun_of know m.old.seat.dom m.request) (steps_of know m.old.seat.dom (asked m.request)) (shown xs) step next in
-      (λ j. path (seat.known j) (sym own j) (seat.call.2 j) vs) ∙ same-way know m.old.seat.dom m.request none call.fits.1 vs
+      (λ j. path (seat.known j) (sym own j) (seat.call.2 j) vs) ∙ same-way know m.old.seat.dom m.request none (said know m.old.seat.dom m.request call.fits.1) vs
 
   values-then : (seen : Seen) → seen ≡ shown_by x → values cl ++ seen ∷ [] ≡ shown (x ∷ xs)
   values-then seen e = λ j. seat.call.3 j ++ e j ∷ []

@@ -4,6 +4,8 @@ pub mod Kept
 pub mod Counting
 pub mod Stepping
 pub mod Making
+pub mod Spelled
+pub mod Bytes
 pub mod Ends
 pub mod Resting
 pub mod Stages
@@ -11,3 +13,4 @@ pub mod Start
 pub mod Going
 pub mod Ending
 pub mod Order
+pub mod Called

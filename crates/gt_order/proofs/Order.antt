@@ -35,6 +35,7 @@ use Rattle.gt_live.specs.Domains.{AllowRelation, knowledge}
 use Rattle.gt_live.specs.Starting.{IsNewDomain}
 use Rattle.gt_live.specs.Walks.{IsWalk, MakesStep, after, shown, shown_by, shown_in}
 use Rattle.gt_live.specs.declared.domain.Domain.{Domain}
+use Rattle.gt_order.proofs.Bytes.{said}
 use Rattle.gt_order.proofs.Ending.{RefusesOnly, answered-at-once, answers, asked-refuses, begins, core-adds, ends-kept, ends-told, going-on, keeps-at-once, known-alike, no-pin-at-once, starves}
 use Rattle.gt_order.proofs.Going.{goes-so, on-way, unanswered}
 use Rattle.gt_order.proofs.Making.{made-as, one-moment}
@@ -192,7 +193,7 @@ module _ (b : Board) (c : Config) (may : AllowRelation) (limits : IsWithinLimits
 
       -- what answers it at once
       at-once : (v : Verdict) → TookSteps b c may m.request v m.steps m.old m.new → begun_of (knowledge c may m.old) m.old.seat.dom m.request ≡ Some v
-      at-once v t = answered-at-once (knowledge c may m.old) m.old.seat.dom m.request v call.fits.1 (ap (λ (xs : List Moment). way_of c may m (shown xs)) (sym (t.1 ∙ none)) ∙ t.0.answered)
+      at-once v t = answered-at-once (knowledge c may m.old) m.old.seat.dom m.request v (said (knowledge c may m.old) m.old.seat.dom m.request call.fits.1) (ap (λ (xs : List Moment). way_of c may m (shown xs)) (sym (t.1 ∙ none)) ∙ t.0.answered)
 
       same : (j : ℕ) → i ≢ j → stages j ≡ put i (Resting ms) stages j
       same j n = sym (put-else i (Resting ms) stages j n)
@@ -231,8 +232,8 @@ module _ (b : Board) (c : Config) (may : AllowRelation) (limits : IsWithinLimits
       let own : m.old.seat.dom ≡ d = sym call.before.seat.named ∙ ap (dom_at k) (ap (λ (z : SeatOf). z.view.position) rest.seat ∙ at.0) in
       let none : begun_of (knowledge c may m.old) m.old.seat.dom m.request ≡ None = unanswered (begun_of (knowledge c may m.old) m.old.seat.dom m.request) (steps_of (knowledge c may m.old) m.old.seat.dom (asked m.request)) [] going.step going.next in
       let here : begun_of (known_at s o.g d) d m.request ≡ None = (λ j. begun_of (known j) (sym own j) m.request) ∙ none in
-      let said : IsSaid (table_at s o.g d) m.request = subst (λ (z : CallerKnowledge). IsSaid z.header m.request) (sym known) (call.fits.1 none) in
-      let begun = calls-can-begin s o.g d m.request o.reached (named i l) seat.call call.fits.0 said in
+      let spelled : IsSaid (table_at s o.g d) m.request = subst (λ (z : CallerKnowledge). IsSaid z.header m.request) (sym known) (said (knowledge c may m.old) m.old.seat.dom m.request call.fits.1 none) in
+      let begun = calls-can-begin s o.g d m.request o.reached (named i l) seat.call call.fits.0 spelled in
       let item = item_of_beginning d m.request None in
       let right : IsRight s o.g item = subst (λ (z : Option Verdict). IsRight s o.g (beginning d m.request (begin_answer z))) here begun.0 in
       let reached : IsReached s (item ∷ o.g) = subst (λ (z : Option Verdict). IsReached s (beginning d m.request (begin_answer z) ∷ o.g)) here begun.1 in

@@ -21,12 +21,12 @@ use Rattle.gt_calls.specs.declared.action.Step.TheVariants.{LookHeader, LookCont
 use Rattle.gt_calls.specs.declared.action.Step.TheVariants.{StoreBody, StoreHeader, Exchange}
 use Rattle.gt_core.specs.History.{History as Items, Setting, body_at, entry_at, generation_at, table_at, word_at}
 
--- the domain at a position (own)
+-- the domain at a position
 abbrev pub dom_at : Layout → ℕ → DomId
 dom_at k t = id_at k.ids t
 
 -- The items and the history have made the same: of each entry the control word, the body words, and the entry and
--- generation that its owner knows, and of each table its header (own)
+-- generation that its owner knows, and of each table its header
 pub record Agree (s : Setting) (k : Layout) (g : Items) (h : History) : Type 0 where
   pub words : (t r : ℕ) → t < k.domains → r < TABLE_ENTRIES → word_at s g (dom_at k t).0 r ≡ word_after k h (place t r 0)
   pub bodies : (t r : ℕ) (half : Half) → t < k.domains → r < TABLE_ENTRIES
@@ -38,7 +38,7 @@ pub record Agree (s : Setting) (k : Layout) (g : Items) (h : History) : Type 0 w
       → generation_at s g (dom_at k t).0 r ≡ (last_record k.first (entry_steps t r (part_of t h))).generation
 
 -- the step of a call by the domain at the position i is this step of its seat: on the same word, of the same kind, and
--- an exchange from the same word, whether it was taken or missed (own)
+-- an exchange from the same word, whether it was taken or missed
 abbrev pub IsThe : Layout → ℕ → Step → SeatStep → Type 0
 IsThe k i (LookHeader d) (Header t (header.Looked n)) = t ≡ position_in k.ids d
 IsThe k i (LookControl d q) (Entry t r (Looked n)) = (t ≡ position_in k.ids d) × (r ≡ q.0)
@@ -58,7 +58,7 @@ IsThe k i (Exchange q looked change) (Entry t r (ChangeMissed c e f n)) =
     (t ≡ i) × (r ≡ q.0) × (c ≡ change) × (e ≡ looked)
 IsThe k i _ _ = ⊥
 
--- the step is on words of the run's entries and headers (own)
+-- the step is on words of the run's entries and headers
 abbrev pub IsWithin : Layout → Step → Type 0
 IsWithin k (LookHeader d) = HasDomain k d
 IsWithin k (LookControl d q) = HasDomain k d × (q.0 < TABLE_ENTRIES)
@@ -70,11 +70,11 @@ IsWithin k (Exchange q looked change) = q.0 < TABLE_ENTRIES
 IsWithin k (StoreHeader version frames) = Unit {0}
 IsWithin k step = ⊥
 
--- the owner's last record of the entry r of the domain at the position t, as the history makes it (own)
+-- the owner's last record of the entry r of the domain at the position t, as the history makes it
 abbrev pub last_at : Layout → ℕ → ℕ → History → EntryRecord
 last_at k t r h = last_record k.first (entry_steps t r (part_of t h))
 
--- a taken exchange stored the word and the record that its change makes of the last record (own)
+-- a taken exchange stored the word and the record that its change makes of the last record
 abbrev pub StoresChange : Layout → History → SeatStep → Type 0
 StoresChange k h (Entry t r (Changed c e n x)) =
     (n ≡ changed_word c (last_at k t r h) e) × (x ≡ changed c (last_at k t r h))

@@ -26,14 +26,14 @@ use Rattle.gt_order.specs.Agreeing.{Agree, IsThe, IsWithin, StoresChange, dom_at
 use Rattle.gt_order.specs.Ordering.{IsLegalOrder}
 use Rattle.gt_order.specs.Runs.{IsRun, SeatRun}
 
--- where items and history agree, the core's step sees what the words' step shows, if that says what is there (own)
+-- where items and history agree, the core's step sees what the words' step shows, if that says what is there
 abbrev pub CoreSeesTheWords : Type 0
 CoreSeesTheWords =
     (c : Config) (may : AllowRelation) (k : Layout) (g : Items) (h : History) (i : ℕ) (step : Step) (x : SeatStep)
     → k ≡ layout_of c → Agree (setting_of c may) k g h → i < k.domains → IsWithin k step → IsThe k i step x
     → Says x (word_after k h (place_of x)) → seen_by (setting_of c may) g (dom_at k i) step ≡ shown_in x
 
--- where items and history agree, and an open call's next step was made by its seat, they agree after it too (own)
+-- where items and history agree, and an open call's next step was made by its seat, they agree after it too
 abbrev pub StepsKeepAgreement : Type 0
 StepsKeepAgreement =
     (c : Config) (may : AllowRelation) (k : Layout) (g : Items) (h : History) (i : ℕ) (call : Underway) (step : Step)
@@ -45,7 +45,7 @@ StepsKeepAgreement =
     → IsWithin k step → IsThe k i step x → StoresChange k h x → Says x (word_after k h (place_of x))
     → IsRight s g item → Agree s k (item ∷ g) ((i, x) ∷ h)
 
--- each run of the monitor has a legal order (own)
+-- each run of the monitor has a legal order
 abbrev pub RunsHaveLegalOrders : Type 0
 RunsHaveLegalOrders =
     (b : Board) (c : Config) (may : AllowRelation) (s : State (Unit {0}) View) (seats : ℕ → SeatRun)

@@ -1,4 +1,5 @@
 pub mod Runs
+pub mod Calling
 pub mod Agreeing
 pub mod Ordering
 pub mod Laws

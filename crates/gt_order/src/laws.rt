@@ -1,5 +1,9 @@
 //! What the definitions of this crate come to. Each law is a function that does nothing, whose contract is the law.
+ghost use Rattle.gt_order.specs.Calling.{MapsAreMade, PlainCallsAreMade, UnmapsAreMade};
 ghost use Rattle.gt_order.specs.Laws.{CoreSeesTheWords, RunsHaveLegalOrders, StepsKeepAgreement};
+
+use gt_live::Monitor;
+use gt_types::Allows;
 
 /// A law: where the items and the history have made the same of all words, the core's step sees what the step of the
 /// words shows, if that says what is there.
@@ -11,6 +15,14 @@ pub fn core_sees_the_words()
 /// right item, they have made the same after it.
 pub fn steps_keep_agreement()
     ensures { StepsKeepAgreement }
+{}
+
+/// A law: what the calls of a domain promise makes each of them a call of a run, if it waits for nobody: the clauses
+/// of their contracts, as they stand there, are all that is asked.
+pub fn calls_of_domains_are_made<P: Allows>(_monitor: &Monitor<P>)
+    ensures plain { PlainCallsAreMade P.may _monitor.now }
+    ensures unmaps { UnmapsAreMade P.may _monitor.now }
+    ensures maps { MapsAreMade P.may _monitor.now }
 {}
 
 /// A law: the whole of each run of the monitor, whose calls all wait for nobody and are finished, is one legal

@@ -1,6 +1,21 @@
-//! Runs of the monitor as legal orders of the core's events.
+//! Each run of the monitor is one legal interleaving of the core's events.
+//!
+//! Nothing here runs: the crate has definitions, and laws, each a function that does nothing and whose contract is the
+//! law. A run is the one order of all steps of all seats (`gt_words`), and the calls that each domain made, as their
+//! contracts tell them (`gt_live`).
+//!
+//! What holds: for each run whose calls wait for nobody and are finished there is one list of the core's items that is
+//! legal (`gt_core`), whose steps are those of the run in their order, and in which each call is answered as its domain
+//! answered it ([`every_run_has_a_legal_order`]). The contracts of a domain's calls make them calls of a run
+//! ([`calls_of_domains_are_made`]).
+//!
+//! It uses `gt_live`, `gt_core`, `gt_words`, `gt_calls`, `gt_handles`, `gt_entry`, `gt_types` and the kit's
+//! `atomic_table`.
 #![tactic(auto)]
 
 mod laws;
 
-pub use laws::{core_sees_the_words, every_run_has_a_legal_order, steps_keep_agreement};
+pub use laws::{
+    calls_of_domains_are_made, core_sees_the_words, every_run_has_a_legal_order,
+    steps_keep_agreement,
+};

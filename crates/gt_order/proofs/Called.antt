@@ -1,0 +1,106 @@
+-- The contracts of the calls of a domain say that each is a call of a run.
+use Rattle.std.proofs.Common.{◌≡◌, ℕ, List, [], Result, Ok, Err, refl, ⊎_elim, ◌⊎◌, inl, inr}
+use Rattle.gt_types.specs.declared.denial.Denial.{Denial}
+use Rattle.gt_handles.specs.Handles.{HandleMap}
+use Rattle.gt_handles.specs.declared.handles.Handle.{Handle}
+use Rattle.gt_calls.specs.Asking.{asked}
+use Rattle.gt_calls.specs.declared.action.Verdict.{Verdict}
+use Rattle.gt_calls.specs.declared.action.Verdict.TheVariants.{Granted, Given, Mapped, Refused}
+use Rattle.gt_calls.specs.declared.held.Held.{Held}
+use Rattle.gt_calls.specs.declared.request.Asked.{Asked}
+use Rattle.gt_calls.specs.declared.request.Asked.TheVariants.{Unmap}
+use Rattle.gt_live.specs.Domains.{AllowRelation}
+use Rattle.gt_live.specs.Ending.{IsOfMapping}
+use Rattle.gt_live.specs.Mappings.{KeepsMappings}
+use Rattle.gt_live.specs.declared.monitor.Monitor.{Monitor}
+use Rattle.gt_order.specs.Calling.{MapsAreMade, PlainCallsAreMade, UnmapsAreMade}
+use Rattle.gt_order.specs.Runs.{LeavesMappings}
+use Rattle.gt_order.specs.Runs.Outcome.{Told, Kept, Starved}
+
+leaves : (request : Asked) (verdict : Verdict) (old new : HandleMap Held) → (IsOfMapping request → ⊥) → KeepsMappings old new → LeavesMappings request verdict old new
+leaves (Unmap handle) verdict old new n k = absurd (n tt)
+leaves request verdict old new n k = k
+
+pub plain-made : {P : Type 0} (may : P → AllowRelation) (m : Monitor P) → PlainCallsAreMade may m
+plain-made may m d e request verdict stays waits other fits plain answered kept = (
+  answered.steps,
+  record {
+    before = stays.before;
+    afterwards = stays.afterwards;
+    seat = stays.seat;
+    waits = waits;
+    fits = fits;
+    answered = (plain, (answered, refl), leaves (asked request) verdict d.mappings e.mappings other kept.0);
+  },
+)
+
+pub unmap-made : {P : Type 0} (may : P → AllowRelation) (m : Monitor P) → UnmapsAreMade may m
+unmap-made may m d e handle (Ok tt) stays answered removed refused = (
+  answered.steps,
+  record {
+    before = stays.before;
+    afterwards = stays.afterwards;
+    seat = stays.seat;
+    waits = tt;
+    fits = (tt, tt);
+    answered = (tt, (answered, refl), removed);
+  },
+)
+unmap-made may m d e handle (Err denial) stays answered removed refused = (
+  answered.steps,
+  record {
+    before = stays.before;
+    afterwards = stays.afterwards;
+    seat = stays.seat;
+    waits = tt;
+    fits = (tt, tt);
+    answered = (tt, (answered, refl), refused.0);
+  },
+)
+
+pub map-made : {P : Type 0} (may : P → AllowRelation) (m : Monitor P) → MapsAreMade may m
+map-made may m d e dom gref flags (Ok handle) stays answered = (
+  Kept handle answered.0,
+  refl,
+  (
+    answered.1.steps,
+    record {
+      before = stays.before;
+      afterwards = stays.afterwards;
+      seat = stays.seat;
+      waits = tt;
+      fits = (tt, tt);
+      answered = (tt, (answered.1, refl), answered.2);
+    },
+  ),
+)
+map-made may m d e dom gref flags (Err denial) stays (inl answered, kept) = (
+  Told (Refused denial),
+  refl,
+  (
+    answered.steps,
+    record {
+      before = stays.before;
+      afterwards = stays.afterwards;
+      seat = stays.seat;
+      waits = tt;
+      fits = (tt, tt);
+      answered = (tt, (answered, refl), kept.0);
+    },
+  ),
+)
+map-made may m d e dom gref flags (Err denial) stays (inr starved, kept) = (
+  Starved,
+  starved.0,
+  (
+    [],
+    record {
+      before = stays.before;
+      afterwards = stays.afterwards;
+      seat = stays.seat;
+      waits = tt;
+      fits = (tt, tt);
+      answered = (refl, starved.3, kept.0);
+    },
+  ),
+)

@@ -1,0 +1,67 @@
+-- The contracts of the calls of a domain, clause by clause, say that each is a call of a run.
+use Rattle.std.specs.Prelude.{◌≡◌, ◌≢◌, ℕ, List, Result, Ok, Err, OnOk, OnErr}
+use Rattle.gt_types.specs.Denial.{denial_of}
+use Rattle.gt_types.specs.declared.DomId.{DomId}
+use Rattle.gt_types.specs.declared.GrantRef.{GrantRef}
+use Rattle.gt_types.specs.declared.denial.Denial.{Denial}
+use Rattle.gt_types.specs.declared.denial.Facts.TheVariants.{None as NoFacts}
+use Rattle.gt_types.specs.declared.denial.Rule.TheVariants.{N26}
+use Rattle.gt_words.specs.Conditions.{IsSameSeat}
+use Rattle.gt_words.specs.History.{Moment}
+use Rattle.gt_handles.specs.declared.handles.Handle.{Handle}
+use Rattle.gt_calls.specs.Asking.{asked}
+use Rattle.gt_calls.specs.declared.action.Verdict.{Verdict}
+use Rattle.gt_calls.specs.declared.action.Verdict.TheVariants.{Refused}
+use Rattle.gt_calls.specs.declared.held.Held.{Held}
+use Rattle.gt_calls.specs.declared.request.Request.{Request}
+use Rattle.gt_calls.specs.declared.request.Request.TheVariants as requests
+use Rattle.gt_live.specs.Domains.{AllowRelation, Answered, IsOf, KeepsPinned, MapAnswered, verdict_of}
+use Rattle.gt_live.specs.Ending.{IsOfMapping, WaitsForNobody}
+use Rattle.gt_live.specs.Mappings.{Removes}
+use Rattle.gt_live.specs.declared.domain.Domain.{Domain}
+use Rattle.gt_live.specs.declared.monitor.Monitor.{Monitor}
+use Rattle.gt_order.specs.Runs.{CallMade, FitsTypes, IsCall, KeepsNoPin, Outcome}
+use Rattle.gt_order.specs.Runs.Outcome.{Told, Kept, Starved}
+
+-- the domain d of the monitor m asked this, with these steps and this outcome, after which it is e: a call of a run
+abbrev pub WasMade : {P : Type 0} → (P → AllowRelation) → Monitor P → Request → Outcome → List Moment → Domain → Domain
+    → Type 0
+WasMade may m request outcome steps d e =
+    IsCall m.words m.config (may m.rights)
+    (record { request = request; outcome = outcome; steps = steps; old = d; new = e })
+
+-- what each call of a domain ensures of it: it is of the monitor before and after, and has the same seat
+pub record StaysOf {P : Type 0} (may : P → AllowRelation) (m : Monitor P) (d e : Domain) : Type 0 where
+  pub before : IsOf may m d
+  pub afterwards : IsOf may m e
+  pub seat : IsSameSeat d.seat e.seat
+
+-- the calls that wait for nobody and neither map nor unmap
+abbrev pub PlainCallsAreMade : {P : Type 0} → (P → AllowRelation) → Monitor P → Type 0
+PlainCallsAreMade may m =
+    (d e : Domain) (request : Request) (verdict : Verdict) → StaysOf may m d e → WaitsForNobody (asked request)
+    → (IsOfMapping (asked request) → ⊥) → FitsTypes request → KeepsNoPin verdict → Answered may m d request verdict e
+    → KeepsPinned d e → (steps : List Moment) × WasMade may m request (Told verdict) steps d e
+
+-- an unmap
+abbrev pub UnmapsAreMade : {P : Type 0} → (P → AllowRelation) → Monitor P → Type 0
+UnmapsAreMade may m =
+    (d e : Domain) (handle : Handle) (result : Result (Unit {0}) Denial) → StaysOf may m d e
+    → Answered may m d (requests.Unmap handle) (verdict_of result) e
+    → OnOk result ((p : Held) × Removes d.mappings e.mappings handle p) → OnErr result (KeepsPinned d e)
+    → (steps : List Moment) × WasMade may m (requests.Unmap handle) (Told (verdict_of result)) steps d e
+
+-- the outcome of a map that was answered so
+abbrev pub IsOutcomeOf : Result Handle Denial → Outcome → Type 0
+IsOutcomeOf (Ok handle) (Kept given p) = given ≡ handle
+IsOutcomeOf (Err denial) (Told verdict) = verdict ≡ Refused denial
+IsOutcomeOf (Err denial) Starved = denial ≡ denial_of N26 NoFacts
+IsOutcomeOf result outcome = ⊥
+
+-- a map
+abbrev pub MapsAreMade : {P : Type 0} → (P → AllowRelation) → Monitor P → Type 0
+MapsAreMade may m =
+    (d e : Domain) (dom : DomId) (gref : GrantRef) (flags : ℕ) (result : Result Handle Denial) → StaysOf may m d e
+    → MapAnswered may m d (requests.Map dom gref flags) result e
+    → (outcome : Outcome) × IsOutcomeOf result outcome
+    × ((steps : List Moment) × WasMade may m (requests.Map dom gref flags) outcome steps d e)
