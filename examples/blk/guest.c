@@ -1,0 +1,80 @@
+#include "guest.h"
+
+#include <stdio.h>
+#include <string.h>
+
+/* The front end's page is for the back end, and the two guests share nothing. */
+static const char POLICY[] = "type driver_t; type guest_t; type other_t;\n"
+                             "allow driver_t guest_t:grant { map_read map_write unmap copy };\n"
+                             "allow driver_t self:grant copy;\n"
+                             "allow other_t guest_t:grant map_read;\n";
+
+bool host_start(struct host *host, const struct monitor *monitor)
+{
+    const struct gthost_settings settings[DOMAINS] = {
+        {FRONT, 1, FRAMES, 1, 2},
+        {BACK, 0, FRAMES, 1, 1},
+        {OTHER, 2, FRAMES, 1, 1},
+    };
+    struct gthost_fault fault;
+    memset(host->domains, 0, sizeof host->domains);
+    host->monitor = monitor;
+    if (!monitor->start(settings, DOMAINS, 0, (const uint8_t *)POLICY, strlen(POLICY), &host->domains[FRONT], DOMAINS,
+                        &fault)) {
+        fprintf(stderr, "blk: no run: fault %u, line %u\n", fault.kind, fault.line);
+        return false;
+    }
+    return true;
+}
+
+void host_finish(struct host *host)
+{
+    for (int dom = FRONT; dom <= DOMAINS; dom++) {
+        host->monitor->finish(&host->domains[dom]);
+    }
+}
+
+uint8_t *own_page(struct host *host, uint16_t dom, uint64_t frame)
+{
+    return host->memory[dom][frame];
+}
+
+uint8_t *guest_page(struct host *host, uint16_t dom, struct gthost_handle name, bool writes)
+{
+    struct gthost_mapping mapping;
+    if (!host->monitor->mapping(&host->domains[dom], name, &mapping) || (writes && !mapping.writes)) {
+        return NULL;
+    }
+    return host->memory[mapping.owner][mapping.frame];
+}
+
+bool guest_map(struct host *host, uint16_t dom, uint16_t owner, uint32_t gref, bool writes,
+               struct gthost_handle *name)
+{
+    struct gthost_answer answer;
+    host->monitor->map(&host->domains[dom], owner, gref, writes ? GTHOST_MAP_WRITABLE : GTHOST_MAP_READ_ONLY, &answer);
+    name->serial = answer.value;
+    name->key = (size_t)answer.more;
+    return answer.rule == GTHOST_OK;
+}
+
+bool guest_unmap(struct host *host, uint16_t dom, struct gthost_handle name)
+{
+    struct gthost_answer answer;
+    host->monitor->unmap(&host->domains[dom], name, &answer);
+    return answer.rule == GTHOST_OK;
+}
+
+bool guest_grant(struct host *host, uint16_t dom, uint32_t gref, uint64_t frame, bool read_only)
+{
+    struct gthost_answer answer;
+    host->monitor->grant_page(&host->domains[dom], gref, BACK, frame, read_only, &answer);
+    return answer.rule == GTHOST_OK;
+}
+
+uint32_t guest_revoke(struct host *host, uint16_t dom, uint32_t gref)
+{
+    struct gthost_answer answer;
+    host->monitor->revoke(&host->domains[dom], gref, &answer);
+    return answer.rule;
+}
