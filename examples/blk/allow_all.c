@@ -58,14 +58,37 @@ static void unmap(struct gthost_domain *domain, struct gthost_handle name, struc
     *answer = OK;
 }
 
-static bool mapping(struct gthost_domain *domain, struct gthost_handle name, struct gthost_mapping *out)
+static void mapping(struct gthost_domain *domain, struct gthost_handle name, struct gthost_mapping *mapping,
+                    struct gthost_answer *answer)
 {
     (void)domain;
-    out->owner = (uint16_t)name.serial;
-    out->gref = (uint32_t)name.key;
-    out->frame = frame_of[name.serial][name.key];
-    out->writes = true;
-    return true;
+    mapping->owner = (uint16_t)name.serial;
+    mapping->gref = (uint32_t)name.key;
+    mapping->frame = frame_of[name.serial][name.key];
+    mapping->writes = true;
+    *answer = OK;
+}
+
+static struct gthost_place place(const struct gthost_end *end, bool is_reference)
+{
+    struct gthost_place place = {is_reference ? frame_of[end->dom][end->ptr] : end->ptr, end->dom, end->off};
+    return place;
+}
+
+static void copy_begin(struct gthost_domain *domain, const struct gthost_copy *copy, struct gthost_places *places,
+                       struct gthost_answer *answer)
+{
+    (void)domain;
+    places->from = place(&copy->source, copy->flags & GTHOST_COPY_SOURCE_GREF);
+    places->to = place(&copy->dest, copy->flags & GTHOST_COPY_DEST_GREF);
+    places->len = copy->len;
+    *answer = OK;
+}
+
+static void copy_end(struct gthost_domain *domain, struct gthost_answer *answer)
+{
+    (void)domain;
+    *answer = OK;
 }
 
 const struct monitor allow_all = {
@@ -77,4 +100,6 @@ const struct monitor allow_all = {
     .map = map,
     .unmap = unmap,
     .mapping = mapping,
+    .copy_begin = copy_begin,
+    .copy_end = copy_end,
 };

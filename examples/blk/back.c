@@ -1,5 +1,7 @@
 #include "back.h"
 
+enum { BOUNCE_FRAME = 0 }; /* of its own, for copies */
+
 /* A request in one form, whether it was direct or indirect. */
 struct job {
     uint64_t id, sector;
@@ -63,10 +65,9 @@ static bool read_indirect(struct back *back, const struct blkif_request *request
     return true;
 }
 
-static bool move_segment(struct back *back, const struct job *job, const struct blkif_request_segment *segment,
-                         uint64_t sector)
+static bool move_mapped(struct back *back, const struct job *job, const struct blkif_request_segment *segment,
+                        uint64_t sector, uint64_t count)
 {
-    uint64_t count = (uint64_t)segment->last_sect - segment->first_sect + 1;
     uint8_t *page = map_page(back, segment->gref, !job->writes);
     if (!page) {
         return false;
@@ -80,6 +81,26 @@ static bool move_segment(struct back *back, const struct job *job, const struct 
     return true;
 }
 
+static bool move_copied(struct back *back, const struct job *job, const struct blkif_request_segment *segment,
+                        uint64_t sector, uint64_t count)
+{
+    const struct gthost_end theirs = {segment->gref, FRONT, (uint16_t)(segment->first_sect * SECTOR)};
+    const struct gthost_end own = {BOUNCE_FRAME, BACK, 0};
+    uint8_t *bounce = own_page(back->host, BACK, BOUNCE_FRAME);
+    uint16_t len = (uint16_t)(count * SECTOR);
+    if (job->writes) {
+        const struct gthost_copy in = {theirs, own, len, GTHOST_COPY_SOURCE_GREF};
+        if (!guest_copy(back->host, BACK, &in)) {
+            return false;
+        }
+        disk_write(back->disk, sector, count, bounce);
+        return true;
+    }
+    const struct gthost_copy out = {own, theirs, len, GTHOST_COPY_DEST_GREF};
+    disk_read(back->disk, sector, count, bounce);
+    return guest_copy(back->host, BACK, &out);
+}
+
 static bool move_all(struct back *back, const struct job *job)
 {
     uint64_t sector = job->sector;
@@ -89,7 +110,11 @@ static bool move_all(struct back *back, const struct job *job)
             return false;
         }
         uint64_t count = (uint64_t)segment->last_sect - segment->first_sect + 1;
-        if (!disk_has(sector, count) || !move_segment(back, job, segment, sector)) {
+        if (!disk_has(sector, count)) {
+            return false;
+        }
+        if (back->way == COPIES ? !move_copied(back, job, segment, sector, count)
+                                : !move_mapped(back, job, segment, sector, count)) {
             return false;
         }
         sector += count;
@@ -115,7 +140,7 @@ static int16_t serve(struct back *back, const struct blkif_request *request, str
     default:
         return BLKIF_RSP_EOPNOTSUPP;
     }
-    if (!back->keeps) {
+    if (back->way != KEEPS) {
         done = let_go(back) && done;
     }
     return done ? BLKIF_RSP_OKAY : BLKIF_RSP_ERROR;

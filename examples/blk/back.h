@@ -7,11 +7,18 @@
 #include "link.h"
 #include "ring.h"
 
+/* How the back end gets at the pages of a request. */
+enum way {
+    MAPS,   /* maps them, and unmaps them before it answers */
+    KEEPS,  /* maps them, and unmaps them at the next flush */
+    COPIES, /* copies by reference, to and from a page of its own */
+};
+
 struct back {
     struct host *host;
     struct link *link;
     struct disk *disk;
-    bool keeps; /* answers a request while its pages are mapped, and lets them go at the next flush */
+    enum way way;
     uint64_t served, failed;
     struct blkif_back_ring ring;
     struct gthost_handle kept[MOST_SEGMENTS + 1];

@@ -3,11 +3,10 @@
 #include <stdio.h>
 #include <string.h>
 
-/* The front end's page is for the back end, and the two guests share nothing. */
+/* A copy asks for the owner of the source and that of the destination, so it is allowed both ways. */
 static const char POLICY[] = "type driver_t; type guest_t; type other_t;\n"
                              "allow driver_t guest_t:grant { map_read map_write unmap copy };\n"
-                             "allow driver_t self:grant copy;\n"
-                             "allow other_t guest_t:grant map_read;\n";
+                             "allow guest_t driver_t:grant copy;\n";
 
 bool host_start(struct host *host, const struct monitor *monitor)
 {
@@ -42,7 +41,9 @@ uint8_t *own_page(struct host *host, uint16_t dom, uint64_t frame)
 uint8_t *guest_page(struct host *host, uint16_t dom, struct gthost_handle name, bool writes)
 {
     struct gthost_mapping mapping;
-    if (!host->monitor->mapping(&host->domains[dom], name, &mapping) || (writes && !mapping.writes)) {
+    struct gthost_answer answer;
+    host->monitor->mapping(&host->domains[dom], name, &mapping, &answer);
+    if (answer.rule != GTHOST_OK || (writes && !mapping.writes)) {
         return NULL;
     }
     return host->memory[mapping.owner][mapping.frame];
@@ -62,6 +63,20 @@ bool guest_unmap(struct host *host, uint16_t dom, struct gthost_handle name)
 {
     struct gthost_answer answer;
     host->monitor->unmap(&host->domains[dom], name, &answer);
+    return answer.rule == GTHOST_OK;
+}
+
+bool guest_copy(struct host *host, uint16_t dom, const struct gthost_copy *copy)
+{
+    struct gthost_places places;
+    struct gthost_answer answer;
+    host->monitor->copy_begin(&host->domains[dom], copy, &places, &answer);
+    if (answer.rule != GTHOST_OK) {
+        return false;
+    }
+    memcpy(host->memory[places.to.owner][places.to.frame] + places.to.off,
+           host->memory[places.from.owner][places.from.frame] + places.from.off, places.len);
+    host->monitor->copy_end(&host->domains[dom], &answer);
     return answer.rule == GTHOST_OK;
 }
 

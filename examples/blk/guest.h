@@ -34,6 +34,8 @@ bool guest_map(struct host *host, uint16_t dom, uint16_t owner, uint32_t gref, b
                struct gthost_handle *name);
 /* Unmaps; false if it is refused. */
 bool guest_unmap(struct host *host, uint16_t dom, struct gthost_handle name);
+/* Copies bytes between the places that the monitor names; false if it is refused. */
+bool guest_copy(struct host *host, uint16_t dom, const struct gthost_copy *copy);
 /* Grants a page of its own to the back end; false if it is refused. */
 bool guest_grant(struct host *host, uint16_t dom, uint32_t gref, uint64_t frame, bool read_only);
 /* Revokes: 0 if it was done, or the number of the rule that refused it. */

@@ -15,7 +15,11 @@ struct monitor {
     void (*map)(struct gthost_domain *domain, uint16_t dom, uint32_t gref, uint32_t flags,
                 struct gthost_answer *answer);
     void (*unmap)(struct gthost_domain *domain, struct gthost_handle name, struct gthost_answer *answer);
-    bool (*mapping)(struct gthost_domain *domain, struct gthost_handle name, struct gthost_mapping *out);
+    void (*mapping)(struct gthost_domain *domain, struct gthost_handle name, struct gthost_mapping *mapping,
+                    struct gthost_answer *answer);
+    void (*copy_begin)(struct gthost_domain *domain, const struct gthost_copy *copy, struct gthost_places *places,
+                       struct gthost_answer *answer);
+    void (*copy_end)(struct gthost_domain *domain, struct gthost_answer *answer);
 };
 
 /* The library. */

@@ -9,4 +9,6 @@ const struct monitor proved = {
     .map = gthost_map,
     .unmap = gthost_unmap,
     .mapping = gthost_mapping,
+    .copy_begin = gthost_copy_begin,
+    .copy_end = gthost_copy_end,
 };
