@@ -4,7 +4,7 @@
 It reads the `#[repr(C)]` structs, the exports and the numbers of crates/gt_c, gt_seat and gt_types, and declares and
 asserts them again, by the layout rules of C: each export with its types, the size of each struct and the offset of each
 field, and the number of each name. A declaration that differs from the header's is an error of the compiler. What the
-one side has and the other has not is an error here.
+one side has and the other has not is an error here. The same is done for the structs and functions of contrib/rust.
 """
 
 import pathlib
@@ -17,9 +17,14 @@ STRUCTS = {
     "MapHandle": "gthost_handle", "Mapping": "gthost_mapping", "CopyEnd": "gthost_end", "CopySettings": "gthost_copy",
     "PlaceTold": "gthost_place", "PlacesTold": "gthost_places", "Record": "gthost_record",
 }
+OF_RUST = {
+    "Domain": "gthost_domain", "Settings": "gthost_settings", "Fault": "gthost_fault", "Answer": "gthost_answer",
+    "Handle": "gthost_handle", "Mapping": "gthost_mapping", "End": "gthost_end", "Copying": "gthost_copy",
+    "Place": "gthost_place", "Places": "gthost_places", "Record": "gthost_record",
+}
 SCALARS = {
     "u8": ("uint8_t", 1), "u16": ("uint16_t", 2), "u32": ("uint32_t", 4), "u64": ("uint64_t", 8), "i32": ("int32_t", 4),
-    "bool": ("bool", 1), "usize": ("size_t", 8), "*mut u8": ("void *", 8),
+    "bool": ("bool", 1), "usize": ("size_t", 8), "*mut u8": ("void *", 8), "*mut c_void": ("void *", 8),
 }
 EMPTY = {"Global"}  # the allocator: it takes no bytes
 KINDS = {"Mapped": "HANDLE"}  # a name of the header, where it is no other spelling of the Rattle side's word
@@ -69,10 +74,10 @@ def measure(all_structs, kind):
     return -(-at // widest) * widest, widest, places
 
 
-def layouts(all_structs):
-    for name, told in STRUCTS.items():
+def layouts(all_structs, names):
+    for name, told in names.items():
         if name not in all_structs:
-            raise SystemExit(f"header: the Rattle side has no struct {name} for {told}")
+            raise SystemExit(f"header: there is no struct {name} for {told}")
         size, _, places = measure(all_structs, name)
         yield f"_Static_assert(sizeof(struct {told}) == {size}, \"{told}\");"
         for path, offset, width in places:
@@ -81,16 +86,16 @@ def layouts(all_structs):
             yield f"_Static_assert(sizeof(((struct {told} *)0)->{path}) == {width}, \"{told}.{path}\");"
 
 
-def c_type(kind, name):
-    """The parameters of C for one of Rattle."""
+def c_type(kind, name, names):
+    """The parameters of C for one of Rattle or of Rust."""
     slice_of = re.fullmatch(r"&(mut )?\[(\w+)\]", kind)
-    borrowed = re.fullmatch(r"&(mut )?(\w+)", kind)
-    if slice_of or borrowed:
-        mutable, inner = (slice_of or borrowed).groups()
-        told = SCALARS[inner][0] if inner in SCALARS else f"struct {STRUCTS[inner]}"
-        pointer = f"{'' if mutable else 'const '}{told} *{name}"
-        return [pointer, f"size_t {name}_len"] if slice_of else [pointer]
-    return [f"{SCALARS[kind][0] if kind in SCALARS else 'struct ' + STRUCTS[kind]} {name}"]
+    pointer = re.fullmatch(r"(?:&|\*)(mut |const )?(\w+)", kind)
+    if slice_of or pointer:
+        mutable, inner = (slice_of or pointer).groups()
+        told = SCALARS[inner][0] if inner in SCALARS else f"struct {names[inner]}"
+        at = f"{'' if mutable == 'mut ' else 'const '}{told} *{name}"
+        return [at, f"size_t {name}_len"] if slice_of else [at]
+    return [f"{SCALARS[kind][0] if kind in SCALARS else 'struct ' + names[kind]} {name}"]
 
 
 def scalars(declaration):
@@ -107,14 +112,26 @@ def compare_order(header, made):
             raise SystemExit(f"header: {name} takes {told}, and the Rattle side {scalars(declaration)}")
 
 
-def exports(text):
-    for name, params, result in re.findall(r'pub extern "C" fn (\w+)\((.*?)\)(?: -> (\w+))?\s*(?=\{|ensures|requires)', text, re.S):
+def declarations(found, names):
+    for name, params, result in found:
         told = []
         for param in filter(None, (one.strip() for one in params.split(","))):
             field, kind = (one.strip() for one in param.split(":", 1))
             if kind not in EMPTY:
-                told += c_type(kind, field)
+                told += c_type(kind, field, names)
         yield name, f"{SCALARS[result][0] if result else 'void'} {name}({', '.join(told)});"
+
+
+def exports(text):
+    found = re.findall(r'pub extern "C" fn (\w+)\((.*?)\)(?: -> (\w+))?\s*(?=\{|ensures|requires)', text, re.S)
+    return dict(declarations(found, STRUCTS))
+
+
+def rust():
+    text = "\n".join((TOP / "contrib" / "rust" / "src" / name).read_text(encoding="utf-8") for name in ("raw.rs", "lib.rs"))
+    text = re.sub(r"//.*", "", text).replace("super::", "")
+    found = re.findall(r"^    pub fn (gthost_\w+)\((.*?)\)(?: -> (\w+))?;", text, re.S | re.M)
+    return structs(text), dict(declarations(found, OF_RUST))
 
 
 def numbers(text):
@@ -154,18 +171,20 @@ def compare_names(what, declared, made):
 def main():
     text = sources()
     header = re.sub(r"/\*.*?\*/", "", (TOP / "include" / "gthost.h").read_text(encoding="utf-8"), flags=re.S)
-    made, said, of_status = dict(exports(text)), dict(numbers(text)), dict(statuses(text))
+    made, said, of_status = exports(text), dict(numbers(text)), dict(statuses(text))
+    rust_structs, rust_made = rust()
     compare_names("exports", set(re.findall(r"\b(gthost_\w+)\(", header)), set(made))
     compare_names("structs", set(re.findall(r"^struct (\w+) \{", header, re.M)), set(STRUCTS.values()))
     compare_names("numbers", set(re.findall(r"\b(GTHOST_\w+) =", header)), set(said) | ZEROS | set(OF_XEN))
     compare_order(header, made)
+    compare_order(header, rust_made)
     print('#include "gthost.h"\n#include <xen/xen.h>\n#include <xen/grant_table.h>\n')
-    print("\n".join(layouts(structs(text))))
+    print("\n".join([*layouts(structs(text), STRUCTS), *layouts(rust_structs, OF_RUST)]))
     print(asserted([*said.items(), *((name, 0) for name in sorted(ZEROS)), *OF_XEN.items(), *of_status.items()]))
-    print("\n".join(made.values()))
+    print("\n".join([*made.values(), *rust_made.values()]))
     print("int main(void) { return 0; }")
     count = len(said) + len(ZEROS) + len(OF_XEN) + len(of_status)
-    print(f"header: {len(made)} exports, {len(STRUCTS)} structs and {count} numbers are as the Rattle side has them", file=sys.stderr)
+    print(f"header: {len(made)} exports, {len(STRUCTS)} structs and {count} numbers are compared", file=sys.stderr)
 
 
 if __name__ == "__main__":
