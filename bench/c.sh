@@ -1,25 +1,111 @@
 #!/usr/bin/env bash
-# bench/c.sh [ROUNDS]: builds the static library for C, compiles the header as C99 and as C++, runs the programs of
-# bench/c on it, also under AddressSanitizer where the compiler has it, and prints how long calls take.
+# bench/c.sh [LISTS [SEED]]: builds the static library for C, and tries it in C, C++ and Rust.
+#
+#   header    gthost.h compiles as C99 and C++, and says what the exports say (bench/header.py)
+#   smoke     each answer of a short run is as the rules give it; each call of a handle of no domain
+#   memory    which calls take memory, and each allocation of a start failing in turn
+#   blk       the split block driver of examples/blk, with its hostile back end (where Xen's headers are installed)
+#   threads   four threads on one monitor
+#   rust      the wrapper of contrib/rust and its tests (where there is a rustc)
+#   lists     LISTS random lists of calls (10,000) get the answers and the audit of `gthost play`
+#
+# All C is compiled with -Wall -Wextra -Wpedantic -Werror by each of gcc and clang that there is. smoke, memory, blk,
+# threads and 200 of the lists run under AddressSanitizer and UBSan too, blk and threads under ThreadSanitizer, where
+# the compiler has them. The sanitizers see the C side: the library is compiled by its own compiler.
+# LIBRARY=DIR takes the library from DIR, where bench/library.sh left it, and PLAY=FILE the built program gthost.
 set -euo pipefail
 cd "$(dirname "$0")/.."
-rounds=${1:-100000}
-work=$(mktemp -d)
+lists="${1:-10000}"
+seed="${2:-1}"
+work="$(mktemp -d)"
 trap 'rm -rf "$work"' EXIT
+warnings=(-Wall -Wextra -Wpedantic -Werror)
+wrapped=("-Wl,--wrap=malloc" "-Wl,--wrap=realloc" "-Wl,--wrap=free")
 
-./bench/library.sh "$work" >"$work/log" 2>&1 || { cat "$work/log"; exit 1; }
-flags="-Wall -Wextra -Wpedantic -Werror -I$work"
-cc=${CC:-cc}
-printf '#include "gthost.h"\nint main(void) { return 0; }\n' >"$work/only.c"
-cp "$work/only.c" "$work/only.cpp"
-$cc -std=c99 $flags -c "$work/only.c" -o "$work/only.o"
-if command -v c++ >/dev/null; then c++ $flags -c "$work/only.cpp" -o "$work/only.o"; fi
-
-$cc -std=c99 $flags -O2 bench/c/smoke.c "$work/libgthost.a" -o "$work/smoke"
-"$work/smoke"
-if $cc -fsanitize=address -x c - -o "$work/asan" <<<'int main(void) { return 0; }' 2>/dev/null; then
-    $cc -std=c99 $flags -g -fsanitize=address,undefined bench/c/smoke.c "$work/libgthost.a" -o "$work/asan"
-    "$work/asan"
+library="${LIBRARY:-}"
+if [ -z "$library" ]; then
+  library="$work/library"
+  ./bench/library.sh "$library" >"$work/log" 2>&1 || { cat "$work/log"; exit 1; }
 fi
-$cc -std=c99 $flags -O2 bench/c/speed.c "$work/libgthost.a" -o "$work/speed"
-"$work/speed" "$rounds"
+archive="$library/libgthost.a"
+xen=no
+! printf '#include <xen/io/blkif.h>\n' | "${CC:-cc}" -include stdint.h -include string.h -E - >/dev/null 2>&1 || xen=yes
+
+# build COMPILER NAME FLAG..: a program of bench/c, or blk
+build() {
+  local compiler="$1" name="$2" files=("bench/c/$2.c") flags=()
+  shift 2
+  [ "$name" != blk ] || files=(examples/blk/*.c)
+  [ "$name" != memory ] || flags=("${wrapped[@]}")
+  "$compiler" -std=c11 "${warnings[@]}" -pthread -I"$library" "$@" "${files[@]}" "$archive" "${flags[@]}" -o "$work/$name"
+}
+
+# Whether a compiler has these sanitizers, and what it builds with them runs here.
+has() {
+  printf 'int main(void) { return 0; }\n' | "$1" "-fsanitize=$2" -x c - -o "$work/has" 2>/dev/null && "$work/has" 2>/dev/null
+}
+
+headers() {
+  printf '#include "gthost.h"\nint main(void) { return 0; }\n' | tee "$work/only.c" >"$work/only.cpp"
+  "$1" -std=c99 "${warnings[@]}" -I"$library" -c "$work/only.c" -o "$work/only.o"
+  local cxx="${1/gcc/g++}"
+  cxx="${cxx/clang/clang++}"
+  ! command -v "$cxx" >/dev/null || "$cxx" "${warnings[@]}" -I"$library" -c "$work/only.cpp" -o "$work/only.o"
+  python3 bench/header.py >"$work/header.c"
+  "$1" -std=c11 "${warnings[@]}" -I"$library" -c "$work/header.c" -o "$work/header.o"
+}
+
+programs=(smoke memory threads)
+[ "$xen" = no ] || programs+=(blk)
+
+# What a program is run with: fewer rounds under a sanitizer.
+words_of() {
+  case "$1 $2" in
+    "blk plain") echo 20000 ;;
+    "blk "*) echo 2000 ;;
+    "threads plain") echo 1000000 ;;
+    "threads "*) echo 50000 ;;
+    *) echo ;;
+  esac
+}
+
+run_all() {
+  local compiler="$1" kind="$2" name words
+  shift 2
+  for name in "${programs[@]}"; do
+    [ "$kind" != thread ] || [ "$name" = blk ] || [ "$name" = threads ] || continue
+    build "$compiler" "$name" "$@"
+    read -ra words <<<"$(words_of "$name" "$kind")"
+    "$work/$name" "${words[@]}" >"$work/said" || { cat "$work/said"; echo "$compiler, $kind: $name FAILED"; exit 1; }
+    [ "$kind" != plain ] || cat "$work/said"
+  done
+  echo "$compiler, $kind: ${programs[*]} ok"
+}
+
+for compiler in ${CC:-gcc clang}; do
+  command -v "$compiler" >/dev/null || continue
+  headers "$compiler"
+  run_all "$compiler" plain -O2
+  ! has "$compiler" address,undefined || run_all "$compiler" address -g -O1 -fsanitize=address,undefined -fno-sanitize-recover=all
+  ! has "$compiler" thread || run_all "$compiler" thread -g -O1 -fsanitize=thread
+  last="$compiler"
+done
+
+if command -v rustc >/dev/null; then
+  rustc --edition 2021 -O -D warnings --crate-type rlib --crate-name gthost -L "native=$library" -o "$work/libgthost.rlib" contrib/rust/src/lib.rs
+  rustc --edition 2021 -D warnings --test --extern "gthost=$work/libgthost.rlib" -L "native=$library" -o "$work/share" contrib/rust/tests/share.rs
+  "$work/share" -q
+fi
+
+play="${PLAY:-}"
+if [ -z "$play" ]; then
+  ./gthost --version >/dev/null # builds it, where that is not done yet
+  ./gthost play examples/first.gt >/dev/null
+  play=crates/gthost/out/gthost
+fi
+build "$last" lists -O2
+python3 bench/lists.py "$play" "$work/lists" "$lists" "$seed"
+if has "$last" address,undefined; then
+  build "$last" lists -g -O1 -fsanitize=address,undefined -fno-sanitize-recover=all
+  python3 bench/lists.py "$play" "$work/lists" 200 "$((seed + 1))"
+fi

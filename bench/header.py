@@ -2,7 +2,7 @@
 """header.py: writes a C program that compiles only if include/gthost.h says what the Rattle side says.
 
 It reads the `#[repr(C)]` structs, the exports and the numbers of crates/gt_c, gt_seat and gt_types, and declares and
-asserts them again, by the layout rules of C: each export with its types, the size of each struct and the offset of each
+asserts them again, by the layout rules of C with pointers of 8 bytes: each export with its types, the size of each struct and the offset of each
 field, and the number of each name. A declaration that differs from the header's is an error of the compiler. What the
 one side has and the other has not is an error here. The same is done for the structs and functions of contrib/rust.
 """
@@ -178,9 +178,11 @@ def main():
     compare_names("numbers", set(re.findall(r"\b(GTHOST_\w+) =", header)), set(said) | ZEROS | set(OF_XEN))
     compare_order(header, made)
     compare_order(header, rust_made)
-    print('#include "gthost.h"\n#include <xen/xen.h>\n#include <xen/grant_table.h>\n')
+    print('#include "gthost.h"\n')
     print("\n".join([*layouts(structs(text), STRUCTS), *layouts(rust_structs, OF_RUST)]))
-    print(asserted([*said.items(), *((name, 0) for name in sorted(ZEROS)), *OF_XEN.items(), *of_status.items()]))
+    print(asserted([*said.items(), *((name, 0) for name in sorted(ZEROS))]))
+    print("#if __has_include(<xen/grant_table.h>)\n#include <xen/xen.h>\n#include <xen/grant_table.h>")
+    print(asserted([*OF_XEN.items(), *of_status.items()]) + "\n#endif")
     print("\n".join([*made.values(), *rust_made.values()]))
     print("int main(void) { return 0; }")
     count = len(said) + len(ZEROS) + len(OF_XEN) + len(of_status)
