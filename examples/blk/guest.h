@@ -10,17 +10,25 @@ enum {
     OTHER = 3,
     DOMAINS = 3,
     FRAMES = 64, /* of each domain */
-    PAGE = 4096
+    PAGE = 4096,
+    LINE = 128 /* what two threads should not share */
+};
+
+/* A handle on cache lines of its own, since each call writes it. */
+struct seat {
+    _Alignas(LINE) struct gthost_domain domain;
 };
 
 struct host {
     const struct monitor *monitor;
-    struct gthost_domain domains[DOMAINS + 1]; /* by number; 0 has none */
+    struct seat seats[DOMAINS + 1]; /* by the domain's number; 0 has none */
     _Alignas(PAGE) uint8_t memory[DOMAINS + 1][FRAMES][PAGE];
 };
 
 /* Starts the host's three domains under the driver's policy; false with a line on stderr if it can't be. */
 bool host_start(struct host *host, const struct monitor *monitor);
+/* The handle of a domain. */
+struct gthost_domain *domain_of(struct host *host, uint16_t dom);
 /* All domains leave. */
 void host_finish(struct host *host);
 

@@ -35,15 +35,15 @@ static void holds(const char *what, bool is_it)
 
 static void grants(struct host *host)
 {
-    gthost_grant_page(&host->domains[FRONT], READ_ONLY, BACK, 4, true, &answer);
+    gthost_grant_page(domain_of(host, FRONT), READ_ONLY, BACK, 4, true, &answer);
     wrong += answer.rule != GTHOST_OK;
-    gthost_grant_page(&host->domains[FRONT], OF_OTHER, OTHER, 5, false, &answer);
+    gthost_grant_page(domain_of(host, FRONT), OF_OTHER, OTHER, 5, false, &answer);
     wrong += answer.rule != GTHOST_OK;
-    gthost_grant_page(&host->domains[FRONT], WRITABLE, BACK, 6, false, &answer);
+    gthost_grant_page(domain_of(host, FRONT), WRITABLE, BACK, 6, false, &answer);
     wrong += answer.rule != GTHOST_OK;
-    gthost_grant_sub(&host->domains[FRONT], BYTES, BACK, 7, 1024, 512, false, &answer);
+    gthost_grant_sub(domain_of(host, FRONT), BYTES, BACK, 7, 1024, 512, false, &answer);
     wrong += answer.rule != GTHOST_OK;
-    gthost_grant_page(&host->domains[OTHER], DENIED, BACK, 1, false, &answer);
+    gthost_grant_page(domain_of(host, OTHER), DENIED, BACK, 1, false, &answer);
     wrong += answer.rule != GTHOST_OK;
 }
 
@@ -67,7 +67,7 @@ static void maps(struct gthost_domain *back)
 
 static void keeps(struct host *host)
 {
-    struct gthost_domain *front = &host->domains[FRONT], *back = &host->domains[BACK];
+    struct gthost_domain *front = domain_of(host, FRONT), *back = domain_of(host, BACK);
     struct gthost_handle name = {0, 0};
     guest_map(host, BACK, FRONT, WRITABLE, true, &name);
     gthost_revoke(front, WRITABLE, &answer);
@@ -78,7 +78,7 @@ static void keeps(struct host *host)
     wants("maps the withdrawn page once more", 10);
     gthost_grant_page(front, WRITABLE, OTHER, 6, false, &answer);
     wants("keeps its mapping, and the front end grants to another", 19);
-    gthost_unmap(&host->domains[OTHER], name, &answer);
+    gthost_unmap(domain_of(host, OTHER), name, &answer);
     wants("lends its handle to another guest", 6);
     gthost_unmap(back, name, &answer);
     wants("unmaps", GTHOST_OK);
@@ -106,7 +106,7 @@ static void copies_in(struct gthost_domain *back, uint32_t gref, uint64_t from, 
 
 static void copies(struct host *host)
 {
-    struct gthost_domain *front = &host->domains[FRONT], *back = &host->domains[BACK];
+    struct gthost_domain *front = domain_of(host, FRONT), *back = domain_of(host, BACK);
     copies_out(back, READ_ONLY, 4000, 200);
     wants("copies past the end of a page", 3);
     copies_out(back, BYTES, 1024, 513);
@@ -142,7 +142,7 @@ int hostile_run(struct host *host)
     }
     printf("a hostile back end\n");
     grants(host);
-    maps(&host->domains[BACK]);
+    maps(domain_of(host, BACK));
     copies(host);
     keeps(host);
     host_finish(host);
