@@ -101,7 +101,7 @@ static void shares(void)
     WANT(13, -1, GTHOST_ENTRY);
     gthost_query_size(&domain[0], 2, &answer);
     WANT(GTHOST_OK, 0, GTHOST_SIZE);
-    HOLDS(answer.value == 1 && answer.more == 4);
+    HOLDS(answer.value == 1 && answer.more == 16);
     gthost_get_version(&domain[0], 2, &answer);
     WANT(GTHOST_OK, 0, GTHOST_VERSION);
     HOLDS(answer.value == 1);
@@ -121,10 +121,95 @@ static void shares(void)
     HOLDS(gthost_finish(&domain[1]) == 0);
 }
 
+static void texts(void)
+{
+    uint8_t text[200];
+    size_t len = gthost_fault_text(GTHOST_FAULT_SYNTAX, text, sizeof text);
+    HOLDS(len == 6 && memcmp(text, "syntax", 6) == 0);
+    memset(text, '.', sizeof text);
+    HOLDS(gthost_fault_text(GTHOST_FAULT_SYNTAX, text, 3) == 6 && memcmp(text, "syn.", 4) == 0);
+    for (uint32_t kind = 0; kind <= GTHOST_FAULT_GENERATION; kind++) {
+        len = gthost_fault_text(kind, text, sizeof text);
+        HOLDS(len > 3 && len < sizeof text);
+    }
+    HOLDS(gthost_fault_text(99, text, sizeof text) == 13);
+}
+
+static void copies(void)
+{
+    struct gthost_settings two[] = {{1, 0, 8, 1, 2}, {2, 1, 8, 1, 1}};
+    struct gthost_domain domain[2] = {{0}};
+    struct gthost_copy copy = {{7, 1, 100}, {3, 0x7FF0, 20}, 30, GTHOST_COPY_SOURCE_GREF};
+    struct gthost_places places = {{0, 0, 0}, {0, 0, 0}, 9};
+    struct gthost_mapping mapping = {9, 9, 9, 9};
+    struct gthost_record record;
+    struct gthost_fault fault;
+    struct gthost_answer answer;
+    struct gthost_handle name = {0, 0};
+    HOLDS(starts(two, COUNT(two), POLICY, domain, COUNT(domain), &fault));
+    gthost_copy_begin(&domain[1], &copy, &places, &answer);
+    WANT(10, -1, GTHOST_ENTRY);
+    HOLDS(places.len == 9);
+    gthost_grant_sub(&domain[0], 7, 2, 5, 100, 30, 1, &answer);
+    WANT(GTHOST_OK, 0, GTHOST_NOTHING);
+    gthost_copy_begin(&domain[1], &copy, &places, &answer);
+    WANT(GTHOST_OK, 0, GTHOST_NOTHING);
+    HOLDS(places.from.owner == 1 && places.from.frame == 5 && places.from.off == 100);
+    HOLDS(places.to.owner == 2 && places.to.frame == 3 && places.to.off == 20 && places.len == 30);
+    gthost_copy_begin(&domain[1], &copy, &places, &answer);
+    WANT(GTHOST_BUSY, 0, GTHOST_NOTHING);
+    gthost_mapping(&domain[1], name, &mapping, &answer);
+    WANT(GTHOST_BUSY, 0, GTHOST_NOTHING);
+    gthost_revoke(&domain[0], 7, &answer);
+    WANT(19, -1, GTHOST_ENTRY);
+    gthost_copy_end(&domain[1], &answer);
+    WANT(GTHOST_OK, 0, GTHOST_NOTHING);
+    gthost_copy_end(&domain[1], &answer);
+    WANT(GTHOST_NO_COPY, 0, GTHOST_NOTHING);
+    gthost_revoke(&domain[0], 7, &answer);
+    WANT(GTHOST_OK, 0, GTHOST_NOTHING);
+    gthost_record(&domain[1], 0, &record, &answer);
+    WANT(GTHOST_OK, 0, GTHOST_NOTHING);
+    HOLDS(record.call == GTHOST_CALL_COPY && record.caller == 2 && record.reply.rule == 10 && record.len == 30);
+    gthost_record(&domain[1], 1, &record, &answer);
+    HOLDS(record.source.ptr == 7 && record.source.dom == 1 && record.source.off == 100 && record.reply.rule == 0);
+    HOLDS(record.dest.ptr == 3 && record.dest.dom == 0x7FF0 && record.dest.off == 20 && record.flags == 1);
+    gthost_record(&domain[1], 2, &record, &answer);
+    WANT(GTHOST_ABSENT, 0, GTHOST_NOTHING);
+    gthost_mapping(&domain[1], name, &mapping, &answer);
+    WANT(GTHOST_ABSENT, 0, GTHOST_NOTHING);
+    HOLDS(mapping.frame == 9);
+    gthost_grant_page(&domain[0], 7, 2, 6, 0, &answer);
+    gthost_map(&domain[1], 1, 7, GTHOST_MAP_WRITABLE, &answer);
+    name.serial = answer.value;
+    name.key = (size_t)answer.more;
+    gthost_mapping(&domain[1], name, &mapping, &answer);
+    WANT(GTHOST_OK, 0, GTHOST_NOTHING);
+    HOLDS(mapping.owner == 1 && mapping.gref == 7 && mapping.frame == 6 && mapping.writes == 1);
+    gthost_grant_via(&domain[0], 8, 2, 1, 7, 0, &answer);
+    WANT(GTHOST_OK, 0, GTHOST_NOTHING);
+    gthost_promote(&domain[0], 7, &answer);
+    WANT(GTHOST_OK, 0, GTHOST_NOTHING);
+    gthost_reserve_records(&domain[1], 10, &answer);
+    WANT(GTHOST_OK, 0, GTHOST_NOTHING);
+    gthost_keep_at_most(&domain[1], 0, &answer);
+    WANT(GTHOST_OK, 0, GTHOST_NOTHING);
+    gthost_copy_begin(&domain[1], &copy, &places, &answer);
+    WANT(GTHOST_OK, 0, GTHOST_NOTHING);
+    HOLDS(gthost_finish(&domain[1]) == 1);
+    gthost_revoke(&domain[0], 7, &answer);
+    WANT(GTHOST_OK, 0, GTHOST_NOTHING);
+    gthost_copy_end(&domain[1], &answer);
+    WANT(GTHOST_NO_DOMAIN, 0, GTHOST_NOTHING);
+    HOLDS(gthost_finish(&domain[0]) == 0);
+}
+
 int main(void)
 {
     faults();
+    texts();
     shares();
+    copies();
     printf(failures ? "FAILED\n" : "smoke ok\n");
     return failures != 0;
 }
