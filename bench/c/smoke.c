@@ -7,7 +7,7 @@
 #define COUNT(a) (sizeof(a) / sizeof((a)[0]))
 
 static const char POLICY[] = "type a_t; type b_t;\n"
-                             "allow a_t b_t:grant { query };\n"
+                             "allow a_t b_t:grant { query copy };\n"
                              "allow a_t a_t:grant { setup query };\n"
                              "allow b_t a_t:grant { map_read map_write unmap copy };\n";
 
