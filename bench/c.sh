@@ -1,122 +1,111 @@
 #!/usr/bin/env bash
-# bench/c.sh [LISTS [REQUESTS]]: what C sees of the library, checked and measured.
+# bench/c.sh [LISTS [SEED]]: builds the static library for C, and tries it in C, C++ and Rust.
 #
-# Builds the library (./gthost library), and compares the header with the exports' sources: sizes, offsets, prototypes
-# and numbers. Compiles it as C99 and as C++, and runs the programs of bench/c on it: answers that are known (smoke), so
-# many random lists of calls beside `gthost play` (10,000, or LISTS), four threads (loads), and examples/blk, with so
-# many requests (20,000, or REQUESTS), beside its stub that allows all. Programs run under AddressSanitizer and
-# ThreadSanitizer too, if the compiler has them. The wrapper in contrib/ is built and run if there is a rustc. Last come
-# instructions a round, as valgrind counts them, and times.
+#   header    gthost.h compiles as C99 and C++, and says what the exports say (bench/header.py)
+#   smoke     each answer of a short run is as the rules give it; each call of a handle of no domain
+#   memory    which calls take memory, and each allocation of a start failing in turn
+#   blk       the split block driver of examples/blk, with its hostile back end (where Xen's headers are installed)
+#   threads   four threads on one monitor
+#   rust      the wrapper of contrib/rust and its tests (where there is a rustc)
+#   lists     LISTS random lists of calls (10,000) get the answers and the audit of `gthost play`
 #
-# Xen's headers are those of the system (Debian's libxen-dev); without them examples/blk is left out, and said so.
+# All C is compiled with -Wall -Wextra -Wpedantic -Werror by each of gcc and clang that there is. smoke, memory, blk,
+# threads and 200 of the lists run under AddressSanitizer and UBSan too, blk and threads under ThreadSanitizer, where
+# the compiler has them. The sanitizers see the C side: the library is compiled by its own compiler.
+# LIBRARY=DIR takes the library from DIR, where bench/library.sh left it, and PLAY=FILE the built program gthost.
 set -euo pipefail
-top="$(cd "$(dirname "${BASH_SOURCE[0]}")/.." && pwd)"
-lists=${1:-10000}
-requests=${2:-20000}
-cc=${CC:-cc}
-work=$(mktemp -d)
+cd "$(dirname "$0")/.."
+lists="${1:-10000}"
+seed="${2:-1}"
+work="$(mktemp -d)"
 trap 'rm -rf "$work"' EXIT
-cd "$top"
+warnings=(-Wall -Wextra -Wpedantic -Werror)
+wrapped=("-Wl,--wrap=malloc" "-Wl,--wrap=realloc" "-Wl,--wrap=free")
 
-say() { printf '%s\n' "$*"; }
-
-has_sanitizer() { echo 'int main(void) { return 0; }' | $cc "-fsanitize=$1" -x c - -o "$work/tried" 2>/dev/null && "$work/tried"; }
-
-# Compiles a program of the library: compile OUT FLAGS.. SOURCE..
-compile() { $cc -std=c99 -Wall -Wextra -Wpedantic -Werror "-I$work" -pthread -o "$@" "$work/libgthost.a"; }
-
-./bench/library.sh "$work" >"$work/log" 2>&1 || { cat "$work/log"; exit 1; }
-
-exports=(crates/gt_c/src/*.rt crates/gt_seat/src/answer.rt crates/gt_seat/src/record.rt)
-has_xen=yes
-echo '#include <xen/io/blkif.h>' | $cc -fsyntax-only -x c - 2>/dev/null || has_xen=
-if [ "$has_xen" ]; then exports+=(crates/gt_types/src/denial.rt); fi
-awk -f bench/c/declared.awk "${exports[@]}" >"$work/declared.c"
-$cc -std=c11 -Wall -Wextra -Wpedantic -Werror "-I$work" -c "$work/declared.c" -o "$work/declared.o"
-say "the header declares what is exported: $(grep -c SAME "$work/declared.c") sizes, offsets and numbers"
-
-printf '#include "gthost.h"\nint main(void) { return 0; }\n' | tee "$work/only.c" >"$work/only.cpp"
-$cc -std=c99 -Wall -Wextra -Wpedantic -Werror "-I$work" -c "$work/only.c" -o "$work/only.o"
-if command -v c++ >/dev/null; then c++ -Wall -Wextra -Wpedantic -Werror "-I$work" -c "$work/only.cpp" -o "$work/only.o"; fi
-
-compile "$work/smoke" -O2 bench/c/smoke.c
-"$work/smoke"
-if has_sanitizer address; then
-  compile "$work/smoke_address" -g -fsanitize=address,undefined bench/c/smoke.c
-  "$work/smoke_address" | sed 's/$/, AddressSanitizer/'
+library="${LIBRARY:-}"
+if [ -z "$library" ]; then
+  library="$work/library"
+  ./bench/library.sh "$library" >"$work/log" 2>&1 || { cat "$work/log"; exit 1; }
 fi
+archive="$library/libgthost.a"
+xen=no
+! printf '#include <xen/io/blkif.h>\n' | "${CC:-cc}" -include stdint.h -include string.h -E - >/dev/null 2>&1 || xen=yes
 
-compile "$work/replay" -O2 bench/c/replay.c
-./gthost --version >/dev/null
-program=crates/gthost/out/gthost
-differ=0
-for ((seed = 1; seed <= lists; seed++)); do
-  "$work/replay" make "$seed" >"$work/list.gt"
-  "$program" play --audit "$work/list.gt" >"$work/wanted" || true
-  "$work/replay" play "$work/list.gt" >"$work/given" || true
-  if ! cmp -s "$work/wanted" "$work/given"; then
-    differ=$((differ + 1))
-    say "list $seed differs:"
-    diff "$work/wanted" "$work/given" | head -5
-    if [ "$differ" -gt 3 ]; then exit 1; fi
-  fi
-done
-if [ "$differ" -gt 0 ]; then exit 1; fi
-if [ "$lists" -gt 0 ]; then say "$lists lists of calls are answered as gthost play answers them, with their audit lines"; fi
-
-compile "$work/loads" -O2 bench/c/loads.c
-if has_sanitizer thread; then
-  compile "$work/loads_thread" -g -fsanitize=thread bench/c/loads.c
-  for load in apart adjacent grants; do "$work/loads_thread" "$load" 4 2000 on | sed 's/$/, ThreadSanitizer/'; done
-fi
-
-if [ "$has_xen" ]; then
-  compile "$work/blk" -O2 examples/blk/blk.c
-  $cc -std=c99 -Wall -Wextra -Wpedantic -Werror "-I$work" -pthread -O2 examples/blk/blk.c examples/blk/allow_all.c \
-    -o "$work/blk_stub"
-  say "blk, with the library:"
-  "$work/blk" "$requests"
-  say "blk, where all is allowed:"
-  "$work/blk_stub" "$requests" | grep -v ': allowed$'
-  for one in address thread; do
-    if has_sanitizer "$one"; then
-      compile "$work/blk_$one" -g "-fsanitize=$one" examples/blk/blk.c
-      "$work/blk_$one" 2000 >/dev/null
-      say "blk under ${one^}Sanitizer: clean"
-    fi
-  done
-else
-  say "no xen/io/blkif.h (libxen-dev): examples/blk was not built"
-fi
-
-if command -v rustc >/dev/null; then
-  rustc --edition 2024 -D warnings -O --crate-type rlib --crate-name gthost contrib/gthost.rs --out-dir "$work"
-  rustc --edition 2024 -D warnings -O contrib/lend.rs --extern "gthost=$work/libgthost.rlib" -L "$work" \
-    -C link-arg="$work/libgthost.a" -o "$work/lend"
-  "$work/lend"
-fi
-
-# The instructions of a round of a load on one thread: those of more rounds less those of fewer.
-instructions() {
-  local rounds count=()
-  for rounds in 1000 3000; do
-    valgrind --tool=callgrind --callgrind-out-file=/dev/null "$1" "$2" 1 "$rounds" "$3" 2>&1 >/dev/null |
-      sed -n 's/.*Collected : //p' >"$work/count"
-    count+=("$(cat "$work/count")")
-  done
-  echo $(((count[1] - count[0]) / 2000))
+# build COMPILER NAME FLAG..: a program of bench/c, or blk
+build() {
+  local compiler="$1" name="$2" files=("bench/c/$2.c") flags=()
+  shift 2
+  [ "$name" != blk ] || files=(examples/blk/*.c)
+  [ "$name" != memory ] || flags=("${wrapped[@]}")
+  "$compiler" -std=c11 "${warnings[@]}" -pthread -I"$library" "$@" "${files[@]}" "$archive" "${flags[@]}" -o "$work/$name"
 }
 
-if command -v valgrind >/dev/null; then
-  for load in apart grants; do
-    for audit in on ahead off; do
-      line="$load $audit: $(instructions "$work/loads" "$load" "$audit") instructions a round from C"
-      if [ -x crates/live_bench/out/live_bench ]; then
-        line+=", $(instructions crates/live_bench/out/live_bench "$load" "$audit") from Rattle"
-      fi
-      say "$line"
-    done
+# Whether a compiler has these sanitizers, and what it builds with them runs here.
+has() {
+  printf 'int main(void) { return 0; }\n' | "$1" "-fsanitize=$2" -x c - -o "$work/has" 2>/dev/null && "$work/has" 2>/dev/null
+}
+
+headers() {
+  printf '#include "gthost.h"\nint main(void) { return 0; }\n' | tee "$work/only.c" >"$work/only.cpp"
+  "$1" -std=c99 "${warnings[@]}" -I"$library" -c "$work/only.c" -o "$work/only.o"
+  local cxx="${1/gcc/g++}"
+  cxx="${cxx/clang/clang++}"
+  ! command -v "$cxx" >/dev/null || "$cxx" "${warnings[@]}" -I"$library" -c "$work/only.cpp" -o "$work/only.o"
+  python3 bench/header.py >"$work/header.c"
+  "$1" -std=c11 "${warnings[@]}" -I"$library" -c "$work/header.c" -o "$work/header.o"
+}
+
+programs=(smoke memory threads)
+[ "$xen" = no ] || programs+=(blk)
+
+# What a program is run with: fewer rounds under a sanitizer.
+words_of() {
+  case "$1 $2" in
+    "blk plain") echo 20000 ;;
+    "blk "*) echo 2000 ;;
+    "threads plain") echo 1000000 ;;
+    "threads "*) echo 50000 ;;
+    *) echo ;;
+  esac
+}
+
+run_all() {
+  local compiler="$1" kind="$2" name words
+  shift 2
+  for name in "${programs[@]}"; do
+    [ "$kind" != thread ] || [ "$name" = blk ] || [ "$name" = threads ] || continue
+    build "$compiler" "$name" "$@"
+    read -ra words <<<"$(words_of "$name" "$kind")"
+    "$work/$name" "${words[@]}" >"$work/said" || { cat "$work/said"; echo "$compiler, $kind: $name FAILED"; exit 1; }
+    [ "$kind" != plain ] || cat "$work/said"
   done
+  echo "$compiler, $kind: ${programs[*]} ok"
+}
+
+for compiler in ${CC:-gcc clang}; do
+  command -v "$compiler" >/dev/null || continue
+  headers "$compiler"
+  run_all "$compiler" plain -O2
+  ! has "$compiler" address,undefined || run_all "$compiler" address -g -O1 -fsanitize=address,undefined -fno-sanitize-recover=all
+  ! has "$compiler" thread || run_all "$compiler" thread -g -O1 -fsanitize=thread
+  last="$compiler"
+done
+
+if command -v rustc >/dev/null; then
+  rustc --edition 2021 -O -D warnings --crate-type rlib --crate-name gthost -L "native=$library" -o "$work/libgthost.rlib" contrib/rust/src/lib.rs
+  rustc --edition 2021 -D warnings --test --extern "gthost=$work/libgthost.rlib" -L "native=$library" -o "$work/share" contrib/rust/tests/share.rs
+  "$work/share" -q
 fi
-compile "$work/speed" -O2 bench/c/speed.c
-"$work/speed" 100000
+
+play="${PLAY:-}"
+if [ -z "$play" ]; then
+  ./gthost --version >/dev/null # builds it, where that is not done yet
+  ./gthost play examples/first.gt >/dev/null
+  play=crates/gthost/out/gthost
+fi
+build "$last" lists -O2
+python3 bench/lists.py "$play" "$work/lists" "$lists" "$seed"
+if has "$last" address,undefined; then
+  build "$last" lists -g -O1 -fsanitize=address,undefined -fno-sanitize-recover=all
+  python3 bench/lists.py "$play" "$work/lists" 200 "$((seed + 1))"
+fi

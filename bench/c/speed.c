@@ -1,51 +1,98 @@
-/* How long a grant with its revoke and a map with its unmap take. */
-#define _POSIX_C_SOURCE 199309L
+/*
+ * speed LOAD THREADS ROUNDS AUDIT: the loads of `live_bench`, through the library. LOAD is apart or adjacent, AUDIT is
+ * on, ahead or off. Each thread maps an entry of the owner's and unmaps it, ROUNDS times. Prints how many were done.
+ */
 #include "gthost.h"
 
+#include <pthread.h>
 #include <stdio.h>
 #include <stdlib.h>
 #include <string.h>
-#include <time.h>
+
+enum { DOMAINS = 6, MOST = 4, OWNER = 1, FIRST_MAPPER = 3, FIRST = 64, APART = 64, RECORDS_AHEAD = 400000 };
+
+/* One for each thread, on cache lines of its own. */
+struct worker {
+    _Alignas(128) struct gthost_domain domain;
+    uint32_t gref;
+    unsigned long rounds, done;
+    const char *audit;
+};
 
 static const char POLICY[] = "type a_t; allow a_t a_t:grant { map_read map_write unmap copy };";
 
-static double now(void)
+static void record_calls(struct worker *worker)
 {
-    struct timespec t;
-    clock_gettime(CLOCK_MONOTONIC, &t);
-    return (double)t.tv_sec * 1e9 + (double)t.tv_nsec;
+    struct gthost_answer answer;
+    if (strcmp(worker->audit, "ahead") == 0) {
+        gthost_reserve_records(&worker->domain, RECORDS_AHEAD, &answer);
+    } else if (strcmp(worker->audit, "off") == 0) {
+        gthost_keep_at_most(&worker->domain, 0, &answer);
+    }
+}
+
+static void *work(void *arg)
+{
+    struct worker *worker = arg;
+    struct gthost_answer answer;
+    unsigned long done = 0;
+    record_calls(worker);
+    while (done < worker->rounds) {
+        gthost_map(&worker->domain, OWNER, worker->gref, GTHOST_MAP_READ_ONLY, &answer);
+        if (answer.rule == GTHOST_OK) {
+            const struct gthost_handle name = {answer.value, (size_t)answer.more};
+            gthost_unmap(&worker->domain, name, &answer);
+            done += answer.rule == GTHOST_OK;
+        }
+    }
+    worker->done = done;
+    return NULL;
 }
 
 int main(int argc, char **argv)
 {
-    int rounds = argc > 1 ? atoi(argv[1]) : 100000;
-    struct gthost_settings two[] = {{1, 0, 8, 1, 1}, {2, 0, 8, 1, 1}};
-    struct gthost_domain domain[2] = {{0}};
+    static struct worker workers[MOST];
+    struct gthost_settings settings[DOMAINS];
+    struct gthost_domain domains[DOMAINS];
     struct gthost_fault fault;
     struct gthost_answer answer;
-    if (rounds <= 0 || !gthost_start(two, 2, 0, (const uint8_t *)POLICY, strlen(POLICY), domain, 2, &fault)) {
+    pthread_t threads[MOST];
+    unsigned long done = 0;
+    size_t count = argc == 5 ? strtoul(argv[2], NULL, 10) : 0;
+    if (count == 0 || count > MOST) {
+        fprintf(stderr, "speed apart|adjacent THREADS ROUNDS on|ahead|off\n");
+        return 2;
+    }
+    memset(domains, 0, sizeof domains);
+    for (uint16_t i = 0; i < DOMAINS; i++) {
+        const struct gthost_settings one = {(uint16_t)(i + 1), 0, 8, 16, 1};
+        settings[i] = one;
+    }
+    if (!gthost_start(settings, DOMAINS, 0, (const uint8_t *)POLICY, strlen(POLICY), domains, DOMAINS, &fault)) {
         return 1;
     }
-    gthost_grant_page(&domain[0], 7, 2, 5, 0, &answer);
-    double began = now();
-    for (int i = 0; i < rounds; i++) {
-        struct gthost_handle name;
-        gthost_map(&domain[1], 1, 7, GTHOST_MAP_READ_ONLY, &answer);
-        if (answer.rule != GTHOST_OK) {
-            return 2;
+    for (size_t i = 0; i < count; i++) {
+        uint16_t mapper = (uint16_t)(FIRST_MAPPER + i);
+        workers[i].gref = FIRST + (uint32_t)i * (strcmp(argv[1], "apart") == 0 ? APART : 1);
+        workers[i].rounds = strtoul(argv[3], NULL, 10);
+        workers[i].audit = argv[4];
+        gthost_grant_page(&domains[OWNER - 1], workers[i].gref, mapper, 5, false, &answer);
+        memcpy(&workers[i].domain, &domains[mapper - 1], sizeof domains[0]); /* the handle moves */
+        memset(&domains[mapper - 1], 0, sizeof domains[0]);
+    }
+    for (size_t i = 0; i < count; i++) {
+        if (pthread_create(&threads[i], NULL, work, &workers[i])) {
+            return 1;
         }
-        name.serial = answer.value;
-        name.key = (size_t)answer.more;
-        gthost_unmap(&domain[1], name, &answer);
     }
-    double mapped = now();
-    for (int i = 0; i < rounds; i++) {
-        gthost_grant_page(&domain[0], 9 + (uint32_t)(i % 500), 2, 5, 0, &answer);
-        gthost_revoke(&domain[0], 9 + (uint32_t)(i % 500), &answer);
+    for (size_t i = 0; i < count; i++) {
+        pthread_join(threads[i], NULL);
+        done += workers[i].done;
+        gthost_finish(&workers[i].domain);
     }
-    double granted = now();
-    printf("map and unmap %.0f ns, grant and revoke %.0f ns\n", (mapped - began) / rounds, (granted - mapped) / rounds);
-    gthost_finish(&domain[0]);
-    gthost_finish(&domain[1]);
+    for (int i = 0; i < DOMAINS; i++) {
+        gthost_finish(&domains[i]);
+    }
+    printf("%lu\n", done);
     return 0;
 }

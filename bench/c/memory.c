@@ -1,0 +1,219 @@
+/*
+ * Which calls take memory? Linked with --wrap for malloc, realloc and free, it counts what each call of a domain takes,
+ * and lets each allocation of a start fail in turn.
+ */
+#include "gthost.h"
+
+#include <stdio.h>
+#include <stdlib.h>
+#include <string.h>
+
+void *__real_malloc(size_t size);
+void *__real_realloc(void *at, size_t size);
+void __real_free(void *at);
+void *__wrap_malloc(size_t size);
+void *__wrap_realloc(void *at, size_t size);
+void __wrap_free(void *at);
+
+static long taken, given, left = -1; /* left: how many may still be taken; -1 for any number */
+
+static bool is_refused(void)
+{
+    if (left == 0) {
+        return true;
+    }
+    left -= left > 0;
+    return false;
+}
+
+void *__wrap_malloc(size_t size)
+{
+    if (is_refused()) {
+        return NULL;
+    }
+    taken++;
+    return __real_malloc(size);
+}
+
+void *__wrap_realloc(void *at, size_t size)
+{
+    if (is_refused()) {
+        return NULL;
+    }
+    taken++;
+    given += at != NULL;
+    return __real_realloc(at, size);
+}
+
+void __wrap_free(void *at)
+{
+    given += at != NULL;
+    __real_free(at);
+}
+
+static const char POLICY[] = "type a_t;\nallow a_t a_t:grant *;\n";
+static int failures;
+
+static bool start(struct gthost_domain *domains, struct gthost_fault *fault)
+{
+    const struct gthost_settings settings[] = {{1, 0, 8, 1, 2}, {2, 0, 8, 1, 2}};
+    return gthost_start(settings, 2, 0, (const uint8_t *)POLICY, strlen(POLICY), domains, 2, fault);
+}
+
+static struct gthost_answer answer;
+
+static void wants(const char *what, uint32_t rule, long memory, long before)
+{
+    if (answer.rule != rule || taken - before > memory) {
+        printf("%s: rule %u, wanted %u; %ld allocations, wanted at most %ld\n", what, answer.rule, rule, taken - before,
+               memory);
+        failures++;
+    }
+}
+
+/* A call that takes no memory. */
+#define NONE(rule, call)                       \
+    do {                                       \
+        long before = taken;                   \
+        call;                                  \
+        wants(#call, rule, 0, before);         \
+    } while (0)
+
+static struct gthost_handle mapped(struct gthost_domain *domain, long memory)
+{
+    long before = taken;
+    gthost_map(domain, 1, 7, GTHOST_MAP_READ_ONLY, &answer);
+    wants("map", GTHOST_OK, memory, before);
+    struct gthost_handle name = {answer.value, (size_t)answer.more};
+    return name;
+}
+
+static void calls(struct gthost_domain *one, struct gthost_domain *two)
+{
+    const uint8_t entry[16] = {1, 0, 2, 0, 0, 0, 0, 0, 3};
+    const struct gthost_copy copy = {{10, 1, 0}, {1, 2, 0}, 16, GTHOST_COPY_SOURCE_GREF};
+    struct gthost_places places;
+    struct gthost_mapping mapping;
+    NONE(GTHOST_OK, gthost_grant_page(one, 7, 2, 5, 0, &answer));
+    NONE(GTHOST_OK, gthost_grant_sub(one, 8, 2, 5, 0, 64, 0, &answer));
+    NONE(GTHOST_OK, gthost_grant_via(one, 9, 2, 2, 3, 0, &answer));
+    NONE(GTHOST_OK, gthost_grant_bytes(one, 10, entry, 16, &answer));
+    for (int i = 0; i < 3; i++) {
+        struct gthost_handle name = mapped(two, 0);
+        NONE(GTHOST_OK, gthost_mapping(two, name, &mapping, &answer));
+        NONE(19, gthost_revoke(one, 7, &answer));
+        NONE(GTHOST_OK, gthost_unmap(two, name, &answer));
+        NONE(6, gthost_unmap(two, name, &answer));
+    }
+    NONE(GTHOST_OK, gthost_demote(one, 7, &answer));
+    NONE(13, gthost_map(two, 1, 7, GTHOST_MAP_WRITABLE, &answer));
+    NONE(GTHOST_OK, gthost_promote(one, 7, &answer));
+    NONE(GTHOST_OK, gthost_copy_begin(two, &copy, &places, &answer));
+    NONE(GTHOST_BUSY, gthost_query_size(two, 1, &answer));
+    NONE(GTHOST_OK, gthost_copy_end(two, &answer));
+    NONE(GTHOST_NO_COPY, gthost_copy_end(two, &answer));
+    NONE(GTHOST_OK, gthost_query_size(two, 1, &answer));
+    NONE(GTHOST_OK, gthost_get_version(two, 1, &answer));
+    NONE(GTHOST_OK, gthost_setup_table(two, 2, &answer));
+    NONE(24, gthost_set_version(one, 1, &answer));
+    NONE(GTHOST_OK, gthost_withdraw(one, 7, &answer));
+    NONE(GTHOST_OK, gthost_revoke(one, 8, &answer));
+    NONE(GTHOST_OK, gthost_revoke(one, 9, &answer));
+    NONE(GTHOST_OK, gthost_revoke(one, 10, &answer));
+    NONE(GTHOST_OK, gthost_set_version(one, 1, &answer));
+    NONE(GTHOST_OK, gthost_set_version(one, 2, &answer));
+}
+
+/* The first mapping of a domain takes memory, and each later one only if there are more than ever before. */
+static void warm(struct gthost_domain *one, struct gthost_domain *two)
+{
+    gthost_grant_page(one, 7, 2, 5, 0, &answer);
+    long before = taken;
+    struct gthost_handle name = mapped(two, 9);
+    printf("the first mapping of a domain takes %ld allocations\n", taken - before);
+    gthost_unmap(two, name, &answer);
+    gthost_revoke(one, 7, &answer);
+}
+
+static void counts(bool is_ahead)
+{
+    struct gthost_domain domains[2] = {{0}};
+    struct gthost_fault fault;
+    struct gthost_record record;
+    if (!start(domains, &fault)) {
+        failures++;
+        return;
+    }
+    for (int i = 0; i < 2; i++) {
+        if (is_ahead) {
+            gthost_reserve_records(&domains[i], 100, &answer);
+        } else {
+            gthost_keep_at_most(&domains[i], 0, &answer);
+        }
+    }
+    warm(&domains[0], &domains[1]);
+    calls(&domains[0], &domains[1]);
+    NONE(is_ahead ? GTHOST_OK : GTHOST_ABSENT, gthost_record(&domains[1], 0, &record, &answer));
+    gthost_finish(&domains[0]);
+    gthost_finish(&domains[1]);
+}
+
+/* A map or a record that memory is refused: N26, and a record that is lost. */
+static void refused(void)
+{
+    struct gthost_domain domains[2] = {{0}};
+    struct gthost_fault fault;
+    if (!start(domains, &fault)) {
+        failures++;
+        return;
+    }
+    gthost_grant_page(&domains[0], 7, 2, 5, 0, &answer);
+    left = 0;
+    NONE(26, gthost_map(&domains[1], 1, 7, GTHOST_MAP_READ_ONLY, &answer));
+    NONE(GTHOST_NO_MEMORY, gthost_reserve_records(&domains[1], 100, &answer));
+    NONE(GTHOST_OK, gthost_query_size(&domains[1], 1, &answer));
+    left = -1;
+    gthost_finish(&domains[0]);
+    if (gthost_finish(&domains[1]) != 2) {
+        printf("not two records lost\n");
+        failures++;
+    }
+}
+
+/* Each allocation of a start fails in turn, and what was taken is given back. */
+static void starts(void)
+{
+    struct gthost_domain domains[2] = {{0}};
+    struct gthost_fault fault;
+    for (long place = 0;; place++) {
+        long before = taken, back = given;
+        left = place;
+        bool is_started = start(domains, &fault);
+        left = -1;
+        if (is_started) {
+            printf("a start takes %ld allocations; each of them failed in turn\n", place);
+            break;
+        }
+        if (fault.kind != GTHOST_FAULT_MEMORY || domains[0].is_live || taken - before != given - back) {
+            printf("allocation %ld failed: fault %u, %ld taken, %ld given back\n", place, fault.kind, taken - before,
+                   given - back);
+            failures++;
+        }
+    }
+    gthost_finish(&domains[0]);
+    gthost_finish(&domains[1]);
+}
+
+int main(void)
+{
+    starts();
+    counts(false);
+    counts(true);
+    refused();
+    if (taken != given) {
+        printf("%ld allocations taken, %ld given back\n", taken, given);
+        failures++;
+    }
+    printf(failures ? "FAILED\n" : "no other call takes memory, with records off or room made ahead\n");
+    return failures != 0;
+}

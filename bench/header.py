@@ -1,0 +1,193 @@
+#!/usr/bin/env python3
+"""header.py: writes a C program that compiles only if include/gthost.h says what the Rattle side says.
+
+It reads the `#[repr(C)]` structs, the exports and the numbers of crates/gt_c, gt_seat and gt_types, and declares and
+asserts them again, by the layout rules of C with pointers of 8 bytes: each export with its types, the size of each struct and the offset of each
+field, and the number of each name. A declaration that differs from the header's is an error of the compiler. What the
+one side has and the other has not is an error here. The same is done for the structs and functions of contrib/rust.
+"""
+
+import pathlib
+import re
+import sys
+
+TOP = pathlib.Path(__file__).resolve().parent.parent
+STRUCTS = {
+    "Handle": "gthost_domain", "DomainSettings": "gthost_settings", "Fault": "gthost_fault", "Answer": "gthost_answer",
+    "MapHandle": "gthost_handle", "Mapping": "gthost_mapping", "CopyEnd": "gthost_end", "CopySettings": "gthost_copy",
+    "PlaceTold": "gthost_place", "PlacesTold": "gthost_places", "Record": "gthost_record",
+}
+OF_RUST = {
+    "Domain": "gthost_domain", "Settings": "gthost_settings", "Fault": "gthost_fault", "Answer": "gthost_answer",
+    "Handle": "gthost_handle", "Mapping": "gthost_mapping", "End": "gthost_end", "Copying": "gthost_copy",
+    "Place": "gthost_place", "Places": "gthost_places", "Record": "gthost_record",
+}
+SCALARS = {
+    "u8": ("uint8_t", 1), "u16": ("uint16_t", 2), "u32": ("uint32_t", 4), "u64": ("uint64_t", 8), "i32": ("int32_t", 4),
+    "bool": ("bool", 1), "usize": ("size_t", 8), "*mut u8": ("void *", 8), "*mut c_void": ("void *", 8),
+}
+EMPTY = {"Global"}  # the allocator: it takes no bytes
+KINDS = {"Mapped": "HANDLE"}  # a name of the header, where it is no other spelling of the Rattle side's word
+ZEROS = {"GTHOST_OK", "GTHOST_NOTHING", "GTHOST_FAULT_NONE"}
+# The numbers that Xen's public header has too, by its names.
+OF_XEN = {
+    "GTHOST_MAP_WRITABLE": "GNTMAP_host_map", "GTHOST_MAP_READ_ONLY": "GNTMAP_host_map | GNTMAP_readonly",
+    "GTHOST_COPY_SOURCE_GREF": "GNTCOPY_source_gref", "GTHOST_COPY_DEST_GREF": "GNTCOPY_dest_gref",
+}
+
+
+def sources():
+    texts = []
+    for crate in ("gt_c", "gt_seat", "gt_types"):
+        for path in sorted((TOP / "crates" / crate / "src").glob("**/*.rt")):
+            texts.append(re.sub(r"//.*", "", path.read_text(encoding="utf-8")))
+    return "\n".join(texts)
+
+
+def spelled(name):
+    """UPPER_CASE of a CamelCase name."""
+    return re.sub(r"(?<=[a-z])(?=[A-Z])", "_", name).upper()
+
+
+def structs(text):
+    found = {}
+    for name, body in re.findall(r"#\[repr\(C\)\]\s*(?:#\[[^\]]*\]\s*)*pub struct (\w+) \{(.*?)\n\}", text, re.S):
+        fields = re.findall(r"^\s*(?:pub )?(?!ghost)(\w+): ([^,{]+),$", body, re.M)
+        found[name] = [(field, kind.strip()) for field, kind in fields]
+    return found
+
+
+def measure(all_structs, kind):
+    """The size and the alignment of a type, and the scalars in it by their path and offset."""
+    if kind in EMPTY:
+        return 0, 1, []
+    if kind in SCALARS:
+        size = SCALARS[kind][1]
+        return size, size, [("", 0, size)]
+    at, widest, places = 0, 1, []
+    for field, inner in all_structs[kind]:
+        size, align, inside = measure(all_structs, inner)
+        at = -(-at // align) * align
+        places += [(f".{field}{path}", at + offset, width) for path, offset, width in inside]
+        at += size
+        widest = max(widest, align)
+    return -(-at // widest) * widest, widest, places
+
+
+def layouts(all_structs, names):
+    for name, told in names.items():
+        if name not in all_structs:
+            raise SystemExit(f"header: there is no struct {name} for {told}")
+        size, _, places = measure(all_structs, name)
+        yield f"_Static_assert(sizeof(struct {told}) == {size}, \"{told}\");"
+        for path, offset, width in places:
+            path = path.lstrip(".").replace("held.", "")  # the pointer of a handle, which the header has flat
+            yield f"_Static_assert(offsetof(struct {told}, {path}) == {offset}, \"{told}.{path}\");"
+            yield f"_Static_assert(sizeof(((struct {told} *)0)->{path}) == {width}, \"{told}.{path}\");"
+
+
+def c_type(kind, name, names):
+    """The parameters of C for one of Rattle or of Rust."""
+    slice_of = re.fullmatch(r"&(mut )?\[(\w+)\]", kind)
+    pointer = re.fullmatch(r"(?:&|\*)(mut |const )?(\w+)", kind)
+    if slice_of or pointer:
+        mutable, inner = (slice_of or pointer).groups()
+        told = SCALARS[inner][0] if inner in SCALARS else f"struct {names[inner]}"
+        at = f"{'' if mutable == 'mut ' else 'const '}{told} *{name}"
+        return [at, f"size_t {name}_len"] if slice_of else [at]
+    return [f"{SCALARS[kind][0] if kind in SCALARS else 'struct ' + names[kind]} {name}"]
+
+
+def scalars(declaration):
+    """The names of a declaration's parameters that are neither pointers nor, after those, the lengths of slices."""
+    params = declaration[declaration.index("(") + 1 : declaration.rindex(")")].split(",")
+    return [re.search(r"\w+$", one.strip()).group() for one in params if "*" not in one and "size_t" not in one]
+
+
+def compare_order(header, made):
+    """Two parameters of one type that are exchanged give the same declaration: so their names have to be the same."""
+    for name, declaration in made.items():
+        told = scalars(re.search(rf"\b{name}\(.*?\);", header, re.S).group())
+        if told != scalars(declaration):
+            raise SystemExit(f"header: {name} takes {told}, and the Rattle side {scalars(declaration)}")
+
+
+def declarations(found, names):
+    for name, params, result in found:
+        told = []
+        for param in filter(None, (one.strip() for one in params.split(","))):
+            field, kind = (one.strip() for one in param.split(":", 1))
+            if kind not in EMPTY:
+                told += c_type(kind, field, names)
+        yield name, f"{SCALARS[result][0] if result else 'void'} {name}({', '.join(told)});"
+
+
+def exports(text):
+    found = re.findall(r'pub extern "C" fn (\w+)\((.*?)\)(?: -> (\w+))?\s*(?=\{|ensures|requires)', text, re.S)
+    return dict(declarations(found, STRUCTS))
+
+
+def rust():
+    text = "\n".join((TOP / "contrib" / "rust" / "src" / name).read_text(encoding="utf-8") for name in ("raw.rs", "lib.rs"))
+    text = re.sub(r"//.*", "", text).replace("super::", "")
+    found = re.findall(r"^    pub fn (gthost_\w+)\((.*?)\)(?: -> (\w+))?;", text, re.S | re.M)
+    return structs(text), dict(declarations(found, OF_RUST))
+
+
+def numbers(text):
+    """Each number that the Rattle side has a word for, by its name in the header."""
+    for word, number in re.findall(r"Outcome::(\w+)\(\w+\) => given\((\d+),", text):
+        yield f"GTHOST_{KINDS.get(word, spelled(word))}", number
+    for word, number in re.findall(r"Facts::(\w+)[^=]*=> Answer \{\s*kind: (\d+),", text):
+        yield f"GTHOST_{spelled(word)}", number
+    for word, number in re.findall(r"Field::(\w+) => (\d+),", text):
+        yield f"GTHOST_FIELD_{spelled(word)}", number
+    for word, number in re.findall(r"pub const (NO_DOMAIN|BUSY|NO_MEMORY|NO_COPY|ABSENT): u32 = (\d+);", text):
+        yield f"GTHOST_{word}", number
+    for word, number in re.findall(r"(?:PolicyFaultKind|ConfigFault)::(\w+)(?:\(\w+\))? => fault_at\((\d+),", text):
+        yield f"GTHOST_FAULT_{spelled(word)}", number
+    for word, number in re.findall(r"const (MEMORY|HANDLES): Fault = Fault \{\s*kind: (\d+),", text):
+        yield f"GTHOST_FAULT_{word}", number
+    for number in re.findall(r"str::from_utf8\(policy\) else \{\s*return Err\(fault_at\((\d+),", text):
+        yield "GTHOST_FAULT_TEXT", number
+    for word, number in re.findall(r"Hypercall::(\w+)[^=]*=> Record \{\s*call: (\d+),", text):
+        yield f"GTHOST_CALL_{'UNMAP_NONE' if word == 'Unmap' and number == '3' else spelled(word)}", number
+
+
+def statuses(text):
+    for word, number in re.findall(r"Status::(\w+) => (-\d+),", text):
+        yield f"GNTST_{spelled(word).lower()}", number
+
+
+def asserted(pairs):
+    return "\n".join(f'_Static_assert(({name}) == ({number}), "{name}");' for name, number in pairs)
+
+
+def compare_names(what, declared, made):
+    if declared != made:
+        raise SystemExit(f"header: {what} that one side lacks: {' '.join(sorted(declared ^ made))}")
+
+
+def main():
+    text = sources()
+    header = re.sub(r"/\*.*?\*/", "", (TOP / "include" / "gthost.h").read_text(encoding="utf-8"), flags=re.S)
+    made, said, of_status = exports(text), dict(numbers(text)), dict(statuses(text))
+    rust_structs, rust_made = rust()
+    compare_names("exports", set(re.findall(r"\b(gthost_\w+)\(", header)), set(made))
+    compare_names("structs", set(re.findall(r"^struct (\w+) \{", header, re.M)), set(STRUCTS.values()))
+    compare_names("numbers", set(re.findall(r"\b(GTHOST_\w+) =", header)), set(said) | ZEROS | set(OF_XEN))
+    compare_order(header, made)
+    compare_order(header, rust_made)
+    print('#include "gthost.h"\n')
+    print("\n".join([*layouts(structs(text), STRUCTS), *layouts(rust_structs, OF_RUST)]))
+    print(asserted([*said.items(), *((name, 0) for name in sorted(ZEROS))]))
+    print("#if __has_include(<xen/grant_table.h>)\n#include <xen/xen.h>\n#include <xen/grant_table.h>")
+    print(asserted([*OF_XEN.items(), *of_status.items()]) + "\n#endif")
+    print("\n".join([*made.values(), *rust_made.values()]))
+    print("int main(void) { return 0; }")
+    count = len(said) + len(ZEROS) + len(OF_XEN) + len(of_status)
+    print(f"header: {len(made)} exports, {len(STRUCTS)} structs and {count} numbers are compared", file=sys.stderr)
+
+
+if __name__ == "__main__":
+    main()

@@ -1,0 +1,316 @@
+//! A safe wrapper of `libgthost.a`, the running monitor of grant tables.
+//!
+//! [`start`] gives a [`Domain`] for each domain of a run. A domain may move to another thread, and the domains of one
+//! run may be used at once; no domain is shared, so it is in one call at a time. It leaves its run when it is dropped.
+//! A copy is a guard that borrows its domain: until it is dropped the domain makes no other call.
+//!
+//! The memory of the guests is the caller's: nothing here touches it, and nothing here makes the caller touch only what
+//! a [`Mapping`] or [`Places`] says.
+mod raw;
+
+use std::fmt;
+
+pub use raw::Record;
+
+/// A domain of a run to start: its number, the place of its type in the policy, its frames, and its table.
+#[repr(C)]
+#[derive(Clone, Copy, Debug)]
+pub struct Settings {
+    pub id: u16,
+    pub label: u16,
+    pub frames: u32,
+    pub table_frames: u32,
+    pub version: u32,
+}
+
+/// Why a run did not start: a kind of `enum gthost_fault_kind`, the line of the policy, the domain.
+#[derive(Clone, Copy, Debug, PartialEq, Eq)]
+pub enum Fault {
+    Memory,
+    Policy { kind: u32, line: u32 },
+    Config { kind: u32, dom: u32 },
+}
+
+/// An entry to publish.
+#[derive(Clone, Copy, Debug)]
+pub enum Entry<'b> {
+    Page { to: u16, frame: u64, read_only: bool },
+    Sub { to: u16, frame: u64, off: u16, len: u16, read_only: bool },
+    Via { to: u16, dom: u16, gref: u32, read_only: bool },
+    /// As a guest writes it: 8 bytes in a table of version 1, 16 in one of version 2.
+    Bytes(&'b [u8]),
+}
+
+#[derive(Clone, Copy, Debug, PartialEq, Eq)]
+pub enum Access {
+    Read,
+    Write,
+}
+
+/// What a refusal rests on.
+#[derive(Clone, Copy, Debug, PartialEq, Eq)]
+pub enum Facts {
+    None,
+    Policy { source: u32, target: u32, permission: u32 },
+    Field(u32),
+    Header { dom: u32, word: u64 },
+    Entry { dom: u32, gref: u32, word: u64 },
+}
+
+/// A refusal: the rule N1 to N26, the status of the public header, and what it rests on.
+#[derive(Clone, Copy, Debug, PartialEq, Eq)]
+pub struct Refusal {
+    pub rule: u32,
+    pub status: i32,
+    pub facts: Facts,
+}
+
+/// The name of a mapping.
+#[repr(C)]
+#[derive(Clone, Copy, Debug, PartialEq, Eq)]
+pub struct Handle {
+    serial: u64,
+    key: usize,
+}
+
+#[repr(C)]
+#[derive(Clone, Copy, Debug, Default, PartialEq, Eq)]
+pub struct Mapping {
+    pub frame: u64,
+    pub gref: u32,
+    pub owner: u16,
+    writes: u16,
+}
+
+/// An end of a copy: a reference of a domain, or the number of a frame of the caller's own.
+#[derive(Clone, Copy, Debug)]
+pub enum Side {
+    Reference { dom: u16, gref: u32, off: u16 },
+    Frame { dom: u16, frame: u64, off: u16 },
+}
+
+#[repr(C)]
+#[derive(Clone, Copy, Debug, Default, PartialEq, Eq)]
+pub struct End {
+    pub ptr: u64,
+    pub dom: u16,
+    pub off: u16,
+}
+
+#[repr(C)]
+#[derive(Clone, Copy, Debug, Default, PartialEq, Eq)]
+pub struct Place {
+    pub frame: u64,
+    pub owner: u16,
+    pub off: u16,
+}
+
+/// What a copy may touch: `len` bytes, read at the one place and written at the other.
+#[repr(C)]
+#[derive(Clone, Copy, Debug, Default, PartialEq, Eq)]
+pub struct Places {
+    pub from: Place,
+    pub to: Place,
+    pub len: u16,
+}
+
+#[derive(Clone, Copy, Debug, PartialEq, Eq)]
+pub struct Size {
+    pub frames: u64,
+    pub most: u64,
+}
+
+/// A domain of a run. It leaves the run when it is dropped.
+pub struct Domain {
+    raw: raw::Domain, // its pointer makes it neither Send nor Sync by itself
+}
+
+// SAFETY: the library lets the handles of one run be used from different threads, each by one at a time.
+unsafe impl Send for Domain {}
+
+/// A copy at its access. It ends, and gives its pins back, when it is dropped.
+pub struct Copying<'d> {
+    domain: &'d mut Domain,
+    places: Places,
+}
+
+impl Mapping {
+    pub fn writes(&self) -> bool {
+        self.writes != 0
+    }
+}
+
+impl fmt::Display for Refusal {
+    fn fmt(&self, f: &mut fmt::Formatter<'_>) -> fmt::Result {
+        write!(f, "N{} {}", self.rule, self.status)
+    }
+}
+
+impl std::error::Error for Refusal {}
+
+fn facts(answer: &raw::Answer) -> Facts {
+    let raw::Answer { dom, gref, source, target, detail, word, .. } = *answer;
+    match answer.kind {
+        5 => Facts::Policy { source, target, permission: detail },
+        6 => Facts::Field(detail),
+        7 => Facts::Header { dom, word },
+        8 => Facts::Entry { dom, gref, word },
+        _ => Facts::None,
+    }
+}
+
+fn judged(answer: raw::Answer) -> Result<raw::Answer, Refusal> {
+    match answer.rule {
+        0 => Ok(answer),
+        rule => Err(Refusal { rule, status: answer.status, facts: facts(&answer) }),
+    }
+}
+
+/// Starts a run under a policy's text; entries begin at the generation `first_gen`.
+pub fn start(settings: &[Settings], first_gen: u32, policy: &str) -> Result<Vec<Domain>, Fault> {
+    let none = || raw::Domain { at: std::ptr::null_mut(), is_live: false };
+    let mut out: Vec<raw::Domain> = settings.iter().map(|_| none()).collect();
+    let mut fault = raw::Fault::default();
+    // SAFETY: the pointers are those of slices, with their lengths, and of a value.
+    let started = unsafe {
+        raw::gthost_start(
+            settings.as_ptr(), settings.len(), first_gen, policy.as_ptr(), policy.len(), out.as_mut_ptr(), out.len(), &mut fault,
+        )
+    };
+    match fault.kind {
+        _ if started => Ok(out.into_iter().map(|raw| Domain { raw }).collect()),
+        1 => Err(Fault::Memory),
+        kind @ 2..=9 => Err(Fault::Policy { kind, line: fault.line }),
+        kind => Err(Fault::Config { kind, dom: fault.dom }),
+    }
+}
+
+impl Domain {
+    // SAFETY of each call below: `raw` is what the library wrote, `&mut self` makes it the only call, and the other
+    // pointers are those of values or of slices with their lengths.
+    fn call(&mut self, what: impl FnOnce(*mut raw::Domain, *mut raw::Answer)) -> Result<raw::Answer, Refusal> {
+        let mut answer = raw::Answer::default();
+        what(&mut self.raw, &mut answer);
+        judged(answer)
+    }
+
+    pub fn grant(&mut self, gref: u32, entry: Entry<'_>) -> Result<(), Refusal> {
+        self.call(|d, a| unsafe {
+            match entry {
+                Entry::Page { to, frame, read_only } => raw::gthost_grant_page(d, gref, to, frame, read_only.into(), a),
+                Entry::Sub { to, frame, off, len, read_only } => {
+                    raw::gthost_grant_sub(d, gref, to, frame, off, len, read_only.into(), a)
+                }
+                Entry::Via { to, dom, gref: onward, read_only } => {
+                    raw::gthost_grant_via(d, gref, to, dom, onward, read_only.into(), a)
+                }
+                Entry::Bytes(bytes) => raw::gthost_grant_bytes(d, gref, bytes.as_ptr(), bytes.len(), a),
+            }
+        })
+        .map(drop)
+    }
+
+    pub fn revoke(&mut self, gref: u32) -> Result<(), Refusal> {
+        self.call(|d, a| unsafe { raw::gthost_revoke(d, gref, a) }).map(drop)
+    }
+
+    pub fn withdraw(&mut self, gref: u32) -> Result<(), Refusal> {
+        self.call(|d, a| unsafe { raw::gthost_withdraw(d, gref, a) }).map(drop)
+    }
+
+    pub fn demote(&mut self, gref: u32) -> Result<(), Refusal> {
+        self.call(|d, a| unsafe { raw::gthost_demote(d, gref, a) }).map(drop)
+    }
+
+    pub fn promote(&mut self, gref: u32) -> Result<(), Refusal> {
+        self.call(|d, a| unsafe { raw::gthost_promote(d, gref, a) }).map(drop)
+    }
+
+    pub fn map(&mut self, dom: u16, gref: u32, access: Access) -> Result<Handle, Refusal> {
+        let flags = if access == Access::Write { 2 } else { 6 };
+        let answer = self.call(|d, a| unsafe { raw::gthost_map(d, dom, gref, flags, a) })?;
+        Ok(Handle { serial: answer.value, key: answer.more as usize })
+    }
+
+    pub fn unmap(&mut self, handle: Handle) -> Result<(), Refusal> {
+        self.call(|d, a| unsafe { raw::gthost_unmap(d, handle, a) }).map(drop)
+    }
+
+    /// What is mapped under a handle; `None` if it is no mapping of this domain.
+    pub fn mapping(&mut self, handle: Handle) -> Option<Mapping> {
+        let mut mapping = Mapping::default();
+        let answer = self.call(|d, a| unsafe { raw::gthost_mapping(d, handle, &mut mapping, a) });
+        answer.ok().map(|_| mapping)
+    }
+
+    /// Comes to the access of a copy, and holds its pins until the guard is dropped.
+    pub fn copy(&mut self, from: Side, to: Side, len: u16) -> Result<Copying<'_>, Refusal> {
+        let end = |side| match side {
+            Side::Reference { dom, gref, off } => (End { ptr: gref.into(), dom, off }, true),
+            Side::Frame { dom, frame, off } => (End { ptr: frame, dom, off }, false),
+        };
+        let ((source, by_source), (dest, by_dest)) = (end(from), end(to));
+        let asked = raw::Copying { source, dest, len, flags: u16::from(by_source) | u16::from(by_dest) << 1 };
+        let mut places = Places::default();
+        self.call(|d, a| unsafe { raw::gthost_copy_begin(d, &asked, &mut places, a) })?;
+        Ok(Copying { domain: self, places })
+    }
+
+    pub fn set_version(&mut self, version: u32) -> Result<(), Refusal> {
+        self.call(|d, a| unsafe { raw::gthost_set_version(d, version, a) }).map(drop)
+    }
+
+    /// How many frames the table then has.
+    pub fn setup_table(&mut self, frames: u32) -> Result<u64, Refusal> {
+        self.call(|d, a| unsafe { raw::gthost_setup_table(d, frames, a) }).map(|answer| answer.value)
+    }
+
+    pub fn query_size(&mut self, dom: u16) -> Result<Size, Refusal> {
+        let answer = self.call(|d, a| unsafe { raw::gthost_query_size(d, dom, a) })?;
+        Ok(Size { frames: answer.value, most: answer.more })
+    }
+
+    pub fn get_version(&mut self, dom: u16) -> Result<u64, Refusal> {
+        self.call(|d, a| unsafe { raw::gthost_get_version(d, dom, a) }).map(|answer| answer.value)
+    }
+
+    /// The record of its calls at this place, from 0 on.
+    pub fn record(&mut self, index: usize) -> Option<Record> {
+        let mut record = Record::default();
+        let answer = self.call(|d, a| unsafe { raw::gthost_record(d, index, &mut record, a) });
+        answer.ok().map(|_| record)
+    }
+
+    /// From now on it keeps a record only while it has fewer than so many.
+    pub fn keep_at_most(&mut self, records: usize) {
+        let _ = self.call(|d, a| unsafe { raw::gthost_keep_at_most(d, records, a) });
+    }
+
+    /// Makes room for so many records; false if memory is refused.
+    pub fn reserve_records(&mut self, records: usize) -> bool {
+        self.call(|d, a| unsafe { raw::gthost_reserve_records(d, records, a) }).is_ok()
+    }
+
+    /// Leaves the run, and answers how many records were lost.
+    pub fn finish(mut self) -> u64 {
+        unsafe { raw::gthost_finish(&mut self.raw) } // and the drop that follows finds a handle of no domain
+    }
+}
+
+impl Drop for Domain {
+    fn drop(&mut self) {
+        unsafe { raw::gthost_finish(&mut self.raw) };
+    }
+}
+
+impl Copying<'_> {
+    pub fn places(&self) -> Places {
+        self.places
+    }
+}
+
+impl Drop for Copying<'_> {
+    fn drop(&mut self) {
+        let _ = self.domain.call(|d, a| unsafe { raw::gthost_copy_end(d, a) });
+    }
+}

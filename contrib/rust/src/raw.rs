@@ -1,0 +1,84 @@
+//! What `gthost.h` declares; `bench/header.py` compares the two.
+use std::os::raw::c_void;
+
+#[repr(C)]
+pub struct Domain {
+    pub at: *mut c_void,
+    pub is_live: bool,
+}
+
+#[repr(C)]
+#[derive(Clone, Copy, Default)]
+pub struct Fault {
+    pub kind: u32,
+    pub line: u32,
+    pub dom: u32,
+}
+
+#[repr(C)]
+#[derive(Clone, Copy, Debug, Default, PartialEq, Eq)]
+pub struct Answer {
+    pub rule: u32,
+    pub status: i32,
+    pub kind: u32,
+    pub dom: u32,
+    pub gref: u32,
+    pub source: u32,
+    pub target: u32,
+    pub detail: u32,
+    pub word: u64,
+    pub value: u64,
+    pub more: u64,
+}
+
+#[repr(C)]
+#[derive(Clone, Copy, Default)]
+pub struct Copying {
+    pub source: super::End,
+    pub dest: super::End,
+    pub len: u16,
+    pub flags: u16,
+}
+
+#[repr(C)]
+#[derive(Clone, Copy, Debug, Default, PartialEq, Eq)]
+pub struct Record {
+    pub call: u32,
+    pub caller: u32,
+    pub dom: u32,
+    pub gref: u32,
+    pub flags: u32,
+    pub len: u32,
+    pub source: super::End,
+    pub dest: super::End,
+    pub reply: Answer,
+}
+
+#[link(name = "gthost", kind = "static")]
+extern "C" {
+    pub fn gthost_start(
+        settings: *const super::Settings, count: usize, first_gen: u32, policy: *const u8, policy_len: usize,
+        out: *mut Domain, out_count: usize, fault: *mut Fault,
+    ) -> bool;
+    pub fn gthost_finish(domain: *mut Domain) -> u64;
+    pub fn gthost_grant_page(d: *mut Domain, gref: u32, to: u16, frame: u64, ro: u32, a: *mut Answer);
+    pub fn gthost_grant_sub(d: *mut Domain, gref: u32, to: u16, frame: u64, off: u16, len: u16, ro: u32, a: *mut Answer);
+    pub fn gthost_grant_via(d: *mut Domain, gref: u32, to: u16, dom2: u16, ref2: u32, ro: u32, a: *mut Answer);
+    pub fn gthost_grant_bytes(d: *mut Domain, gref: u32, bytes: *const u8, len: usize, a: *mut Answer);
+    pub fn gthost_revoke(d: *mut Domain, gref: u32, a: *mut Answer);
+    pub fn gthost_withdraw(d: *mut Domain, gref: u32, a: *mut Answer);
+    pub fn gthost_demote(d: *mut Domain, gref: u32, a: *mut Answer);
+    pub fn gthost_promote(d: *mut Domain, gref: u32, a: *mut Answer);
+    pub fn gthost_map(d: *mut Domain, dom: u16, gref: u32, flags: u32, a: *mut Answer);
+    pub fn gthost_unmap(d: *mut Domain, name: super::Handle, a: *mut Answer);
+    pub fn gthost_mapping(d: *mut Domain, name: super::Handle, mapping: *mut super::Mapping, a: *mut Answer);
+    pub fn gthost_copy_begin(d: *mut Domain, copy: *const Copying, places: *mut super::Places, a: *mut Answer);
+    pub fn gthost_copy_end(d: *mut Domain, a: *mut Answer);
+    pub fn gthost_set_version(d: *mut Domain, version: u32, a: *mut Answer);
+    pub fn gthost_setup_table(d: *mut Domain, frames: u32, a: *mut Answer);
+    pub fn gthost_query_size(d: *mut Domain, dom: u16, a: *mut Answer);
+    pub fn gthost_get_version(d: *mut Domain, dom: u16, a: *mut Answer);
+    pub fn gthost_record(d: *mut Domain, index: usize, record: *mut Record, a: *mut Answer);
+    pub fn gthost_keep_at_most(d: *mut Domain, records: usize, a: *mut Answer);
+    pub fn gthost_reserve_records(d: *mut Domain, records: usize, a: *mut Answer);
+}
