@@ -1,11 +1,9 @@
 -- The contracts of the calls of a domain say that each is a call of a run.
-use Rattle.std.proofs.Common.{◌≡◌, ℕ, List, [], Result, Ok, Err, refl, ⊎_elim, ◌⊎◌, inl, inr}
-use Rattle.gt_types.specs.declared.denial.Denial.{Denial}
+use Rattle.std.proofs.Common.{[], Ok, Err, refl, inl, inr}
 use Rattle.gt_handles.specs.Handles.{HandleMap}
-use Rattle.gt_handles.specs.declared.handles.Handle.{Handle}
 use Rattle.gt_calls.specs.Asking.{asked}
 use Rattle.gt_calls.specs.declared.action.Verdict.{Verdict}
-use Rattle.gt_calls.specs.declared.action.Verdict.TheVariants.{Granted, Given, Mapped, Refused}
+use Rattle.gt_calls.specs.declared.action.Verdict.TheVariants.{Refused}
 use Rattle.gt_calls.specs.declared.held.Held.{Held}
 use Rattle.gt_calls.specs.declared.request.Asked.{Asked}
 use Rattle.gt_calls.specs.declared.request.Asked.TheVariants.{Unmap}
@@ -22,13 +20,12 @@ leaves (Unmap handle) verdict old new n k = absurd (n tt)
 leaves request verdict old new n k = k
 
 pub plain-made : {P : Type 0} (may : P → AllowRelation) (m : Monitor P) → PlainCallsAreMade may m
-plain-made may m d e request verdict stays waits other fits plain answered kept = (
+plain-made may m d e request verdict stays other fits plain answered kept = (
   answered.steps,
   record {
     before = stays.before;
     afterwards = stays.afterwards;
     seat = stays.seat;
-    waits = waits;
     fits = fits;
     answered = (plain, (answered, refl), leaves (asked request) verdict d.mappings e.mappings other kept.0);
   },
@@ -41,7 +38,6 @@ unmap-made may m d e handle (Ok tt) stays answered removed refused = (
     before = stays.before;
     afterwards = stays.afterwards;
     seat = stays.seat;
-    waits = tt;
     fits = (tt, tt);
     answered = (tt, (answered, refl), removed);
   },
@@ -52,7 +48,6 @@ unmap-made may m d e handle (Err denial) stays answered removed refused = (
     before = stays.before;
     afterwards = stays.afterwards;
     seat = stays.seat;
-    waits = tt;
     fits = (tt, tt);
     answered = (tt, (answered, refl), refused.0);
   },
@@ -68,7 +63,6 @@ map-made may m d e dom gref flags (Ok handle) stays answered = (
       before = stays.before;
       afterwards = stays.afterwards;
       seat = stays.seat;
-      waits = tt;
       fits = (tt, tt);
       answered = (tt, (answered.1, refl), answered.2);
     },
@@ -83,7 +77,6 @@ map-made may m d e dom gref flags (Err denial) stays (inl answered, kept) = (
       before = stays.before;
       afterwards = stays.afterwards;
       seat = stays.seat;
-      waits = tt;
       fits = (tt, tt);
       answered = (tt, (answered, refl), kept.0);
     },
@@ -98,7 +91,6 @@ map-made may m d e dom gref flags (Err denial) stays (inr starved, kept) = (
       before = stays.before;
       afterwards = stays.afterwards;
       seat = stays.seat;
-      waits = tt;
       fits = (tt, tt);
       answered = (refl, starved.3, kept.0);
     },

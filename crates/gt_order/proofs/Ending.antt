@@ -31,6 +31,7 @@ use Rattle.gt_calls.proofs.Saying.{plain-asked, plain-begun}
 use Rattle.gt_calls.specs.Asking.{IsSaid, asked, asked_by, begun_of, bytes_of, given_by, judged_as, plainly_asked}
 use Rattle.gt_calls.specs.Following.{MakesStep as MakesFirst}
 use Rattle.gt_calls.specs.Path.{FitsStep, after_beginning, path, path_of, steps_of}
+use Rattle.gt_calls.specs.Standing.{pins_at}
 use Rattle.gt_calls.specs.Rules.{CallerKnowledge, begun, denied, first, knowledge_of, map_begun, map_dir, refused_when, rights_to_map, rights_to_unmap, unmap_begun, unmap_denied}
 use Rattle.gt_calls.specs.declared.action.Action.TheVariants.{Step as Makes, Done}
 use Rattle.gt_calls.specs.declared.action.Seen.{Seen}
@@ -55,11 +56,11 @@ use Rattle.gt_core.specs.declared.trace.Answer.TheVariants.{Mapped}
 use Rattle.gt_core.specs.declared.trace.Happened.TheVariants.{Stepped}
 use Rattle.gt_core.specs.declared.trace.Item.{Item}
 use Rattle.gt_live.specs.Domains.{AllowRelation, IsDomainOf, knowledge}
-use Rattle.gt_live.specs.Ending.{IsMap, WaitsForNobody}
+use Rattle.gt_live.specs.Ending.{IsMap}
 use Rattle.gt_live.specs.Mappings.{Adds as KeepsOneMore, KeepsMappings}
 use Rattle.gt_live.specs.Walks.{shown, shown_by, shown_in}
 use Rattle.gt_live.specs.declared.domain.Domain.{Domain}
-use Rattle.gt_order.proofs.Ends.{KeepsOwn, clean-steps, handles-kept, keeps-own, kept-maps, last-leaves, leaves-known, maps-quiet, stands-open, told-maps}
+use Rattle.gt_order.proofs.Ends.{KeepsOwn, clean-steps, handles-kept, keeps-own, kept-maps, last-leaves, leaves-known, leaves-of, maps-quiet, stands-open, told-maps}
 use Rattle.gt_order.proofs.Going.{GoesSo, same-way}
 use Rattle.gt_order.proofs.Making.{header-is}
 use Rattle.gt_order.proofs.Resting.{rest-known}
@@ -202,7 +203,8 @@ module _ (b : Board) (c : Config) (may : AllowRelation) (limits : IsWithinLimits
 
       keeps : KeepsOwn s g d item
       keeps = let o = stands-open s (item ∷ g) d then r.reached named open-then in
-          leaves-known s g d r.step (shown_in x.1) (last-leaves cl.steps (r.step, shown_in x.1) (clean-steps s (item ∷ g) d then o.0 o.1 (subst WaitsForNobody (sym seat.call.2) call.waits)))
+          leaves-known s g d r.step (shown_in x.1) (leaves-of (known_at s g d) d cl.request (pins_at r.here.phase) (values cl) r.step (shown_in x.1) r.quiet r.here.here.rests
+          (λ waits. last-leaves cl.steps (r.step, shown_in x.1) (clean-steps s (item ∷ g) d then o.0 o.1 waits)))
 
       same : item ≡ item_of d (way_of c may m) (shown xs) x None
       same = λ j. record { actor = d; happened = Stepped (step_in (sym r.next j)) (shown_by x); answer = None }
@@ -258,7 +260,7 @@ module _ (b : Board) (c : Config) (may : AllowRelation) (limits : IsWithinLimits
       item = stepped d r.step (shown_in x.1) (Some (answer_of verdict))
 
       maps : MappingsAgree m.new.mappings (mappings_at (item ∷ g) d.0) (maps_answered_at (item ∷ g) d.0)
-      maps = told-maps s g d cl (values cl) (shown_in x.1) verdict m.old.mappings m.new.mappings (subst WaitsForNobody (sym seat.call.2) call.waits) seat.call.1 seat.maps
+      maps = told-maps s g d cl (values cl) (shown_in x.1) verdict m.old.mappings m.new.mappings seat.call.1 seat.maps
           (subst (λ (z : Asked). LeavesMappings z verdict m.old.mappings m.new.mappings) (sym seat.call.2) leaves) r.here.core.domains r.here.phase r.step r.here.here r.quiet r.on_path r.right
 
   pub core-adds : (old new : HandleMap Held) (handle : Handle) (p : Held) → KeepsOneMore old new handle p → Adds old new handle p

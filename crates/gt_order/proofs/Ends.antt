@@ -1,8 +1,11 @@
 -- What a domain knows after a step of its call: the same where the call goes on, and where it ends the mappings that the
 -- domain then has.
+use Rattle.gt_calls.specs.Rules.{CallerKnowledge}
 use Rattle.std.proofs.Common.{zero, suc, slice_index_or, slice_set, is_some, count_by}
 use Rattle.std.proofs.lemmas.List.Elements.{All-pop}
 use Rattle.std.proofs.lemmas.List.Sums.{sum_by-cons}
+use Rattle.gt_core.proofs.Words.{Publish, ToInvalid, ToReadOnly, ToWithdrawn, ToWritable}
+use Rattle.gt_calls.specs.declared.held.Pins.{Pins}
 use Rattle.gt_core.proofs.Words.{◌≡◌, ◌≢◌, ◌+◌, inl, inr, ℕ, refl, Bool, true, false, cond, ◌==◌, List, [], ◌∷◌, ◌++◌, Option, Some, None, sym, ap, ◌∙◌, subst, reverse, same_Some, none-some, arith, eqb-true, fun_ext, All, DomId, domain_of, Held, Handle, HandleMap, ByMapping, ByLeg, value_of, count_of, Asked, Unmap, Seen, Nothing, Word, Taken, Missed, Step, LookHeader, LookControl, LookBody, PinStep, Unpin, StoreBody, StoreHeader, Exchange, ReadBytes, WriteBytes, CopyBytes, Verdict, Granted, Given, KeptPin, Refused, Makes, Done, Phase, Ending, path, known_at, action_at, Setting, Underway, values, open_call, CallAgrees, IsClean, IsRight, StepsRightIn, LeavesAll, Rests, pins_at, PhaseStands, next_to_give, mapping_of, mappings_at, maps_answered_at, MappingsAgree, one_if_mapped, header_stored, change_at, taken, gather, by_mapping, seen_by, word_at, answer_of, FitsStep, Slot, after_beginning, same_handle, Denial, holder_after, FitsNext, eq-eqb, State}
 use Rattle.gt_calls.specs.declared.action.Value.TheVariants.{Frames, Size as SizeTold, Version as VersionTold}
 use Rattle.gt_calls.specs.declared.action.Action.{Action}
@@ -25,7 +28,7 @@ use Rattle.gt_handles.specs.Handles.{under}
 use Rattle.gt_live.specs.Ending.{WaitsForNobody}
 use Rattle.gt_live.specs.Mappings.{KeepsMappings, Removes}
 use Rattle.gt_order.proofs.Kept.{KeepsWords, live-kept}
-use Rattle.gt_order.proofs.Stepping.{StandsHere, no-leg, open-there, state-there}
+use Rattle.gt_order.proofs.Stepping.{StandsHere, open-there, state-there}
 use Rattle.gt_order.specs.Runs.{LeavesMappings}
 
 -- where the core stands at an open call
@@ -65,6 +68,26 @@ clean-steps s g d c step here waits = by here.phase here.here.acts here.here.pla
 
 pub last-leaves : (xs : List (Step × Seen)) (x : Step × Seen) → All LeavesAll (xs ++ x ∷ []) → LeavesAll x
 last-leaves xs x a = (All-pop LeavesAll (xs ++ x ∷ []) xs (Some x) refl a).1
+
+-- so a step of a call that goes on leaves all as it was: only a call without accesses makes a step that might not
+pub leaves-of : (k : CallerKnowledge) (d : DomId) (request : Asked) (pins : Pins) (vs : List Seen) (step : Step) (seen : Seen) → IsOnWords step → Rests k d request pins vs (Makes step) → (WaitsForNobody request → LeavesAll (step, seen)) → LeavesAll (step, seen)
+leaves-of k d request pins vs (LookHeader dom) seen q r f = tt
+leaves-of k d request pins vs (LookControl dom gref) seen q r f = tt
+leaves-of k d request pins vs (LookBody dom gref half) seen q r f = tt
+leaves-of k d request pins vs (PinStep p) seen q r f = tt
+leaves-of k d request pins vs (Unpin p (ByMapping handle)) seen q r f = f (subst WaitsForNobody (sym r.1.0) tt)
+leaves-of k d request pins vs (Unpin p (ByLeg n)) seen q r f = tt
+leaves-of k d request pins vs (StoreBody gref half word) seen q r f = tt
+leaves-of k d request pins vs (StoreHeader version frames) seen q (none, inl e) f = f (subst WaitsForNobody (sym e.0) tt)
+leaves-of k d request pins vs (StoreHeader version frames) seen q (none, inr e) f = f (subst WaitsForNobody (sym e.0) tt)
+leaves-of k d request pins vs (Exchange gref looked (Publish entry)) seen q r f = f (subst WaitsForNobody (sym r.1.0) tt)
+leaves-of k d request pins vs (Exchange gref looked ToInvalid) seen q r f = f (subst WaitsForNobody (sym r.1.0) tt)
+leaves-of k d request pins vs (Exchange gref looked ToWithdrawn) seen q r f = f (subst WaitsForNobody (sym r.1.0) tt)
+leaves-of k d request pins vs (Exchange gref looked ToReadOnly) seen q r f = f (subst WaitsForNobody (sym r.1.0) tt)
+leaves-of k d request pins vs (Exchange gref looked ToWritable) seen q r f = f (subst WaitsForNobody (sym r.1.0) tt)
+leaves-of k d request pins vs (ReadBytes dom frame off len) seen q r f = absurd q
+leaves-of k d request pins vs (WriteBytes dom frame off len) seen q r f = absurd q
+leaves-of k d request pins vs (CopyBytes from to len) seen q r f = absurd q
 
 -- what stays of what a domain knows, after an item of its own
 
@@ -170,7 +193,7 @@ keeps-others : (request : Asked) (verdict : Verdict) (old new : HandleMap Held) 
 keeps-others (Unmap handle) verdict old new o l = absurd o
 keeps-others request verdict old new o l = l
 
-module _ (s : Setting) (g : Items) (d : DomId) (cl : Underway) (vs : List Seen) (seen : Seen) (verdict : Verdict) (old new : HandleMap Held) (waits : WaitsForNobody cl.request) (call : open_call g d.0 ≡ Some cl)
+module _ (s : Setting) (g : Items) (d : DomId) (cl : Underway) (vs : List Seen) (seen : Seen) (verdict : Verdict) (old new : HandleMap Held) (call : open_call g d.0 ≡ Some cl)
     (a : MappingsAgree old (mappings_at g d.0) (maps_answered_at g d.0)) (leaves : LeavesMappings cl.request verdict old new) where
   abbrev item : Step → Item
   item step = stepped d step seen (Some (answer_of verdict))
@@ -226,7 +249,7 @@ module _ (s : Setting) (g : Items) (d : DomId) (cl : Underway) (vs : List Seen) 
           pinned Taken = leg-maps g d p (Some (answer_of verdict)) (leg verdict _)
           pinned v = maps-quiet g d _ (record { changes = λ z. refl; pins = λ before ps. refl; unpins = λ ps. refl })
       by (Unpin p (ByMapping handle)) e r n ok = gone p handle r.1.0 r.1.1 ok
-      by (Unpin p (ByLeg m)) e r n ok = absurd (no-leg s g xs d cl.request (values cl) (reverse cl.steps) phase step here waits p m e)
+      by (Unpin p (ByLeg m)) e r n ok = as-it-was _ n (λ q handle f. cc) (leg-mappings g d p m seen (Some (answer_of verdict)))
       by (StoreBody gref half word) e r n ok = as-it-was _ n (λ p handle f. cc) (maps-quiet g d _ (record { changes = λ z. refl; pins = λ before ps. refl; unpins = λ ps. refl }))
       by (StoreHeader version frames) e r n ok = as-it-was _ n (λ p handle f. cc) (maps-quiet g d _ (record { changes = λ z. refl; pins = λ before ps. refl; unpins = λ ps. refl }))
       by (Exchange gref looked change) e r n ok = as-it-was _ n (λ p handle f. cc) (turned seen)

@@ -35,7 +35,6 @@ use Rattle.gt_core.specs.declared.trace.Answer.{Answer}
 use Rattle.gt_live.proofs.Making.{made-fits}
 use Rattle.gt_live.proofs.Walking.{after-position}
 use Rattle.gt_live.specs.Domains.{AllowRelation, knowledge}
-use Rattle.gt_live.specs.Ending.{WaitsForNobody}
 use Rattle.gt_live.specs.Walks.{Made, MakesStep, after, shown, shown_by, shown_in}
 use Rattle.gt_live.specs.declared.domain.Domain.{Domain}
 use Rattle.gt_order.proofs.Bytes.{said}
@@ -43,7 +42,7 @@ use Rattle.gt_order.proofs.Making.{MadeAs, made-as, on-words, one-moment}
 use Rattle.gt_order.proofs.Seeing.{sees}
 use Rattle.gt_order.proofs.Stages.{SeatNow}
 use Rattle.gt_order.proofs.Stages.Stage.{Going}
-use Rattle.gt_order.proofs.Stepping.{StandsHere, no-leg, stands-here, step-kept, within}
+use Rattle.gt_order.proofs.Stepping.{AreBounded, IsBounded, StandsHere, leg-all, stands-here, step-kept, within}
 use Rattle.gt_order.specs.Agreeing.{Agree, IsThe, IsWithin, dom_at}
 use Rattle.gt_order.specs.Ordering.{way_of}
 use Rattle.gt_order.specs.Runs.{CallMade, IsCall}
@@ -68,6 +67,7 @@ pub record GoesSo (c : Config) (may : AllowRelation) (k : Layout) (g : Items) (i
   pub right : IsRight (setting_of c may) g (stepped (dom_at k i) step (shown_in x.1) answer)
   pub reached : IsReached (setting_of c may) (stepped (dom_at k i) step (shown_in x.1) answer ∷ g)
   pub agree : Agree (setting_of c may) k (stepped (dom_at k i) step (shown_in x.1) answer ∷ g) ((i, x.1) ∷ x.0)
+  pub inner : IsWithin k step
   pub here : StandsHere (setting_of c may) g (dom_at k i) cl step
   pub quiet : IsOnWords step
   pub sees : seen_by (setting_of c may) g (dom_at k i) step ≡ shown_in x.1
@@ -79,7 +79,7 @@ pub record GoesSo (c : Config) (may : AllowRelation) (k : Layout) (g : Items) (i
 module _ (b : Board) (c : Config) (may : AllowRelation) (limits : IsWithinLimits c) (is : b.layout ≡ layout_of c) (g : Items) (i : ℕ) (inside : i < b.layout.domains) (m : CallMade) (ms : List CallMade) (first : Domain)
     (xs : List Moment) (x : Moment) (call : IsCall b c may m) (at : m.old.seat.view.position ≡ i) (named : domain_of c.domains.items (dom_at b.layout i) ≢ None) (reached : IsReached (setting_of c may) g)
     (agree : Agree (setting_of c may) b.layout g x.0) (seat : SeatNow c may g (dom_at b.layout i) first (Going ms m xs))
-    (walk : MakesStep b.layout (way_of c may m (shown xs)) (shown_by x) (after xs m.old.seat.view) (after (x ∷ xs) m.old.seat.view)) where
+    (bounded : AreBounded b.layout g) (walk : MakesStep b.layout (way_of c may m (shown xs)) (shown_by x) (after xs m.old.seat.view) (after (x ∷ xs) m.old.seat.view)) where
   abbrev k : Layout
   k = b.layout
 
@@ -110,9 +110,6 @@ module _ (b : Board) (c : Config) (may : AllowRelation) (limits : IsWithinLimits
   stood-at : v.position ≡ i
   stood-at = after-position xs m.old.seat.view ∙ at
 
-  waits : WaitsForNobody cl.request
-  waits = subst WaitsForNobody (sym seat.call.2) call.waits
-
   pub on-way : (step : Step) → way (shown xs) ≡ Some (Makes step) → (vs : List Seen) → path (known_at s g d) d cl.request vs ≡ way vs
   on-way step next vs =
       let none : begun_of know m.old.seat.dom m.request ≡ None = unanswered (begun_of know m.old.seat.dom m.request) (steps_of know m.old.seat.dom (asked m.request)) (shown xs) step next in
@@ -138,7 +135,8 @@ module _ (b : Board) (c : Config) (may : AllowRelation) (limits : IsWithinLimits
         the = so.the;
         right = right;
         reached = subst (λ (z : Seen). IsReached s (stepped d step z answer ∷ g)) saw goes.1;
-        agree = step-kept c may k g x.0 i cl step x.1 answer is limits inside reached agree named seat.call.1 waits on inner so.the so.stores so.says right;
+        agree = step-kept c may k g x.0 i cl step x.1 answer is limits inside reached agree named seat.call.1 on inner so.the so.stores so.says right;
+        inner = inner;
         here = here;
         quiet = quiet;
         sees = saw;
@@ -153,7 +151,8 @@ module _ (b : Board) (c : Config) (may : AllowRelation) (limits : IsWithinLimits
 
       unpinned : (z : Step) → StandsHere s g d cl z → (p : Held) (holder : Holder) → z ≡ Unpin p holder → HasDomain k p.dom × (p.gref.0 < TABLE_ENTRIES)
       unpinned z here p (ByMapping handle) e = let r = subst (StandsHere s g d cl) e here in mapped p handle r.here.rests.1.1
-      unpinned z here p (ByLeg n) e = absurd (no-leg s g here.core.domains d cl.request (values cl) (reverse cl.steps) here.phase z here.here waits p n e)
+      unpinned z here p (ByLeg n) e = let r = subst (StandsHere s g d cl) e here in
+          leg-all (IsBounded k) s g r.core.domains d cl.request (values cl) (reverse cl.steps) r.phase (Unpin p (ByLeg n)) p n r.here r.here.rests.1 bounded
 
   pub goes-so : (action : Action) (answer : Option Answer) → way (shown (x ∷ xs)) ≡ Some action → AnsweredSo g d action answer → GoesSo c may k g i cl (shown xs) way x v w answer
   goes-so action answer then answered = by (way (shown xs)) refl walk

@@ -43,6 +43,7 @@ use Rattle.gt_order.proofs.Resting.{can-be-answered, keeps-agreement}
 use Rattle.gt_order.proofs.Stages.{Fits, IsGoing, Ordered, SeatNow, Stage, one-more}
 use Rattle.gt_order.proofs.Stages.Stage.{Going, Resting}
 use Rattle.gt_order.proofs.Start.{ordered-first}
+use Rattle.gt_order.proofs.Stepping.{bounded-quiet, bounded-step}
 use Rattle.gt_order.specs.Agreeing.{dom_at}
 use Rattle.gt_order.specs.Laws.{RunsHaveLegalOrders}
 use Rattle.gt_order.specs.Ordering.{IsLegalOrder, item_of_beginning, way_of}
@@ -205,6 +206,7 @@ module _ (b : Board) (c : Config) (may : AllowRelation) (limits : IsWithinLimits
         agree = o.agree;
         legal = o.legal;
         steps = o.steps;
+        bounded = o.bounded;
         each = λ j lj. elim (cases_eq i j) [
           | inl f ↦ subst (λ (z : ℕ). SeatNow c may o.g (dom_at k z) (firsts z) (stages z)) f (subst (SeatNow c may o.g d (firsts i)) (sym e)
               (starves b c may limits is i l (firsts i) (named i l) o.g h ms m o.reached o.agree call rest out a.1 a.2 at.0 at.1 steps seat))
@@ -219,7 +221,7 @@ module _ (b : Board) (c : Config) (may : AllowRelation) (limits : IsWithinLimits
           let item = item_of_beginning d m.request (Some (answer_of verdict)) in
           let agree = keeps-agreement s k o.g h item (record { changes = λ z. refl; pins = λ before ps. refl; unpins = λ ps. refl }) refl (λ z half. refl) o.agree in
           let keeps = keeps-at-once (asked m.request) verdict m.old.mappings m.new.mappings (subst (RefusesOnly (asked m.request)) op (asked-refuses (knowledge c may m.old) m.old.seat.dom m.request)) a.2 in
-          one-more b c may limits is h h firsts (put i (Resting ms) stages) stages i item o l refl (named i l) answered.0 answered.1 agree o.steps same
+          one-more b c may limits is h h firsts (put i (Resting ms) stages) stages i item o l refl (named i l) answered.0 answered.1 agree o.steps (bounded-quiet k o.g item (record { changes = λ z. refl; pins = λ before ps. refl; unpins = λ ps. refl }) o.bounded) same
           (subst (SeatNow c may (item ∷ o.g) d (firsts i)) (sym e) (answers b c may limits is i l (firsts i) (named i l) o.g h ms m verdict answered.1 agree call rest out none view keeps at.0 at.1 steps seat))
 
   -- the beginning of a call that is to make a step
@@ -238,7 +240,8 @@ module _ (b : Board) (c : Config) (may : AllowRelation) (limits : IsWithinLimits
       let right : IsRight s o.g item = subst (λ (z : Option Verdict). IsRight s o.g (beginning d m.request (begin_answer z))) here begun.0 in
       let reached : IsReached s (item ∷ o.g) = subst (λ (z : Option Verdict). IsReached s (beginning d m.request (begin_answer z) ∷ o.g)) here begun.1 in
       one-more b c may limits is h h firsts (put i (Resting ms) stages) stages i item o l refl (named i l) right reached
-      (keeps-agreement s k o.g h item (record { changes = λ z. refl; pins = λ before ps. refl; unpins = λ ps. refl }) refl (λ z half. refl) o.agree) o.steps (λ j n. sym (put-else i (Resting ms) stages j n))
+      (keeps-agreement s k o.g h item (record { changes = λ z. refl; pins = λ before ps. refl; unpins = λ ps. refl }) refl (λ z half. refl) o.agree) o.steps (bounded-quiet k o.g item (record { changes = λ z. refl; pins = λ before ps. refl; unpins = λ ps. refl }) o.bounded)
+      (λ j n. sym (put-else i (Resting ms) stages j n))
       (subst (SeatNow c may (item ∷ o.g) d (firsts i)) (sym e) (begins b c may limits is i l (firsts i) (named i l) o.g ms m rest seat))
 
   -- a step of a call that goes on
@@ -249,8 +252,8 @@ module _ (b : Board) (c : Config) (may : AllowRelation) (limits : IsWithinLimits
       let d = dom_at k i in let call = going.call in let at = placed i l ms going.calls in
       let at-old : m.old.seat.view.position ≡ i = ap (λ (z : SeatOf). z.view.position) going.rests.seat ∙ at.0 in
       let seat = subst (SeatNow c may o.g d (firsts i)) (put-here i (Going ms m xs) stages) (o.each i l) in
-      let r = goes-so b c may limits is o.g i l m ms (firsts i) xs x call at-old (named i l) o.reached o.agree seat going.walked.0 (Makes going.step) None going.next refl in
-      one-more b c may limits is x.0 ((i, x.1) ∷ x.0) firsts (put i (Going ms m xs) stages) stages i (stepped d r.step (shown_in x.1) None) o l refl (named i l) r.right r.reached r.agree (refl, r.the, refl, o.steps)
+      let r = goes-so b c may limits is o.g i l m ms (firsts i) xs x call at-old (named i l) o.reached o.agree seat o.bounded going.walked.0 (Makes going.step) None going.next refl in
+      one-more b c may limits is x.0 ((i, x.1) ∷ x.0) firsts (put i (Going ms m xs) stages) stages i (stepped d r.step (shown_in x.1) None) o l refl (named i l) r.right r.reached r.agree (refl, r.the, refl, o.steps) (bounded-step k o.g d r.step (shown_in x.1) None r.inner o.bounded)
       (λ j n. sym (put-else i (Going ms m xs) stages j n))
       (subst (SeatNow c may (stepped d r.step (shown_in x.1) None ∷ o.g) d (firsts i)) (sym e) (going-on b c may limits is i l (firsts i) (named i l) o.g ms m xs x (after xs m.old.seat.view) (after (x ∷ xs) m.old.seat.view) call seat r))
 
@@ -300,18 +303,18 @@ module _ (b : Board) (c : Config) (may : AllowRelation) (limits : IsWithinLimits
       by Starved out a = absurd (no-head x xs (sym made ∙ a.0))
       by (Told verdict) out a =
           let t = a.1 in
-          let r = goes-so b c may limits is o.g i l m ms (firsts i) xs x call at-old (named i l) o.reached o.agree seat (walk-of verdict t).0 (Done verdict) (Some (answer_of verdict)) (done-of verdict t) (answered-so o.g d verdict a.0) in
-          one-more b c may limits is x.0 ((i, x.1) ∷ x.0) firsts (put i (Going ms m xs) stages) stages i (stepped d r.step (shown_in x.1) (Some (answer_of verdict))) o l refl (named i l) r.right r.reached r.agree (refl, r.the, refl, o.steps) same
+          let r = goes-so b c may limits is o.g i l m ms (firsts i) xs x call at-old (named i l) o.reached o.agree seat o.bounded (walk-of verdict t).0 (Done verdict) (Some (answer_of verdict)) (done-of verdict t) (answered-so o.g d verdict a.0) in
+          one-more b c may limits is x.0 ((i, x.1) ∷ x.0) firsts (put i (Going ms m xs) stages) stages i (stepped d r.step (shown_in x.1) (Some (answer_of verdict))) o l refl (named i l) r.right r.reached r.agree (refl, r.the, refl, o.steps) (bounded-step k o.g d r.step (shown_in x.1) (Some (answer_of verdict)) r.inner o.bounded) same
           (subst (SeatNow c may (stepped d r.step (shown_in x.1) (Some (answer_of verdict)) ∷ o.g) d (firsts i)) (sym e)
           (ends-told b c may limits is i l (firsts i) (named i l) o.g ms m xs x v w verdict call seat r made out a.2 at-v at-w (view-of verdict t) steps))
       by (Kept handle p) out a =
           let t = a.1 in
           let given : MayBeGiven o.g d handle p = record { old = m.old.mappings; new = m.new.mappings; agrees = seat.maps; adds = core-adds b c may limits is i l (firsts i) (named i l) m.old.mappings m.new.mappings handle p a.2 } in
-          let r = goes-so b c may limits is o.g i l m ms (firsts i) xs x call at-old (named i l) o.reached o.agree seat (walk-of (KeptPin p) t).0 (Done (KeptPin p)) (Some (Mapped handle)) (done-of (KeptPin p) t) (handle, refl, given) in
+          let r = goes-so b c may limits is o.g i l m ms (firsts i) xs x call at-old (named i l) o.reached o.agree seat o.bounded (walk-of (KeptPin p) t).0 (Done (KeptPin p)) (Some (Mapped handle)) (done-of (KeptPin p) t) (handle, refl, given) in
           let last : path (known_at s o.g d) d seat.call.0.request (values seat.call.0 ++ seen_by s o.g d r.step ∷ []) ≡ Some (Done (KeptPin p)) =
-          on-way b c may limits is o.g i l m ms (firsts i) xs x call at-old (named i l) o.reached o.agree seat (walk-of (KeptPin p) t).0 r.step r.next (values seat.call.0 ++ seen_by s o.g d r.step ∷ [])
+          on-way b c may limits is o.g i l m ms (firsts i) xs x call at-old (named i l) o.reached o.agree seat o.bounded (walk-of (KeptPin p) t).0 r.step r.next (values seat.call.0 ++ seen_by s o.g d r.step ∷ [])
           ∙ ((λ j. way_of c may m (seat.call.3 j ++ r.sees j ∷ [])) ∙ done-of (KeptPin p) t) in
-          one-more b c may limits is x.0 ((i, x.1) ∷ x.0) firsts (put i (Going ms m xs) stages) stages i (stepped d r.step (shown_in x.1) (Some (Mapped handle))) o l refl (named i l) r.right r.reached r.agree (refl, r.the, refl, o.steps) same
+          one-more b c may limits is x.0 ((i, x.1) ∷ x.0) firsts (put i (Going ms m xs) stages) stages i (stepped d r.step (shown_in x.1) (Some (Mapped handle))) o l refl (named i l) r.right r.reached r.agree (refl, r.the, refl, o.steps) (bounded-step k o.g d r.step (shown_in x.1) (Some (Mapped handle)) r.inner o.bounded) same
           (subst (SeatNow c may (stepped d r.step (shown_in x.1) (Some (Mapped handle)) ∷ o.g) d (firsts i)) (sym e)
           (ends-kept b c may limits is i l (firsts i) (named i l) o.g ms m xs x v w handle p call seat r last made out a.2 at-v at-w (view-of (KeptPin p) t) steps))
 

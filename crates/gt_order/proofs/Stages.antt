@@ -29,6 +29,7 @@ use Rattle.gt_live.specs.Domains.{AllowRelation, knowledge}
 use Rattle.gt_live.specs.Walks.{IsWalk, after, shown}
 use Rattle.gt_live.specs.declared.domain.Domain.{Domain}
 use Rattle.gt_order.proofs.Places.{test-apart}
+use Rattle.gt_order.proofs.Stepping.{AreBounded}
 use Rattle.gt_order.specs.Agreeing.{Agree, dom_at}
 use Rattle.gt_order.specs.Ordering.{AreStepsOf, event_in, events_of, item_of_beginning, items_by, items_of_calls, items_of_steps, trace_of, way_of}
 use Rattle.gt_order.specs.Runs.{AreCalls, CallMade, IsAtRest, IsCall, domain_after}
@@ -90,6 +91,7 @@ pub record Ordered (b : Board) (c : Config) (may : AllowRelation) (h : History) 
   pub agree : Agree (setting_of c may) b.layout g h
   pub legal : Legal (setting_of c may) (events_of g) (trace_of g)
   pub steps : AreStepsOf b.layout g h
+  pub bounded : AreBounded b.layout g
   pub each : (i : ℕ) → i < b.layout.domains → SeatNow c may g (dom_at b.layout i) (firsts i) (stages i)
 
 -- a domain that does nothing is where it was
@@ -136,13 +138,14 @@ module _ (b : Board) (c : Config) (may : AllowRelation) (limits : IsWithinLimits
 
   -- one item more, of one domain
   pub one-more : (h' h : History) (firsts : ℕ → Domain) (old new : ℕ → Stage) (i : ℕ) (item : Item) (o : Ordered b c may h' firsts old) → i < k.domains → item.actor ≡ dom_at k i → domain_of c.domains.items (dom_at k i) ≢ None → IsRight s o.g item → IsReached s (item ∷ o.g)
-      → Agree s k (item ∷ o.g) h → AreStepsOf k (item ∷ o.g) h → ((j : ℕ) → i ≢ j → new j ≡ old j) → SeatNow c may (item ∷ o.g) (dom_at k i) (firsts i) (new i) → Ordered b c may h firsts new
-  one-more h' h firsts old new i item o inside own named right reached agree steps same seat = record {
+      → Agree s k (item ∷ o.g) h → AreStepsOf k (item ∷ o.g) h → AreBounded k (item ∷ o.g) → ((j : ℕ) → i ≢ j → new j ≡ old j) → SeatNow c may (item ∷ o.g) (dom_at k i) (firsts i) (new i) → Ordered b c may h firsts new
+  one-more h' h firsts old new i item o inside own named right reached agree steps bounded same seat = record {
     g = item ∷ o.g;
     reached = reached;
     agree = agree;
     legal = legal-longer o.g item (subst (λ (z : DomId). domain_of c.domains.items z ≢ None) (sym own) named) right o.legal;
     steps = steps;
+    bounded = bounded;
     each = λ j l. elim (cases_eq i j) [
       | inl e ↦ subst (λ (z : ℕ). SeatNow c may (item ∷ o.g) (dom_at k z) (firsts z) (new z)) e seat
       | inr n ↦ subst (SeatNow c may (item ∷ o.g) (dom_at k j) (firsts j)) (sym (same j n)) (other-seat o.g item i j (firsts j) (old j) own inside l n (o.each j l))

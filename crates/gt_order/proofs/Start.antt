@@ -1,5 +1,7 @@
 -- Before the first step of all: no items, and no history.
 use Rattle.std.proofs.Common.{◌≡◌, ◌≢◌, ℕ, zero, suc, ◌+◌, ◌*◌, ◌/◌, ◌%◌, ◌<◌, Bool, true, false, cond, ◌==◌, List, [], ◌∷◌, length, map, get_or, Option, Some, None, sym, refl, ap, ◌∙◌, subst, arith, eq-eqb, ne_eqb}
+use Rattle.std.proofs.lemmas.List.Elements.{All-nil}
+use Rattle.gt_core.specs.History.{Pin}
 use Rattle.gt_types.specs.Config.{IsWithinLimits}
 use Rattle.gt_types.specs.Names.{domain_of}
 use Rattle.gt_types.specs.declared.DomId.{DomId}
@@ -29,7 +31,7 @@ use Rattle.gt_live.specs.declared.domain.Domain.{Domain}
 use Rattle.gt_order.proofs.Resting.{rest-known}
 use Rattle.gt_order.proofs.Stages.{Ordered, SeatNow, Stage}
 use Rattle.gt_order.proofs.Stages.Stage.{Resting}
-use Rattle.gt_order.proofs.Stepping.{state-there}
+use Rattle.gt_order.proofs.Stepping.{AreBounded, IsBounded, state-there}
 use Rattle.gt_order.specs.Agreeing.{Agree, dom_at}
 
 -- the first words
@@ -110,6 +112,10 @@ module _ (b : Board) (c : Config) (may : AllowRelation) (limits : IsWithinLimits
   unfolding open_call
   none-open d = refl
 
+  none-bounded : AreBounded k []
+  unfolding live
+  none-bounded = All-nil (λ (q : Pin). IsBounded k q.held)
+
   pub ordered-first : (firsts : ℕ → Domain) (stages : ℕ → Stage) → ((i : ℕ) → i < k.domains → IsNewDomain b c may i (firsts i)) → ((i : ℕ) → i < k.domains → domain_of c.domains.items (dom_at k i) ≢ None) → ((i : ℕ) → i < k.domains → stages i ≡ Resting [])
       → Ordered b c may [] firsts stages
   ordered-first firsts stages new named rest = record {
@@ -118,6 +124,7 @@ module _ (b : Board) (c : Config) (may : AllowRelation) (limits : IsWithinLimits
     agree = agree-first;
     legal = tt;
     steps = refl;
+    bounded = none-bounded;
     each = λ i l. subst (SeatNow c may [] (dom_at k i) (firsts i)) (sym (rest i l)) (first-seat i l);
   }
     where

@@ -1,7 +1,17 @@
 -- A step of an open call keeps items and history in agreement.
-use Rattle.gt_core.proofs.Words.{◌≡◌, ◌≢◌, ◌<◌, ◌≤◌, inl, inr, ℕ, refl, Bool, true, false, not, List, ◌∷◌, Option, Some, None, sym, ap, ◌∙◌, subst, reverse, same_Some, none-some, arith, DomId, GrantRef, domain_of, Entry as EntryOf, Change, Publish, ToInvalid, ToWithdrawn, ToReadOnly, ToWritable, FirstHalf, SecondHalf, Held, Holder, ByMapping, ByLeg, Asked, Grant, Seen, Nothing, Word, Taken, Missed, Step, LookHeader, LookControl, LookBody, PinStep, Unpin, StoreBody, StoreHeader, Exchange, ReadBytes, WriteBytes, CopyBytes, Makes, Done, State, state_of, Phase, Storing, StoringSecond, Exchanging, Looking, Changing, Walking, Accessing, Asking, Last, Ending, path, known_at, action_at, Setting, Underway, HasShown, PhaseStands, Rests, pins_at, DomainConfig, values, open_call, DomainsStand, Agrees, CallAgrees, OpenAgrees, StateAgrees, CoreStands, IsClean, IsRight, IsSafe, begun, entry_at, table_at, reads_at, writes_at, next_to_give, size_of, TABLE_ENTRIES, CoreState}
+use Rattle.gt_core.proofs.Words.{live, without, ◌++◌, []}
+use Rattle.std.proofs.lemmas.List.{length-reverse, reverse-append}
+use Rattle.std.proofs.lemmas.List.Elements.{All-append, All-cons, All-head, All-nil, All-pop, All-push, All-tail}
+use Rattle.gt_core.proofs.Steps.Observers.{all-without, exchanged-live, new_pin, pinned-live, unpinned-live}
+use Rattle.gt_core.specs.declared.trace.Item.{Item}
+use Rattle.std.specs.Prelude.{All, cond, length, ◌+◌, ◌==◌}
+use Rattle.gt_calls.specs.Resting.{RestsOnLast}
+use Rattle.gt_core.specs.History.{Pin, by_leg, legs_at, gather}
+use Rattle.gt_core.specs.Standing.{numbered}
+use Rattle.gt_core.proofs.Steps.Unpin.{Loses, loses-leg}
+use Rattle.gt_core.proofs.Words.{◌≡◌, ◌≢◌, ◌<◌, ◌≤◌, ℕ, refl, Bool, true, false, not, List, ◌∷◌, Option, Some, None, sym, ap, ◌∙◌, subst, reverse, same_Some, none-some, arith, DomId, GrantRef, domain_of, Entry as EntryOf, Change, Publish, ToInvalid, ToWithdrawn, ToReadOnly, ToWritable, FirstHalf, SecondHalf, Held, Holder, ByMapping, ByLeg, Asked, Grant, Seen, Nothing, Word, Taken, Missed, Step, LookHeader, LookControl, LookBody, PinStep, Unpin, StoreBody, StoreHeader, Exchange, ReadBytes, WriteBytes, CopyBytes, Makes, State, state_of, Phase, path, known_at, Setting, Underway, Rests, pins_at, DomainConfig, values, open_call, DomainsStand, Agrees, CallAgrees, OpenAgrees, StateAgrees, CoreStands, IsClean, IsRight, IsSafe, begun, entry_at, table_at, reads_at, writes_at, size_of, TABLE_ENTRIES, CoreState}
 use Rattle.std.specs.Prelude.{IsSome}
-use Rattle.gt_core.proofs.Phases.{IsHere, by-leg, by-quiet}
+use Rattle.gt_core.proofs.Phases.{IsHere}
 use Rattle.gt_core.proofs.EachStep.{each-step}
 use Rattle.gt_core.proofs.Entries.{of-safe}
 use Rattle.gt_core.proofs.Steps.Observers.{stepped, pins, unpins, exchanged}
@@ -28,10 +38,9 @@ use Rattle.gt_words.specs.declared.view.HeaderStep.TheVariants as header
 use Rattle.gt_words.specs.declared.view.SeatStep.{SeatStep}
 use Rattle.gt_words.specs.declared.view.SeatStep.TheVariants.{Entry, Header}
 use Rattle.gt_live.specs.Domains.{AllowRelation}
-use Rattle.gt_live.specs.Ending.{WaitsForNobody}
 use Rattle.gt_live.specs.Walks.{shown_in}
 use Rattle.gt_order.proofs.Counting.{IsIdleFor, IsTurned, changes-entry, gives-back, takes-pin}
-use Rattle.gt_order.proofs.Kept.{quiet, stores-body, stores-header}
+use Rattle.gt_order.proofs.Kept.{KeepsWords, live-kept, quiet, stores-body, stores-header}
 use Rattle.gt_order.specs.Agreeing.{Agree, IsThe, IsWithin, StoresChange, dom_at, last_at}
 use Rattle.gt_order.specs.Laws.{StepsKeepAgreement}
 
@@ -95,26 +104,45 @@ has-domain c may k g xs d is st some = subst (λ (z : Layout). HasDomain z d) (s
     by None e = absurd (named (st.each d) e)
     by (Some x) e = refl
 
--- a call without accesses gives no pin of its own back
-pub no-leg : (s : Setting) (g : Items) (xs : List State) (d : DomId) (r : Asked) (vs : List Seen) (so_far : List (Step × Seen)) (phase : Phase) (step : Step) → IsHere s g xs d r vs so_far phase step → WaitsForNobody r
-    → (q : Held) (n : ℕ) → step ≡ Unpin q (ByLeg n) → ⊥
-no-leg s g xs d r vs so_far phase step i waits q n is = by phase i.acts i.at.has_shown i.place
-  where
-    other : (z : Step) → Makes z ≡ Makes step → (z ≡ Unpin q (ByLeg n) → ⊥) → ⊥
-    other z e f = f (let same : z ≡ step = cc in same ∙ is)
+-- a pin of the call's own that is given back
 
-    by : (p : Phase) → action_at d p ≡ Makes step → HasShown (known_at s g d) (path (known_at s g d) d r) d r vs p → PhaseStands s g d r so_far p → ⊥
-    by (Storing gref entry) e a b = other _ e (λ f. cc)
-    by (StoringSecond gref entry) e a b = other _ e (λ f. cc)
-    by (Exchanging gref looked change) e a b = other _ e (λ f. cc)
-    by (Looking gref change more) e a b = other _ e (λ f. cc)
-    by (Changing gref change more looked) e a b = other _ e (λ f. cc)
-    by (Walking aim l at) e a b = other _ e (by-leg (λ (z : Step). z ≡ Unpin q (ByLeg n) → ⊥) (λ dom f. cc) (λ dom gref f. cc) (λ dom gref half f. cc) (λ p f. cc) l at)
-    by (Accessing c source dest) e a b = other _ e (λ f. cc)
-    by (Asking dom question) e a b = other _ e (λ f. cc)
-    by (Last last verdict) e a b = other _ e (by-quiet (λ (z : Step). z ≡ Unpin q (ByLeg n) → ⊥) (λ p handle f. cc) (λ gref half word f. cc) (λ version frames f. cc) (λ dom frame off len. (λ f. cc, λ f. cc)) last a.0)
-    by (Ending pins verdict) e a (inl none) = let f : Done verdict ≡ Makes step = sym (ap (λ (l : List Held). next_to_give l verdict) none) ∙ e in cc
-    by (Ending pins verdict) e a (inr copy) = absurd (subst WaitsForNobody copy.1 waits)
+-- the pins of the call, with the last one at the end
+legs-held : (s : Setting) (g : Items) (xs : List State) (d : DomId) (r : Asked) (vs : List Seen) (so_far : List (Step × Seen)) (phase : Phase) (step : Step) (p : Held) (n : ℕ) → IsHere s g xs d r vs so_far phase step → RestsOnLast (pins_at phase) p n
+    → (qs : List Held) × (legs_at g d.0 ≡ numbered 0 (qs ++ p ∷ [])) × (length qs ≡ n)
+legs-held s g xs d r vs so_far phase step p n i rests = (
+  reverse rests.others,
+  i.held ∙ (ap (λ (l : List Held). numbered 0 (reverse l)) rests.held ∙ ap (numbered 0) (reverse-append (p ∷ []) rests.others)),
+  length-reverse rests.others ∙ sym rests.place_is,
+)
+
+pub leg-lost : (s : Setting) (g : Items) (xs : List State) (d : DomId) (r : Asked) (vs : List Seen) (so_far : List (Step × Seen)) (phase : Phase) (step : Step) (p : Held) (n : ℕ) → IsHere s g xs d r vs so_far phase step → RestsOnLast (pins_at phase) p n
+    → Loses p (live g) (without d.0 (ByLeg n) (live g))
+leg-lost s g xs d r vs so_far phase step p n i rests = let l = legs-held s g xs d r vs so_far phase step p n i rests in
+    subst (λ (z : ℕ). Loses p (live g) (without d.0 (ByLeg z) (live g))) l.2 (loses-leg g d l.0 p l.1)
+
+-- what holds of all pins holds of it
+legs-all : (P : Held → Type 0) (d : ℕ) (ps : List Pin) → All (λ (q : Pin). P q.held) ps → All (λ (x : ℕ × Held). P x.1) (gather by_leg d ps)
+unfolding gather
+legs-all P d [] a = All-nil (λ (x : ℕ × Held). P x.1)
+legs-all P d (p ∷ ps) a =
+    All-append (λ (x : ℕ × Held). P x.1) (cond (p.actor == d) (by_leg p.holder p.held) []) (gather by_leg d ps) (one (p.actor == d) p.holder) (legs-all P d ps (All-tail (λ (q : Pin). P q.held) p ps a))
+  where
+    one : (b : Bool) (x : Holder) → All (λ (x : ℕ × Held). P x.1) (cond b (by_leg x p.held) [])
+    one true (ByMapping handle) = All-nil (λ (x : ℕ × Held). P x.1)
+    one true (ByLeg n) = All-cons (λ (x : ℕ × Held). P x.1) (n, p.held) [] (All-head (λ (q : Pin). P q.held) p ps a) (All-nil (λ (x : ℕ × Held). P x.1))
+    one false x = All-nil (λ (x : ℕ × Held). P x.1)
+
+numbered-last : (m : ℕ) (qs : List Held) (p : Held) → numbered m (qs ++ p ∷ []) ≡ numbered m qs ++ (m + length qs, p) ∷ []
+numbered-last m [] p = let e : m ≡ m + 0 = omega arith in λ j. (e j, p) ∷ []
+numbered-last m (q ∷ qs) p = let e : m + 1 + length qs ≡ m + length (q ∷ qs) = omega arith in
+    ap (λ (z : List (ℕ × Held)). (m, q) ∷ z) (numbered-last (m + 1) qs p ∙ (λ j. numbered (m + 1) qs ++ (e j, p) ∷ []))
+
+pub leg-all : (P : Held → Type 0) (s : Setting) (g : Items) (xs : List State) (d : DomId) (r : Asked) (vs : List Seen) (so_far : List (Step × Seen)) (phase : Phase) (step : Step) (p : Held) (n : ℕ) → IsHere s g xs d r vs so_far phase step → RestsOnLast (pins_at phase) p n
+    → All (λ (q : Pin). P q.held) (live g) → P p
+leg-all P s g xs d r vs so_far phase step p n i rests a =
+    let l = legs-held s g xs d r vs so_far phase step p n i rests in
+    (All-pop (λ (x : ℕ × Held). P x.1) (numbered 0 l.0 ++ (0 + length l.0, p) ∷ []) (numbered 0 l.0) (Some (0 + length l.0, p)) refl
+    (subst (All (λ (x : ℕ × Held). P x.1)) (l.1 ∙ numbered-last 0 l.0 p) (legs-all P d.0 (live g) a))).1
 
 pub within : (c : Config) (may : AllowRelation) (k : Layout) (g : Items) (d : DomId) (cl : Underway) (step : Step) → k ≡ layout_of c → StandsHere (setting_of c may) g d cl step → IsOnWords step
     → ((p : Held) (holder : Holder) → step ≡ Unpin p holder → HasDomain k p.dom × (p.gref.0 < TABLE_ENTRIES)) → IsWithin k step
@@ -150,7 +178,7 @@ within c may k g d cl step is here quiet unpinned = by step refl (each-step s g 
 -- the step and its item
 
 module _ (c : Config) (may : AllowRelation) (k : Layout) (g : Items) (h : History) (i : ℕ) (is : k ≡ layout_of c) (limits : IsWithinLimits c) (inside : i < k.domains) (agree : Agree (setting_of c may) k g h) (answer : Option Answer)
-    (cl : Underway) (step : Step) (here : StandsHere (setting_of c may) g (dom_at k i) cl step) (waits : WaitsForNobody cl.request) (right : (seen : Seen) → IsRight (setting_of c may) g (stepped (dom_at k i) step seen answer) → IsSafe (setting_of c may) g (stepped (dom_at k i) step seen answer)) where
+    (cl : Underway) (step : Step) (here : StandsHere (setting_of c may) g (dom_at k i) cl step) (right : (seen : Seen) → IsRight (setting_of c may) g (stepped (dom_at k i) step seen answer) → IsSafe (setting_of c may) g (stepped (dom_at k i) step seen answer)) where
   abbrev s : Setting
   s = setting_of c may
 
@@ -194,7 +222,9 @@ module _ (c : Config) (may : AllowRelation) (k : Layout) (g : Items) (h : Histor
   goes (Unpin p (ByMapping handle)) (Entry t y (Unpinned b u)) e r a w st says ok =
       subst (λ (z : SeatStep). Agree s k (unpins d p (ByMapping handle) Nothing answer ∷ g) ((i, z) ∷ h)) (λ j. Entry t (sym a.1 j) (Unpinned (sym a.2 j) u))
       (gives-back c s k g h i is limits agree inside p (ByMapping handle) Nothing answer t u w.0 a.0 w.1 (loses-mapping g d handle p r.1.1) (here.st.domains.words (dom_at k t).0 p.gref.0 w.1))
-  goes (Unpin p (ByLeg n)) (Entry t y (Unpinned b u)) e r a w st says ok = absurd (no-leg s g here.core.domains d cl.request (values cl) (reverse cl.steps) here.phase step here.here waits p n e)
+  goes (Unpin p (ByLeg n)) (Entry t y (Unpinned b u)) e r a w st says ok =
+      subst (λ (z : SeatStep). Agree s k (unpins d p (ByLeg n) Nothing answer ∷ g) ((i, z) ∷ h)) (λ j. Entry t (sym a.1 j) (Unpinned (sym a.2 j) u))
+      (gives-back c s k g h i is limits agree inside p (ByLeg n) Nothing answer t u w.0 a.0 w.1 (leg-lost s g here.core.domains d cl.request (values cl) (reverse cl.steps) here.phase step p n here.here r.1) (here.st.domains.words (dom_at k t).0 p.gref.0 w.1))
   goes (StoreBody q half n) (Entry t y (StoredBody b m)) e r a w st says ok =
       subst (λ (z : SeatStep). Agree s k (stepped d (StoreBody q half n) Nothing answer ∷ g) ((i, z) ∷ h)) (λ j. Entry (sym a.0 j) (sym a.1 j) (StoredBody (sym a.2 j) (sym a.3 j))) (stores-body c s k g h i is limits agree inside q half n Nothing answer w)
   goes (StoreHeader version frames) (Header t (header.Stored n)) e r a w st says ok =
@@ -210,6 +240,35 @@ module _ (c : Config) (may : AllowRelation) (k : Layout) (g : Items) (h : Histor
   goes z x e r a w st says ok = absurd a
 
 pub step-kept : StepsKeepAgreement
-step-kept c may k g h i cl step x answer is limits inside reached agree named call waits next within the stores says right =
+step-kept c may k g h i cl step x answer is limits inside reached agree named call next within the stores says right =
     let s = setting_of c may in let d = dom_at k i in let here = stands-here s g d cl step reached named call next in
-    goes c may k g h i is limits inside agree answer cl step here waits (λ seen ok. of-safe s g (stepped d step seen answer) step seen (open_call g d.0) ok) step x refl here.here.rests the within stores says right
+    goes c may k g h i is limits inside agree answer cl step here (λ seen ok. of-safe s g (stepped d step seen answer) step seen (open_call g d.0) ok) step x refl here.here.rests the within stores says right
+
+-- the pins are on entries of the run
+
+abbrev pub IsBounded : Layout → Held → Type 0
+IsBounded k p = HasDomain k p.dom × (p.gref.0 < TABLE_ENTRIES)
+
+abbrev pub AreBounded : Layout → Items → Type 0
+AreBounded k g = All (λ (q : Pin). IsBounded k q.held) (live g)
+
+pub bounded-same : (k : Layout) (g new : Items) → live new ≡ live g → AreBounded k g → AreBounded k new
+bounded-same k g new e a = subst (All (λ (q : Pin). IsBounded k q.held)) (sym e) a
+
+pub bounded-quiet : (k : Layout) (g : Items) (item : Item) → KeepsWords item → AreBounded k g → AreBounded k (item ∷ g)
+bounded-quiet k g item q a = bounded-same k g (item ∷ g) (live-kept item g q) a
+
+pub bounded-step : (k : Layout) (g : Items) (d : DomId) (step : Step) (seen : Seen) (answer : Option Answer) → IsWithin k step → AreBounded k g → AreBounded k (stepped d step seen answer ∷ g)
+bounded-step k g d (LookHeader dom) seen answer w a = bounded-quiet k g _ (record { changes = λ z. refl; pins = λ before ps. refl; unpins = λ ps. refl }) a
+bounded-step k g d (LookControl dom gref) seen answer w a = bounded-quiet k g _ (record { changes = λ z. refl; pins = λ before ps. refl; unpins = λ ps. refl }) a
+bounded-step k g d (LookBody dom gref half) seen answer w a = bounded-quiet k g _ (record { changes = λ z. refl; pins = λ before ps. refl; unpins = λ ps. refl }) a
+bounded-step k g d (PinStep p) Taken answer w a = subst (All (λ (q : Pin). IsBounded k q.held)) (sym (pinned-live g d p answer)) (All-push (λ (q : Pin). IsBounded k q.held) (live g) (new_pin g d p answer) a w)
+bounded-step k g d (PinStep p) seen answer w a = bounded-quiet k g _ (record { changes = λ z. refl; pins = λ before ps. refl; unpins = λ ps. refl }) a
+bounded-step k g d (Unpin p holder) seen answer w a = subst (All (λ (q : Pin). IsBounded k q.held)) (sym (unpinned-live g d p holder seen answer)) (all-without (λ (q : Pin). IsBounded k q.held) d.0 holder (live g) a)
+bounded-step k g d (StoreBody gref half word) seen answer w a = bounded-quiet k g _ (record { changes = λ z. refl; pins = λ before ps. refl; unpins = λ ps. refl }) a
+bounded-step k g d (StoreHeader version frames) seen answer w a = bounded-quiet k g _ (record { changes = λ z. refl; pins = λ before ps. refl; unpins = λ ps. refl }) a
+bounded-step k g d (Exchange gref looked change) Taken answer w a = bounded-same k g _ (exchanged-live g d gref looked change answer) a
+bounded-step k g d (Exchange gref looked change) seen answer w a = bounded-quiet k g _ (record { changes = λ z. refl; pins = λ before ps. refl; unpins = λ ps. refl }) a
+bounded-step k g d (ReadBytes dom frame off len) seen answer w a = absurd w
+bounded-step k g d (WriteBytes dom frame off len) seen answer w a = absurd w
+bounded-step k g d (CopyBytes from to len) seen answer w a = absurd w

@@ -1,5 +1,5 @@
 -- The contracts of the calls of a domain, clause by clause, say that each is a call of a run.
-use Rattle.std.specs.Prelude.{◌≡◌, ◌≢◌, ℕ, List, Result, Ok, Err, OnOk, OnErr}
+use Rattle.std.specs.Prelude.{◌≡◌, ℕ, List, Result, Ok, Err, OnOk, OnErr}
 use Rattle.gt_types.specs.Denial.{denial_of}
 use Rattle.gt_types.specs.declared.DomId.{DomId}
 use Rattle.gt_types.specs.declared.GrantRef.{GrantRef}
@@ -16,11 +16,11 @@ use Rattle.gt_calls.specs.declared.held.Held.{Held}
 use Rattle.gt_calls.specs.declared.request.Request.{Request}
 use Rattle.gt_calls.specs.declared.request.Request.TheVariants as requests
 use Rattle.gt_live.specs.Domains.{AllowRelation, Answered, IsOf, KeepsPinned, MapAnswered, verdict_of}
-use Rattle.gt_live.specs.Ending.{IsOfMapping, WaitsForNobody}
+use Rattle.gt_live.specs.Ending.{IsOfMapping}
 use Rattle.gt_live.specs.Mappings.{Removes}
 use Rattle.gt_live.specs.declared.domain.Domain.{Domain}
 use Rattle.gt_live.specs.declared.monitor.Monitor.{Monitor}
-use Rattle.gt_order.specs.Runs.{CallMade, FitsTypes, IsCall, KeepsNoPin, Outcome}
+use Rattle.gt_order.specs.Runs.{FitsTypes, IsCall, KeepsNoPin, Outcome}
 use Rattle.gt_order.specs.Runs.Outcome.{Told, Kept, Starved}
 
 -- the domain d of the monitor m asked this, with these steps and this outcome, after which it is e: a call of a run
@@ -36,10 +36,10 @@ pub record StaysOf {P : Type 0} (may : P → AllowRelation) (m : Monitor P) (d e
   pub afterwards : IsOf may m e
   pub seat : IsSameSeat d.seat e.seat
 
--- the calls that wait for nobody and neither map nor unmap
+-- the calls that neither map nor unmap, which their path answers: so those with an access only where they are refused
 abbrev pub PlainCallsAreMade : {P : Type 0} → (P → AllowRelation) → Monitor P → Type 0
 PlainCallsAreMade may m =
-    (d e : Domain) (request : Request) (verdict : Verdict) → StaysOf may m d e → WaitsForNobody (asked request)
+    (d e : Domain) (request : Request) (verdict : Verdict) → StaysOf may m d e
     → (IsOfMapping (asked request) → ⊥) → FitsTypes request → KeepsNoPin verdict → Answered may m d request verdict e
     → KeepsPinned d e → (steps : List Moment) × WasMade may m request (Told verdict) steps d e
 

@@ -20,7 +20,6 @@ use Rattle.gt_core.specs.declared.trace.Answer.{Answer}
 use Rattle.gt_core.specs.declared.trace.Happened.TheVariants.{Stepped}
 use Rattle.gt_core.specs.declared.trace.Item.{Item}
 use Rattle.gt_live.specs.Domains.{AllowRelation}
-use Rattle.gt_live.specs.Ending.{WaitsForNobody}
 use Rattle.gt_live.specs.Walks.{shown_in}
 use Rattle.gt_order.specs.Agreeing.{Agree, IsThe, IsWithin, StoresChange, dom_at}
 use Rattle.gt_order.specs.Ordering.{IsLegalOrder}
@@ -41,7 +40,7 @@ StepsKeepAgreement =
     → let s = setting_of c may in let d = dom_at k i in
     let item : Item = record { actor = d; happened = Stepped step (shown_in x); answer = answer } in
     IsReached s g → Agree s k g h → domain_of s.domains d ≢ None → open_call g d.0 ≡ Some call
-    → WaitsForNobody call.request → path (known_at s g d) d call.request (values call) ≡ Some (Makes step)
+    → path (known_at s g d) d call.request (values call) ≡ Some (Makes step)
     → IsWithin k step → IsThe k i step x → StoresChange k h x → Says x (word_after k h (place_of x))
     → IsRight s g item → Agree s k (item ∷ g) ((i, x) ∷ h)
 

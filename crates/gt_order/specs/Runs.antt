@@ -21,7 +21,7 @@ use Rattle.gt_calls.specs.declared.request.Asked.{Asked}
 use Rattle.gt_calls.specs.declared.request.Asked.TheVariants as asks
 use Rattle.gt_calls.specs.declared.request.Request.{Request}
 use Rattle.gt_live.specs.Domains.{AllowRelation, IsDomainOf, knowledge}
-use Rattle.gt_live.specs.Ending.{IsMap, WaitsForNobody}
+use Rattle.gt_live.specs.Ending.{IsMap}
 use Rattle.gt_live.specs.Mappings.{Adds, KeepsMappings, Removes}
 use Rattle.gt_live.specs.Starting.{IsNewDomain}
 use Rattle.gt_live.specs.Walks.{Called}
@@ -79,12 +79,11 @@ AreBytesOf (Some b) = All (λ byte. byte < 256) b.1
 abbrev pub FitsTypes : Request → Type 0
 FitsTypes request = FitsAsked (asked request) × AreBytesOf (bytes_of request)
 
--- The call is one that waits for nobody, and was made as the contract of its function of Domain says
+-- The call was made without an access to bytes, as the contract of its function of Domain says
 pub record IsCall (b : Board) (c : Config) (may : AllowRelation) (m : CallMade) : Type 0 where
   pub before : IsDomainOf b c may m.old
   pub afterwards : IsDomainOf b c may m.new
   pub seat : IsSameSeat m.old.seat m.new.seat
-  pub waits : WaitsForNobody (asked m.request)
   pub fits : FitsTypes m.request
   pub answered : IsAnswered b c may m.request m.outcome m.steps m.old m.new
 

@@ -4,8 +4,8 @@
 //! law. A run is the one order of all steps of all seats (`gt_words`), and the calls that each domain made, as their
 //! contracts tell them (`gt_live`).
 //!
-//! What holds: for each run whose calls wait for nobody and are finished there is one list of the core's items that is
-//! legal (`gt_core`), whose steps are those of the run in their order, and in which each call is answered as its domain
+//! What holds: for each run whose calls make no access to bytes and are finished there is one list of the core's items
+//! that is legal (`gt_core`), whose steps are those of the run in their order, and in which each call is answered as its domain
 //! answered it ([`every_run_has_a_legal_order`]). The contracts of a domain's calls make them calls of a run
 //! ([`calls_of_domains_are_made`]).
 //!
