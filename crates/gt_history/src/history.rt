@@ -16,7 +16,7 @@ impl<A, B> Model for History<A, B> {
 }
 
 // It owns nothing.
-unsafe impl<A: Send, B: Send> Send for History<A, B> {}
+unsafe impl<A, B> Send for History<A, B> {}
 
 impl<A, B> History<A, B> {
     /// A history without a pair.
