@@ -20,7 +20,9 @@ cd "$top"
 
 say() { printf '%s\n' "$*"; }
 
-has_sanitizer() { echo 'int main(void) { return 0; }' | $cc "-fsanitize=$1" -x c - -o "$work/tried" 2>/dev/null && "$work/tried"; }
+has_sanitizer() {
+  echo 'int main(void) { return 0; }' | $cc "-fsanitize=$1" -x c - -o "$work/tried" 2>/dev/null && "$work/tried"
+}
 
 # Compiles a program of the library: compile OUT FLAGS.. SOURCE..
 compile() { $cc -std=c99 -Wall -Wextra -Wpedantic -Werror "-I$work" -pthread -o "$@" "$work/libgthost.a"; }
@@ -29,7 +31,8 @@ compile() { $cc -std=c99 -Wall -Wextra -Wpedantic -Werror "-I$work" -pthread -o 
 
 exports=(crates/gt_c/src/*.rt crates/gt_seat/src/answer.rt crates/gt_seat/src/record.rt)
 has_xen=yes
-echo '#include <xen/io/blkif.h>' | $cc -fsyntax-only -x c - 2>/dev/null || has_xen=
+printf '#include <xen/%s.h>\n' xen grant_table io/ring io/blkif >"$work/xen.c"
+$cc -include stdint.h -fsyntax-only "$work/xen.c" 2>/dev/null || has_xen=
 if [ "$has_xen" ]; then exports+=(crates/gt_types/src/denial.rt); fi
 awk -f bench/c/declared.awk "${exports[@]}" >"$work/declared.c"
 $cc -std=c11 -Wall -Wextra -Wpedantic -Werror "-I$work" -c "$work/declared.c" -o "$work/declared.o"
@@ -37,7 +40,9 @@ say "the header declares what is exported: $(grep -c SAME "$work/declared.c") si
 
 printf '#include "gthost.h"\nint main(void) { return 0; }\n' | tee "$work/only.c" >"$work/only.cpp"
 $cc -std=c99 -Wall -Wextra -Wpedantic -Werror "-I$work" -c "$work/only.c" -o "$work/only.o"
-if command -v c++ >/dev/null; then c++ -Wall -Wextra -Wpedantic -Werror "-I$work" -c "$work/only.cpp" -o "$work/only.o"; fi
+if command -v c++ >/dev/null; then
+  c++ -Wall -Wextra -Wpedantic -Werror "-I$work" -c "$work/only.cpp" -o "$work/only.o"
+fi
 
 compile "$work/smoke" -O2 bench/c/smoke.c
 "$work/smoke"
@@ -47,7 +52,7 @@ if has_sanitizer address; then
 fi
 
 compile "$work/replay" -O2 bench/c/replay.c
-./gthost --version >/dev/null
+if [ "$lists" -gt 0 ]; then ./gthost play examples/first.gt >/dev/null; fi # builds the program, where that is not done
 program=crates/gthost/out/gthost
 differ=0
 for ((seed = 1; seed <= lists; seed++)); do
@@ -62,12 +67,14 @@ for ((seed = 1; seed <= lists; seed++)); do
   fi
 done
 if [ "$differ" -gt 0 ]; then exit 1; fi
-if [ "$lists" -gt 0 ]; then say "$lists lists of calls are answered as gthost play answers them, with their audit lines"; fi
+if [ "$lists" -gt 0 ]; then say "$lists lists of calls: answered as gthost play answers them, and audited so"; fi
 
 compile "$work/loads" -O2 bench/c/loads.c
 if has_sanitizer thread; then
   compile "$work/loads_thread" -g -fsanitize=thread bench/c/loads.c
-  for load in apart adjacent grants; do "$work/loads_thread" "$load" 4 2000 on | sed 's/$/, ThreadSanitizer/'; done
+  for load in apart adjacent grants; do
+    "$work/loads_thread" "$load" 4 2000 on | sed 's/$/, ThreadSanitizer/'
+  done
 fi
 
 if [ "$has_xen" ]; then
