@@ -40,7 +40,7 @@ static bool one_in(uint32_t n) { return below(n) == 0; }
 static int domains;
 static int table_version[DOMAINS];
 
-static uint32_t some_gref(void) { return one_in(12) ? 500 + below(9000) : below(5); }
+static uint32_t some_gref(void) { return one_in(25) ? 500 + below(9000) : below(4); }
 
 static const char *some_domain(void)
 {
@@ -54,11 +54,11 @@ static const char *some_domain(void)
 
 static const char *mode(void) { return one_in(3) ? "ro" : "rw"; }
 
-static uint32_t some_frame(void) { return one_in(10) ? below(100) : below(8); }
+static uint32_t some_frame(void) { return one_in(20) ? below(100) : below(4); }
 
-static uint32_t some_offset(void) { return one_in(6) ? below(65536) : below(4000); }
+static uint32_t some_offset(void) { return one_in(16) ? below(65536) : below(200); }
 
-static uint32_t some_length(void) { return one_in(6) ? below(65536) : below(200); }
+static uint32_t some_length(void) { return one_in(16) ? below(65536) : below(200); }
 
 static void make_end(void)
 {
@@ -103,9 +103,9 @@ static void make_grant(void)
     }
 }
 
-static void make_call(int dom)
+static void make_call(int dom, bool is_first)
 {
-    switch (below(16)) {
+    switch (is_first ? 0 : below(16)) {
     case 0: case 1: case 2:
         make_grant();
         break;
@@ -161,7 +161,7 @@ static void make_policy(void)
         for (int j = 0; j < TYPES; j++) {
             printf("allow %s %s:grant {", TYPE_NAMES[i], TYPE_NAMES[j]);
             for (int p = 0; p < 7; p++) {
-                if (!one_in(6)) {
+                if (!one_in(12)) {
                     printf(" %s", PERMS[p]);
                 }
             }
@@ -178,14 +178,14 @@ static void make(uint64_t seed)
     make_policy();
     printf("wear %u\n", one_in(4) ? 1048575 - below(3) : below(3));
     for (int i = 0; i < domains; i++) {
-        table_version[i] = 1 + (int)below(2);
-        printf("domain %d u:r:%s %u %u %d\n", i + 1, TYPE_NAMES[below(TYPES)], 1 + below(9), 1 + below(2),
+        table_version[i] = one_in(3) ? 1 : 2;
+        printf("domain %d u:r:%s %u %u %d\n", i + 1, TYPE_NAMES[below(TYPES)], 3 + below(6), 1 + below(2),
                table_version[i]);
     }
     for (int i = 0, calls = 40 + (int)below(80); i < calls; i++) {
         int dom = (int)below((uint32_t)domains);
         printf("do %d ", dom + 1);
-        make_call(dom);
+        make_call(dom, i < 12);
     }
 }
 
