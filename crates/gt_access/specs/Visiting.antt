@@ -10,14 +10,14 @@ use Rattle.gt_access.specs.declared.by.Refused.{Refused}
 use Rattle.gt_access.specs.declared.by.Refused.TheVariants.{Gone, Memory}
 
 -- To read, the frame of this name was locked and left as it was, and what was read is what its range held. If nothing
--- was read, no frame was locked (own).
+-- was read, no frame was locked.
 abbrev pub VisitsToRead : FrameName → ℕ → ℕ → Option Reading → List Visit → List Visit → Type 0
 VisitsToRead name off len None old new = new ≡ old
 VisitsToRead name off len (Some r) old new =
     (v : Visit) × LeavesIt name v × (r ≡ reading_of v.before off len) × (new ≡ old ++ v ∷ [])
 
 -- To write, the frame of this name was locked, and these bytes were written to it by this writ. If memory was refused,
--- it was left as it was; if there was no such frame, none was locked (own).
+-- it was left as it was; if there was no such frame, none was locked.
 abbrev pub VisitsToWrite : FrameName → Writ → ℕ → List ℕ → Result Writing Refused → List Visit → List Visit → Type 0
 VisitsToWrite name w off ys (Ok r) old new =
     (v : Visit) × IsOf name v × IsWrite v.before v.after w off ys × (new ≡ old ++ v ∷ [])
@@ -25,20 +25,20 @@ VisitsToWrite name w off ys (Err Gone) old new = new ≡ old
 VisitsToWrite name w off ys (Err Memory) old new = (v : Visit) × LeavesIt name v × (new ≡ old ++ v ∷ [])
 
 -- What the range of the one frame held was written to the other by this writ, and the first was left as it was; or both
--- are one frame (own).
+-- are one frame.
 abbrev pub CopiesIn : Writ → Spot → Spot → ℕ → Visit → Option Visit → Type 0
 CopiesIn w from to len d None =
     IsOf to.frame d × IsOf from.frame d × IsWrite d.before d.after w to.off (bytes_at d.before from.off len)
 CopiesIn w from to len d (Some s) =
     IsOf to.frame d × LeavesIt from.frame s × IsWrite d.before d.after w to.off (bytes_at s.before from.off len)
 
--- the frames of these places were locked, and left as they were (own)
+-- the frames of these places were locked, and left as they were
 abbrev pub LeavesBoth : Spot → Spot → Visit → Option Visit → Type 0
 LeavesBoth from to d None = LeavesIt to.frame d × IsOf from.frame d
 LeavesBoth from to d (Some s) = LeavesIt to.frame d × LeavesIt from.frame s
 
 -- To copy, the frames of both places were locked, and so many bytes were copied by this writ. If memory was refused,
--- they were left as they were; if there were no such frames, none was locked (own).
+-- they were left as they were; if there were no such frames, none was locked.
 abbrev pub VisitsToCopy : Writ → Spot → Spot → ℕ → Result Copying Refused → List Visit → List Visit → Type 0
 VisitsToCopy w from to len (Ok r) old new =
     (d : Visit) × (s : Option Visit) × CopiesIn w from to len d s × (new ≡ old ++ d ∷ visit_in s)

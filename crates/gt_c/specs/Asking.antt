@@ -5,11 +5,11 @@ use Rattle.gt_entry.specs.declared.entry.Entry.TheVariants.{Page, Sub, Via}
 use Rattle.gt_handles.specs.declared.handles.Handle.{Handle as Name}
 use Rattle.gt_c.specs.declared.calls.MapHandle.{MapHandle}
 
--- the name of a mapping (own)
+-- the name of a mapping
 abbrev pub name_of : MapHandle → Name
 name_of name = record { serial = name.serial; key = name.key }
 
--- for reading only, if the number is not 0 (own)
+-- for reading only, if the number is not 0
 abbrev pub reads_only : ℕ → Bool
 reads_only ro = if ro == 0 then false else true
 

@@ -28,23 +28,23 @@ use Rattle.gt_seat.specs.declared.answer.Outcome.{Outcome}
 use Rattle.gt_seat.specs.declared.answer.Outcome.TheVariants as outcomes
 use Rattle.gt_c.specs.declared.here.Here.{Here}
 
--- whose type may do what to whose, in a compiled policy (own)
+-- whose type may do what to whose, in a compiled policy
 abbrev pub may : Table → TypeId → TypeId → Perms → Bool
 may table source target perm = looks table source.0 target.0 perm
 
--- the handle was not taken, stays as it was, and the answer says why: it has no domain, or one that is in a copy (own)
+-- the handle was not taken, stays as it was, and the answer says why: it has no domain, or one that is in a copy
 abbrev pub TurnedAway : Option Here → Option Here → Answer → Type 0
 TurnedAway None after answer = (after ≡ None) × (answer ≡ encoded outcomes.NoDomain)
 TurnedAway (Some d) after answer =
     (after ≡ Some d) × IsSome d.guest.copying × (answer ≡ encoded outcomes.Busy)
 
--- a handle's domain was taken for a call, or the handle was turned away (own)
+-- a handle's domain was taken for a call, or the handle was turned away
 abbrev pub Enters : Option Here → Option Here → Answer → Option Here → Type 0
 Enters before after answer None = TurnedAway before after answer
 Enters before after answer (Some d) = (before ≡ Some d) × (after ≡ None) × (d.guest.copying ≡ None)
 
 -- a call was made on the handle's domain, which was in no copy: the handle has it afterwards, and this holds of it
--- before and after (own)
+-- before and after
 pub record Made (before after : Option Here) (Holds : Here → Here → Type 0) : Type 0 where
   pub was : Here
   pub is : Here
@@ -53,11 +53,11 @@ pub record Made (before after : Option Here) (Holds : Here → Here → Type 0) 
   pub idle : was.guest.copying ≡ None
   pub holds : Holds was is
 
--- the handle was turned away, or the call was made (own)
+-- the handle was turned away, or the call was made
 abbrev pub Calls : Option Here → Option Here → Answer → (Here → Here → Type 0) → Type 0
 Calls before after answer Holds = TurnedAway before after answer ⊎ Made before after Holds
 
--- the outcomes of a call without a value, and of calls with one (own)
+-- the outcomes of a call without a value, and of calls with one
 abbrev pub outcome : Result (Unit {0}) Denial → Outcome
 outcome (Ok done) = outcomes.Done
 outcome (Err denial) = outcomes.Denied denial
@@ -78,7 +78,7 @@ abbrev pub outcome_size : Result Size Denial → Outcome
 outcome_size (Ok size) = outcomes.Size size
 outcome_size (Err denial) = outcomes.Denied denial
 
--- the answer encodes a result, of which this holds; the domain keeps its monitor, and is in no copy (own)
+-- the answer encodes a result, of which this holds; the domain keeps its monitor, and is in no copy
 pub record Says {R : Type 0} (said : Result R Denial → Outcome) (Holds : Result R Denial → Type 0) (answer : Answer)
     (d e : Here) : Type 0 where
   pub result : Result R Denial
@@ -86,13 +86,13 @@ pub record Says {R : Type 0} (said : Result R Denial → Outcome) (Holds : Resul
   pub stays : StaysIdle d.guest e.guest
   pub holds : Holds result
 
--- this request of the domain was answered so, by the steps of its path; mappings, pins and records are as before (own)
+-- this request of the domain was answered so, by the steps of its path; mappings, pins and records are as before
 abbrev pub SaysDone : Request → Answer → Here → Here → Type 0
 SaysDone request answer d e =
     Says outcome (λ r. Answered may d.guest.monitor d.guest.domain request (verdict_of r) e.guest.domain
     × KeepsPinned d.guest.domain e.guest.domain × (e.guest.domain.trail ≡ d.guest.domain.trail)) answer d e
 
--- the same of a call that is recorded, whose result gives this verdict (own)
+-- the same of a call that is recorded, whose result gives this verdict
 abbrev pub SaysTold : {R : Type 0} → (Result R Denial → Outcome) → (Result R Denial → Verdict) → Request → Hypercall
     → Answer → Here → Here → Type 0
 SaysTold said verdict request call answer d e =
@@ -100,17 +100,17 @@ SaysTold said verdict request call answer d e =
     × KeepsPinned d.guest.domain e.guest.domain
     × Tells d.guest.domain.trail (told_of d.guest.domain call (verdict r)) e.guest.domain.trail) answer d e
 
--- the record of a map (own)
+-- the record of a map
 abbrev pub map_told : Domain → Hypercall → Result Name Denial → Kept
 map_told d call r = record { dom = d.seat.dom; call = call; reply = mapping_reply r }
 
--- the same of a map, whose mapping is kept (own)
+-- the same of a map, whose mapping is kept
 abbrev pub SaysMapped : Request → Hypercall → Answer → Here → Here → Type 0
 SaysMapped request call answer d e =
     Says outcome_mapped (λ r. MapAnswered may d.guest.monitor d.guest.domain request r e.guest.domain
     × Tells d.guest.domain.trail (map_told d.guest.domain call r) e.guest.domain.trail) answer d e
 
--- the same of an unmap, whose mapping is gone (own)
+-- the same of an unmap, whose mapping is gone
 abbrev pub SaysUnmapped : Request → (Option (DomId × GrantRef) → Hypercall) → Name → Answer → Here → Here → Type 0
 SaysUnmapped request call name answer d e =
     Says outcome (λ r. Answered may d.guest.monitor d.guest.domain request (verdict_of r) e.guest.domain
@@ -119,18 +119,18 @@ SaysUnmapped request call name answer d e =
     × Tells d.guest.domain.trail (told_of d.guest.domain (call (subject_of d.guest.domain name)) (verdict_of r))
     e.guest.domain.trail) answer d e
 
--- it keeps at most so many records from now on, and nothing else changed (own)
+-- it keeps at most so many records from now on, and nothing else changed
 abbrev pub KeepsAtMost : ℕ → Answer → Here → Here → Type 0
 KeepsAtMost most answer d e =
     (answer ≡ encoded outcomes.Done) × StaysIdle d.guest e.guest
     × (e.guest.domain ≡ record d.guest.domain { trail = record d.guest.domain.trail { most = most } })
 
--- the outcome of a call that takes memory (own)
+-- the outcome of a call that takes memory
 abbrev pub outcome_reserved : Result (Unit {0}) Memory → Outcome
 outcome_reserved (Ok done) = outcomes.Done
 outcome_reserved (Err refused) = outcomes.NoMemory
 
--- there is room for so many records if the answer is Ok, and nothing else changed (own)
+-- there is room for so many records if the answer is Ok, and nothing else changed
 pub record Reserves (records : ℕ) (answer : Answer) (d e : Here) : Type 0 where
   pub result : Result (Unit {0}) Memory
   pub encodes : answer ≡ encoded (outcome_reserved result)
@@ -141,11 +141,11 @@ pub record Reserves (records : ℕ) (answer : Answer) (d e : Here) : Type 0 wher
         record d.guest.domain.trail { room = e.guest.domain.trail.room };
   }
 
--- the guest is in no copy; or it was in one, which was ended (own)
+-- the guest is in no copy; or it was in one, which was ended
 abbrev pub Settles : Seated Table → Seated Table → Type 0
 Settles s t = (((s.copying ≡ None) × (t ≡ s))) ⊎ Ends s t
 
--- the domain left the run, after the end of its copy if it was in one, and so many of its records were lost (own)
+-- the domain left the run, after the end of its copy if it was in one, and so many of its records were lost
 pub record Leaves (s : Seated Table) (lost : ℕ) : Type 0 where
   pub settled : Seated Table
   pub settles : Settles s settled
@@ -153,12 +153,12 @@ pub record Leaves (s : Seated Table) (lost : ℕ) : Type 0 where
   pub leaves : HasLeft settled.monitor.words.layout settled.domain left
   pub lost_is : lost ≡ left.trail.lost
 
--- the domain of a handle left; or the handle had none (own)
+-- the domain of a handle left; or the handle had none
 abbrev pub Finishes : Option Here → Option Here → ℕ → Type 0
 Finishes None after lost = (after ≡ None) × (lost ≡ 0)
 Finishes (Some d) after lost = (after ≡ None) × Leaves d.guest lost
 
--- the reference of this number, and the domain (own)
+-- the reference of this number, and the domain
 abbrev pub at : ℕ → GrantRef
 at gref = record { 0 = gref }
 

@@ -100,6 +100,6 @@ abbrev pub changed_in : ℕ → (State → State) → List State → List State
 changed_in d f [] = []
 changed_in d f (x ∷ xs) = if x.id.0 == d then f x ∷ xs else x ∷ changed_in d f xs
 
--- these are the states of the domains of a configuration, in order (own)
+-- these are the states of the domains of a configuration, in order
 abbrev pub IsPlaced : List DomainConfig → List State → Type 0
 IsPlaced configured domains = map (λ d. d.id) domains ≡ map (λ d. d.id) configured

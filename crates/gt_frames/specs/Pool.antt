@@ -6,45 +6,45 @@ use Rattle.gt_frames.specs.Places.{is_name}
 use Rattle.gt_frames.specs.Sets.{name_of}
 use Rattle.gt_frames.specs.Visits.{Visit, IsFresh, visit_in}
 
--- the frame that the bytes go to (own)
+-- the frame that the bytes go to
 abbrev pub dest_of : Ends → FrameState
 dest_of e = e.dest.after
 
--- the frame of this visit, or this one where there is none (own)
+-- the frame of this visit, or this one if there is none
 abbrev pub frame_or : FrameState → Option Visit → FrameState
 frame_or f None = f
 frame_or f (Some v) = v.after
 
--- the frame that the bytes come from (own)
+-- the frame that the bytes come from
 abbrev pub source_of : Ends → FrameState
 source_of e = frame_or (dest_of e) e.source
 
--- the frame that the bytes come from is as it was, where it is another one than the frame that they go to (own)
+-- the frame that the bytes come from is as it was, if it is another one than the frame that they go to
 abbrev pub KeepsSource : Ends → Ends → Type 0
 KeepsSource old new = is_name (name_of (source_of old)) (name_of (dest_of old)) ≡ false → source_of new ≡ source_of old
 
--- the visit to the frame that the bytes go to (own)
+-- the visit to the frame that the bytes go to
 abbrev pub dest_visit : Ends → Visit
 dest_visit e = e.dest
 
--- the visit to the frame that the bytes come from, where it is another one (own)
+-- the visit to the frame that the bytes come from, if it is another one
 abbrev pub source_visit : Ends → Option Visit
 source_visit e = e.source
 
--- the visits to both frames, or to the one that both ends are (own)
+-- the visits to both frames, or to the one that both ends are
 abbrev pub visits_of : Ends → List Visit
 visits_of e = dest_visit e ∷ visit_in (source_visit e)
 
--- where there is a visit, its frame was just locked (own)
+-- if there is a visit, its frame was just locked
 abbrev pub IsFreshIn : Option Visit → Type 0
 IsFreshIn None = Unit {0}
 IsFreshIn (Some v) = IsFresh v
 
--- the frames were just locked (own)
+-- the frames were just locked
 abbrev pub AreFresh : Ends → Type 0
 AreFresh e = IsFresh (dest_visit e) × IsFreshIn (source_visit e)
 
--- of the visits only what the frame that the bytes go to holds now has changed (own)
+-- of the visits only what the frame that the bytes go to holds now has changed
 pub record GoesOn (old new : Ends) : Type 0 where
   pub source : source_visit new ≡ source_visit old
   pub begun : (dest_visit new).before ≡ (dest_visit old).before

@@ -9,7 +9,7 @@ use std::snapshot::Snapshot;
 use std::sync::MutexGuard;
 
 /// What was done to frames under their locks, by whoever has these visits: each frame as it was when it was locked and
-/// as it was when it was freed, in the order in which they were freed. They take no memory. (own)
+/// as it was when it was freed, in the order in which they were freed. They take no memory.
 #[derive(Drop)]
 pub struct Visits {
     history: History<Snapshot<Frame>, Frame>,
@@ -24,7 +24,7 @@ impl Model for Visits {
     ghost view = { λ v. map (λ p. record { before = p.0.value; after = p.1 }) v.history.items };
 }
 
-/// A locked frame. It can't be dropped: `free` frees it, and tells what was done to it. (own)
+/// A locked frame. It can't be dropped: `free` frees it, and tells what was done to it.
 pub struct Lent<'p> {
     frame: MutexGuard<'p, Frame>,
     start: Snapshot<Frame>,

@@ -4,7 +4,7 @@ ghost use Rattle.std.specs.Borrow.{ftrue};
 
 use std::marker::{Model, PhantomData};
 
-/// A list of pairs, which takes no memory. A clause reads the pairs as `items`, the oldest first. (own)
+/// A list of pairs, which takes no memory. A clause reads the pairs as `items`, the oldest first.
 #[derive(Drop)]
 pub struct History<A, B> {
     of: PhantomData<(A, B)>,

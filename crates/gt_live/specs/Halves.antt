@@ -25,17 +25,17 @@ use Rattle.gt_live.specs.Accesses.{Accessed, spot_of}
 use Rattle.gt_live.specs.Domains.{AllowRelation, IsOf, IsUnsettled, known, told_end}
 use Rattle.gt_live.specs.Underway.{AtAccess, GivesBack}
 
--- what a record keeps of a copy (own)
+-- what a record keeps of a copy
 abbrev pub copy_told : CopyArgs → Hypercall
 copy_told c = hypercalls.Copy (told_end c.source) (told_end c.dest) c.len c.flags
 
--- the record of a copy that this domain ended, which is Ok (own)
+-- the record of a copy that this domain ended, which is Ok
 abbrev pub done_copy : Domain → CopyArgs → Record
 done_copy d c = record { dom = d.seat.dom; call = copy_told c; reply = replies.Done }
 
 -- The domain d was asked this copy and came to its access, after which it is e. Its steps are those of the copy's path.
 -- The pins that it holds reach both places, and the policy lets it copy by them; each place is inside its frame.
--- Nothing else of the domain has changed (own)
+-- Nothing else of the domain has changed
 pub record ComesHalfway {P : Type 0} (may : P → AllowRelation) (m : Monitor P) (d : Domain) (copy : CopyArgs)
     (h : Halfway) (e : Domain) : Type 0 where
   pub asked : h.copy ≡ copy
@@ -51,12 +51,12 @@ pub record ComesHalfway {P : Type 0} (may : P → AllowRelation) (m : Monitor P)
   pub dest_range : h.to.off + h.len ≤ 4096
   pub kept : IsUnsettled d e
 
--- the domain stands at the access of this copy, since it was one of this monitor's run and was asked it (own)
+-- the domain stands at the access of this copy, since it was one of this monitor's run and was asked it
 abbrev pub IsHalfway : {P : Type 0} → (P → AllowRelation) → Monitor P → Halfway → Domain → Type 0
 IsHalfway may m h e = (d : Domain) × IsOf may m d × ComesHalfway may m d h.copy h e
 
 -- the pins of a copy at its access were given back, one after another, the last one first, and nothing else changed but
--- the trail (own)
+-- the trail
 pub record EndsHalfway (k : Layout) (h : Halfway) (e f : Domain) : Type 0 where
   pub gives : GivesBack k (pins_by_call h.call) e.seat.view f.seat.view
   pub seat : IsSameSeat e.seat f.seat
@@ -64,7 +64,7 @@ pub record EndsHalfway (k : Layout) (h : Halfway) (e f : Domain) : Type 0 where
   pub mappings : f.mappings ≡ e.mappings
 
 -- a copy that came to its access, and whose pins were then given back, is whole: its steps are those of its path before
--- and after the one access, and the pins are those of before (own)
+-- and after the one access, and the pins are those of before
 abbrev pub TwoHalvesMakeACopy : Type 0
 TwoHalvesMakeACopy =
     (c : CallerKnowledge) (k : Layout) (call : Call) (from to : Place) (len : ℕ) (v mid w : View)

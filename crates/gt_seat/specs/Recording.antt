@@ -12,7 +12,7 @@ use Rattle.gt_seat.specs.declared.answer.Outcome.TheVariants as outcomes
 use Rattle.gt_seat.specs.declared.record.CopyEnd.{CopyEnd}
 use Rattle.gt_seat.specs.declared.record.Record.{Record}
 
--- the outcome that a reply says (own)
+-- the outcome that a reply says
 abbrev pub replied : Reply → Outcome
 replied replies.Done = outcomes.Done
 replied (replies.Frames frames) = outcomes.Frames frames
@@ -20,15 +20,15 @@ replied (replies.Size size) = outcomes.Size size
 replied (replies.Version version) = outcomes.Version version
 replied (replies.Denied denial) = outcomes.Denied denial
 
--- an end of a copy (own)
+-- an end of a copy
 abbrev pub end_recorded : Told → CopyEnd
 end_recorded end = record { ptr = end.ptr; dom = end.dom.0; off = end.off }
 
--- an end of no copy (own)
+-- an end of no copy
 abbrev pub no_end : CopyEnd
 no_end = record { ptr = 0; dom = 0; off = 0 }
 
--- a record that says nothing but who called and what was answered (own)
+-- a record that says nothing but who called and what was answered
 abbrev pub plainly : Kept → Record
 plainly r =
     record {
@@ -43,7 +43,7 @@ plainly r =
       reply = encoded (replied r.reply);
     }
 
--- a record with what was called (own)
+-- a record with what was called
 abbrev pub with_call : Hypercall → Record → Record
 with_call (calls.Map dom gref flags) r = record r { call = 1; dom = dom.0; gref = gref.0; flags = flags }
 with_call (calls.Unmap (Some (dom, gref))) r = record r { call = 2; dom = dom.0; gref = gref.0 }
@@ -55,6 +55,6 @@ with_call (calls.GetVersion dom) r = record r { call = 6; dom = dom.0 }
 with_call (calls.SetVersion version) r = record r { call = 7; flags = version }
 with_call (calls.SetupTable frames) r = record r { call = 8; flags = frames }
 
--- the record, as C reads it (own)
+-- the record, as C reads it
 abbrev pub recorded : Kept → Record
 recorded r = with_call r.call (plainly r)

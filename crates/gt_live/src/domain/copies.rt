@@ -93,7 +93,7 @@ fn copy_through<R: Wait, P: Allows>(
 }
 
 /// A copy that has come to its access, and holds its pins: so many bytes may now be read at the one place and written
-/// at the other. [`Domain::copy_end`] gives the pins back; until then the domain makes no other call. (own)
+/// at the other. [`Domain::copy_end`] gives the pins back; until then the domain makes no other call.
 #[derive(Clone, Copy)]
 pub struct Halfway {
     call: Call,
@@ -268,7 +268,7 @@ impl Domain {
     /// The first half of a copy, for a caller who keeps the frames: it comes to the access and stops there. Until
     /// [`copy_end`](Domain::copy_end) the domain holds the copy's pins, and so many bytes may be read at the one place
     /// and written at the other. A copy in two halves makes the steps of a whole one (`two_halves_make_a_copy`). That
-    /// the bytes are moved, and no others, is for the caller. (own)
+    /// the bytes are moved, and no others, is for the caller.
     ///
     /// # Errors
     /// The first rule that stands, as of [`copy`](Domain::copy). Then no pin is kept, and its record says so.
@@ -315,7 +315,7 @@ impl Domain {
         self.give_back(monitor, &mut call);
     }
 
-    /// The second half of a copy: its pins are given back, the last one first, and its record is kept. (own)
+    /// The second half of a copy: its pins are given back, the last one first, and its record is kept.
     pub fn copy_end<P: Allows>(&mut self, monitor: &Monitor<P>, halfway: Halfway)
         requires halfway { IsHalfway P.may monitor.now halfway self.old }
         ensures mine { IsOf P.may monitor.now self.new }
