@@ -1,0 +1,3 @@
+pub mod Checking
+pub mod Explaining
+pub mod Faults

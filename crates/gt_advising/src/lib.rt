@@ -1,0 +1,21 @@
+//! The commands `check` and `why`: a policy in, and advice out.
+//!
+//! [`check`] takes a policy text from a reader and writes what is wrong or useless in it. [`why`]
+//! writes by which statements a policy allows something, or comes near it. Both work over any reader
+//! and writer, so the program and a test drive the same code.
+//!
+//! What holds: `check` answers true exactly for a policy. `why` answers as the statements say, and the
+//! lines that go out are those of the statements that grant what is asked, or that come near it.
+//!
+//! It uses `gt_advice` (the findings and the lines), `gt_listing` (the faults of a text), `gt_policy`,
+//! `gt_streams` (reads and writes) and `gt_types`.
+#![tactic(auto)]
+
+mod checking;
+mod explaining;
+mod fault;
+mod text;
+
+pub use checking::check;
+pub use explaining::why;
+pub use fault::WhyFault;

@@ -1,0 +1,9 @@
+pub mod Lookups
+pub mod Words
+pub mod Uses
+pub mod Wrongs
+pub mod Walks
+pub mod Ends
+pub mod Lines
+pub mod Top
+pub mod Planned

@@ -1,0 +1,229 @@
+-- The commands of the program, and what the words of a command line ask for.
+use Rattle.std.specs.Prelude.{◌≡◌, ◌==◌, Bool, true, false, ℕ, List, [], ◌∷◌, Option, Some, None, Result}
+use Rattle.std.specs.Prelude.{MatchResult, codes, find, if◌then◌else◌, option_map}
+use Rattle.std.specs.Str.{bytes_eq}
+use Rattle.std.specs.Str.Parse.{digits_value, without_leading_plus}
+use Rattle.clap.specs.Kinds.{HasKind, Kinds}
+use Rattle.clap.specs.Simple.{on_top}
+use Rattle.clap.specs.ValueTests.{is_unsigned_in}
+use Rattle.clap.specs.Words.{App, Row, Text, first_of, new_app, with_subcommand}
+use Rattle.clap.specs.declared.error.Error.{Error}
+use Rattle.clap.specs.declared.error.kind.ErrorKind.TheVariants.{ArgumentConflict, DisplayHelp, DisplayVersion}
+use Rattle.clap.specs.declared.error.kind.ErrorKind.TheVariants.{InvalidSubcommand, InvalidValue, MissingRequiredArgument}
+use Rattle.clap.specs.declared.error.kind.ErrorKind.TheVariants.{MissingSubcommand, TooManyValues, UnknownArgument}
+use Rattle.gt_commands.specs.Rules.{command_app}
+use Rattle.gt_commands.specs.Usage.{Usage, Given, Line, gives, asks_help, wrong, Word, mark, long, short, plain, word_of, line}
+use Rattle.gt_commands.specs.Usage.{is_true, value_of}
+use Rattle.gt_commands.specs.declared.invocation.Format.{Format}
+use Rattle.gt_commands.specs.declared.invocation.Format.TheVariants.{Text as Plain, Json}
+use Rattle.gt_commands.specs.declared.invocation.Invocation.{Invocation}
+use Rattle.gt_commands.specs.declared.invocation.Invocation.TheVariants as plans
+use Rattle.gt_commands.specs.declared.invocation.Mode.{Mode}
+use Rattle.gt_commands.specs.declared.invocation.Mode.TheVariants.{Play, Run, Policy, Rules, Check, Why, Entries}
+
+-- ---- the commands
+
+abbrev pub command_name : Mode → Text
+command_name Play = codes "play"
+command_name Run = codes "run"
+command_name Policy = codes "policy"
+command_name Rules = codes "rules"
+command_name Check = codes "check"
+command_name Why = codes "why"
+command_name Entries = codes "entries"
+
+abbrev pub one : Text → List Text
+one name = name ∷ []
+
+-- `[FILE]` (own)
+abbrev pub file_usage : Usage
+file_usage = record { flags = []; options = []; words = one (codes "file"); needed = [] }
+
+-- what each command takes (own)
+abbrev pub usage_of : Mode → Usage
+usage_of Play = record file_usage { flags = one (codes "audit") }
+usage_of Run = record file_usage { flags = one (codes "audit") }
+usage_of Policy = file_usage
+usage_of Rules = file_usage
+usage_of Check = record file_usage { options = one (codes "format") }
+usage_of Why = record file_usage {
+  words = codes "source" ∷ codes "target" ∷ codes "permission" ∷ codes "file" ∷ [];
+  needed = codes "source" ∷ codes "target" ∷ codes "permission" ∷ [];
+}
+usage_of Entries = record file_usage {
+  flags = codes "hex" ∷ codes "all" ∷ [];
+  options = codes "version" ∷ codes "script" ∷ [];
+  needed = one (codes "version");
+}
+
+abbrev pub every_mode : List Mode
+every_mode = Play ∷ Run ∷ Policy ∷ Rules ∷ Check ∷ Why ∷ Entries ∷ []
+
+-- ---- the program, as the parser of command lines takes it
+
+-- gthost with no command, and with a version (own)
+abbrev pub bare_app : App
+bare_app = on_top (λ s. record s { has_version = true; subcommand_required = true; disable_help_subcommand = true })
+    (new_app (codes "gthost"))
+
+-- a command of the program (own)
+abbrev pub mode_app : Mode → App
+mode_app mode = command_app (command_name mode) (usage_of mode)
+
+abbrev pub with_mode : App → Mode → App
+with_mode app mode = with_subcommand app (mode_app mode).top
+
+-- the commands that run a script (own)
+abbrev pub runners_app : App
+runners_app = with_mode (with_mode bare_app Play) Run
+
+-- those and the lists of what a policy allows, and of the rules (own)
+abbrev pub listers_app : App
+listers_app = with_mode (with_mode runners_app Policy) Rules
+
+-- gthost COMMAND; there is no command `help` (own)
+abbrev pub gthost_app : App
+gthost_app = with_mode (with_mode (with_mode listers_app Check) Why) Entries
+
+-- ---- what is asked for
+
+-- to play a script, to run one, to list a policy, to tell the rules, to check a policy, to say why one allows
+-- something, or to tell the entries of a dump: with the options and the FILE, none for standard input; help; the
+-- version; or nothing that the program does (own)
+pub data Request : Type 0 where
+  to_play : Bool → Option Text → Request
+  to_run : Bool → Option Text → Request
+  to_list : Option Text → Request
+  to_tell_rules : Option Text → Request
+  to_check : Format → Option Text → Request
+  to_explain : Option Text → Option Text → Text → Option Text → Request
+  to_tell_entries : ℕ → Bool → Bool → Option ℕ → Option Text → Request
+  for_help : Request
+  for_version : Request
+  nothing : Request
+
+-- `--format text` or `--format json`; text where it is left out (own)
+abbrev pub format_of : Option Text → Option Format
+format_of None = Some Plain
+format_of (Some word) = if bytes_eq word (codes "text") then Some Plain
+    else (if bytes_eq word (codes "json") then Some Json else None)
+
+-- a type by its name; `-` is any type (own)
+abbrev pub type_of : Option Text → Option Text
+type_of None = None
+type_of (Some word) = if bytes_eq word (codes "-") then None else Some word
+
+-- `--version 1` or `--version 2` (own)
+abbrev pub version_of : Option Text → Option ℕ
+version_of None = None
+version_of (Some word) = if bytes_eq word (codes "1") then Some 1
+    else (if bytes_eq word (codes "2") then Some 2 else None)
+
+-- the number of a domain, below 65,536, as `parse` of an unsigned number of Rust reads it (own)
+abbrev pub domain_of : Text → Option ℕ
+domain_of word = if is_unsigned_in 0 65535 word then Some (digits_value 10 (without_leading_plus word)) else None
+
+-- `--script DOM`, where it is given (own)
+abbrev pub script_of : Option Text → Option (Option ℕ)
+script_of None = Some None
+script_of (Some word) = option_map (λ n. Some n) (domain_of word)
+
+abbrev pub check_with : Option Format → Option Text → Request
+check_with None file = nothing
+check_with (Some format) file = to_check format file
+
+abbrev pub why_with : Option Text → Option Text → Option Text → Option Text → Request
+why_with source target None file = nothing
+why_with source target (Some permission) file = to_explain source target permission file
+
+abbrev pub entries_with : Option ℕ → Option (Option ℕ) → Bool → Bool → Option Text → Request
+entries_with None script hex every file = nothing
+entries_with (Some version) None hex every file = nothing
+entries_with (Some version) (Some script) hex every file = to_tell_entries version hex every script file
+
+-- what a command asks for, by the values that were given: nothing where one of them is none that it takes (own)
+abbrev pub read : Mode → (Text → Option Text) → Request
+read Play value = to_play (is_true (value (codes "audit"))) (value (codes "file"))
+read Run value = to_run (is_true (value (codes "audit"))) (value (codes "file"))
+read Policy value = to_list (value (codes "file"))
+read Rules value = to_tell_rules (value (codes "file"))
+read Check value = check_with (format_of (value (codes "format"))) (value (codes "file"))
+read Why value = why_with (type_of (value (codes "source"))) (type_of (value (codes "target")))
+    (value (codes "permission")) (value (codes "file"))
+read Entries value = entries_with (version_of (value (codes "version"))) (script_of (value (codes "script")))
+    (is_true (value (codes "hex"))) (is_true (value (codes "all"))) (value (codes "file"))
+
+abbrev pub asked_of : Mode → Line → Request
+asked_of mode (gives given) = read mode (value_of given)
+asked_of mode asks_help = for_help
+asked_of mode wrong = nothing
+
+-- `--help` or `--version`, with no value attached (own)
+abbrev pub asked_of_long : Text → Option Text → Request
+asked_of_long name None = if bytes_eq (codes "help") name then for_help
+    else (if bytes_eq (codes "version") name then for_version else nothing)
+asked_of_long name (Some value) = nothing
+
+-- what a first word that is no command asks for: help for `h`, the version for `V` (own)
+abbrev pub asked_of_none : Word → Request
+asked_of_none mark = nothing
+asked_of_none (long name value) = asked_of_long name value
+asked_of_none (short letter) = if 104 == letter then for_help else (if 86 == letter then for_version else nothing)
+asked_of_none plain = nothing
+
+-- the command of this name
+abbrev pub mode_of : Text → Option Mode
+mode_of word = find (λ mode. bytes_eq (command_name mode) word) every_mode
+
+abbrev pub asked_by : Option Mode → Text → List Text → Request
+asked_by (Some mode) word rest = asked_of mode (line (usage_of mode) rest)
+asked_by None word rest = asked_of_none (word_of word)
+
+-- what the words after the program's name ask for (own)
+abbrev pub asked : List Text → Request
+asked [] = nothing
+asked (word ∷ rest) = asked_by (mode_of word) word rest
+
+-- ---- what is answered
+
+-- the kinds of error that answer it, beside refused memory (own)
+abbrev pub refusals : Request → Kinds
+refusals for_help = DisplayHelp ∷ []
+refusals for_version = DisplayVersion ∷ []
+refusals nothing = UnknownArgument ∷ InvalidSubcommand ∷ MissingSubcommand ∷ TooManyValues ∷ ArgumentConflict
+    ∷ InvalidValue ∷ MissingRequiredArgument ∷ []
+refusals _ = []
+
+-- what a plan asks for (own)
+abbrev pub asked_by_plan : Invocation → Request
+asked_by_plan (plans.Play audit file) = to_play audit (option_map (λ f. f.now) file)
+asked_by_plan (plans.Run audit file) = to_run audit (option_map (λ f. f.now) file)
+asked_by_plan (plans.Policy file) = to_list (option_map (λ f. f.now) file)
+asked_by_plan (plans.Rules rule) = to_tell_rules (option_map (λ f. f.now) rule)
+asked_by_plan (plans.Check format file) = to_check format (option_map (λ f. f.now) file)
+asked_by_plan (plans.Why source target permission file) = to_explain (option_map (λ f. f.now) source)
+    (option_map (λ f. f.now) target) permission.now (option_map (λ f. f.now) file)
+asked_by_plan (plans.Entries version hex every script file) =
+    to_tell_entries version hex every script (option_map (λ f. f.now) file)
+
+-- what a plan asks for, and nothing where there is none (own)
+abbrev pub asked_by_some : Option Invocation → Request
+asked_by_some None = nothing
+asked_by_some (Some p) = asked_by_plan p
+
+-- the plan asks for that, or the error fits it; a line that asks for a command is refused only where memory is (own)
+abbrev pub IsAnswerTo : Request → Result Invocation Error → Type 0
+IsAnswerTo request r = MatchResult r (λ p. asked_by_plan p ≡ request) (HasKind (refusals request))
+
+-- what the command of a name asks for by the rows of its matches (own)
+abbrev pub asked_with : Option Mode → (Text → Option Text) → Request
+asked_with None value = nothing
+asked_with (Some mode) value = read mode value
+
+abbrev pub asked_named : Text → List Row → Request
+asked_named name rows = asked_with (mode_of name) (λ id. first_of id rows)
+
+-- the plan is what the subcommand asks for that the words name, by its matches (own)
+abbrev pub IsPlanOf : Invocation → Option (Text × List Row) → Type 0
+IsPlanOf p None = ⊥
+IsPlanOf p (Some (name, rows)) = asked_by_plan p ≡ asked_named name rows

@@ -1,0 +1,124 @@
+-- A command's line: its flags, its options and its words, and what words give by them.
+use Rattle.std.specs.Prelude.{◌==◌, ◌&&◌, Bool, false, not, ℕ, List, [], ◌∷◌, ◌++◌, Option, Some, None, codes, map, find, option_map}
+use Rattle.std.specs.Prelude.{if◌then◌else◌, slice_get}
+use Rattle.std.specs.List.{list_any}
+use Rattle.std.specs.Option.{option_map_or}
+use Rattle.std.specs.Str.{bytes_eq, chars}
+use Rattle.clap.specs.Lexer.{long_of, short_of}
+use Rattle.clap.specs.Words.{Text}
+
+-- what a command takes: flags `--NAME`, options `--NAME VALUE`, and words in this order, each under its
+-- name; `needed` are those of the options and words that must be given (own)
+pub record Usage : Type 0 where
+  pub flags : List Text
+  pub options : List Text
+  pub words : List Text
+  pub needed : List Text
+
+abbrev pub is_among : List Text → Text → Bool
+is_among names name = list_any (λ n. bytes_eq n name) names
+
+-- what was given so far, in its order: names with their values; the value of a flag is `true` (own)
+abbrev pub Given : Type 0
+Given = List (Text × Text)
+
+abbrev pub value_of : Given → Text → Option Text
+value_of given name = option_map (λ g. g.1) (find (λ g. bytes_eq g.0 name) given)
+
+abbrev pub is_given : Given → Text → Bool
+is_given given name = list_any (λ g. bytes_eq g.0 name) given
+
+-- the value of a flag that is given (own)
+abbrev pub is_true : Option Text → Bool
+is_true value = option_map_or (λ text. bytes_eq text (codes "true")) value false
+
+-- something that is needed is not given (own)
+abbrev pub lacks : Usage → Given → Bool
+lacks u given = list_any (λ name. is_among u.needed name && not (is_given given name)) (u.words ++ u.options)
+
+-- what a line comes to: it gives this, it asks for help, or it is wrong (own)
+pub data Line : Type 0 where
+  gives : Given → Line
+  asks_help : Line
+  wrong : Line
+
+-- what a word is: the mark `--`, after which no word is a flag; `--NAME` or `--NAME=VALUE`; short flags,
+-- by the first letter; or a plain word (own)
+pub data Word : Type 0 where
+  mark : Word
+  long : Text → Option Text → Word
+  short : ℕ → Word
+  plain : Word
+
+abbrev pub short_flags : Option ℕ → Word
+short_flags (Some letter) = short letter
+short_flags None = plain
+
+-- a word, by the long flag or the short flags that the parser takes it for (own)
+abbrev pub word_with : Option (Text × Option Text) → Option Text → Word
+word_with (Some (name, value)) _ = long name value
+word_with None (Some flags) = short_flags (slice_get (chars flags) 0)
+word_with None None = plain
+
+abbrev pub word_of : Text → Word
+word_of word = if bytes_eq word (codes "--") then mark else word_with (long_of word) (short_of word)
+
+-- what comes next, by what was given and the words that can still come
+abbrev pub Next : Type 0
+Next = Given → List Text → Line
+
+-- each name is given once (own)
+abbrev pub once : Text → Text → Given → List Text → Next → Line
+once name value given left next =
+    if is_given given name then wrong else next (given ++ (name, value) ∷ []) left
+
+-- a plain word is the next of the command's words (own)
+abbrev pub by_word : List Text → Text → Given → Next → Line
+by_word [] word given next = wrong
+by_word (name ∷ left) word given next = once name word given left next
+
+-- the end of a line (own)
+abbrev pub ended : Usage → Given → Line
+ended u given = if lacks u given then wrong else gives given
+
+-- after the mark each word is a plain one (own)
+abbrev pub line_after_mark : Usage → List Text → Given → List Text → Line
+line_after_mark u [] given left = ended u given
+line_after_mark u (word ∷ rest) given left = by_word left word given (line_after_mark u rest)
+
+-- a flag has no value, and an option has the one that is attached or the word after it; `waiting` goes on with the
+-- option whose value comes next, if there is one (own)
+abbrev pub by_long : Usage → Text → Option Text → Given → List Text → (Option Text → Next) → Line
+by_long u name None given left waiting =
+    if is_among u.flags name then once name (codes "true") given left (waiting None)
+    else (if is_among u.options name then waiting (Some name) given left
+    else (if bytes_eq (codes "help") name then asks_help else wrong))
+by_long u name (Some value) given left waiting =
+    if is_among u.flags name then wrong
+    else (if is_among u.options name then once name value given left (waiting None) else wrong)
+
+-- what a word asks for, where no option waits for its value (own)
+abbrev pub by_kind : Usage → Word → Text → Given → List Text → Next → (Option Text → Next) → Line
+by_kind u mark word given left marked waiting = marked given left
+by_kind u (long name value) word given left marked waiting = by_long u name value given left waiting
+by_kind u (short letter) word given left marked waiting = if 104 == letter then asks_help else wrong
+by_kind u plain word given left marked waiting = by_word left word given (waiting None)
+
+-- the value of an option is a plain word (own)
+abbrev pub by_value : Word → Text → Text → Given → List Text → Next → Line
+by_value mark name word given left next = wrong
+by_value (long other value) name word given left next = wrong
+by_value (short letter) name word given left next = wrong
+by_value plain name word given left next = once name word given left next
+
+-- what the words of a command come to, with the option that waits for its value (own)
+abbrev pub line_of : Usage → List Text → Option Text → Given → List Text → Line
+line_of u [] None given left = ended u given
+line_of u [] (Some name) given left = wrong
+line_of u (word ∷ rest) None given left =
+    by_kind u (word_of word) word given left (line_after_mark u rest) (line_of u rest)
+line_of u (word ∷ rest) (Some name) given left = by_value (word_of word) name word given left (line_of u rest None)
+
+-- what the words behind a command's name come to (own)
+abbrev pub line : Usage → List Text → Line
+line u words = line_of u words None [] u.words

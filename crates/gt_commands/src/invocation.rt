@@ -1,0 +1,70 @@
+//! What a command line asks for.
+
+/// What the program is to do.
+#[derive(Clone, Copy, Debug, PartialEq, Eq)]
+pub enum Mode {
+    /// Run a script on the core.
+    Play,
+    /// Run a script's domains in threads.
+    Run,
+    /// List what a policy allows.
+    Policy,
+    /// List the rules by which calls are refused.
+    Rules,
+    /// Tell what is wrong or useless in a policy.
+    Check,
+    /// Tell by which statements a policy allows something.
+    Why,
+    /// Tell the entries of a dump of a grant table.
+    Entries,
+}
+
+/// How findings are written.
+#[derive(Clone, Copy, Debug, PartialEq, Eq)]
+pub enum Format {
+    /// As compilers print them.
+    Text,
+    /// An object a line.
+    Json,
+}
+
+/// A command with its options. `file` is the FILE, none for the standard input.
+#[derive(Debug, PartialEq, Eq, Drop)]
+pub enum Invocation<'a> {
+    /// `audit`: the audit lines are wanted too.
+    Play {
+        audit: bool,
+        file: Option<&'a str>,
+    },
+    Run {
+        audit: bool,
+        file: Option<&'a str>,
+    },
+    Policy {
+        file: Option<&'a str>,
+    },
+    /// The rule of this name, and all rules if there is none.
+    Rules {
+        rule: Option<&'a str>,
+    },
+    Check {
+        format: Format,
+        file: Option<&'a str>,
+    },
+    /// The types are any if there is no name.
+    Why {
+        source: Option<&'a str>,
+        target: Option<&'a str>,
+        permission: &'a str,
+        file: Option<&'a str>,
+    },
+    /// The table has this version, 1 or 2; the dump is hexadecimal text; entries of zeros are told too; the lines are
+    /// those of a script, whose calls this domain makes.
+    Entries {
+        version: u8,
+        hex: bool,
+        all: bool,
+        script: Option<u16>,
+        file: Option<&'a str>,
+    },
+}

@@ -1,0 +1,197 @@
+//! What the words of a command line ask for.
+ghost use Rattle.std.specs.Prelude.{◌≡◌, IfOk, IfErr, map, drop, string_bytes};
+ghost use Rattle.std.specs.Option.{option_map};
+ghost use Rattle.clap.specs.Words.{subcommand_of, rows_of, found_of, first_of, kind_of};
+ghost use Rattle.clap.specs.declared.error.kind.ErrorKind.TheVariants.{InvalidValue, OutOfMemory};
+ghost use Rattle.gt_commands.specs.Usage.{is_true};
+ghost use Rattle.gt_commands.specs.Commands.{asked, asked_by_some, asked_named, check_with, entries_with, mode_of};
+ghost use Rattle.gt_commands.specs.Commands.{IsAnswerTo, IsPlanOf, gthost_app, read, why_with};
+
+use crate::invocation::{Format, Invocation, Mode};
+use crate::line::gthost_command;
+use crate::values::{format_of, script_of, type_of, version_of};
+use clap::error::ErrorKind;
+use clap::{ArgMatches, Error};
+use std::alloc::Global;
+
+// The command of this name.
+fn mode_of(name: &str) -> Option<Mode>
+    ensures { result ≡ mode_of name.now }
+{
+    if "play" == name {
+        Some(Mode::Play)
+    } else if "run" == name {
+        Some(Mode::Run)
+    } else if "policy" == name {
+        Some(Mode::Policy)
+    } else if "rules" == name {
+        Some(Mode::Rules)
+    } else if "check" == name {
+        Some(Mode::Check)
+    } else if "why" == name {
+        Some(Mode::Why)
+    } else if "entries" == name {
+        Some(Mode::Entries)
+    } else {
+        None
+    }
+}
+
+// The value that was given under a name.
+fn value_of<'a>(matches: &ArgMatches<'a>, id: &str) -> Option<&'a str>
+    ensures { option_map (λ v. v.now) result ≡ first_of id.now (rows_of (found_of matches.now)) }
+{
+    matches.get_str(id)
+}
+
+// Whether a flag was given.
+fn is_set(matches: &ArgMatches<'_>, id: &str) -> bool
+    ensures { result ≡ is_true (first_of id.now (rows_of (found_of matches.now))) }
+{
+    match value_of(matches, id) {
+        Some(text) => text == "true",
+        None => false,
+    }
+}
+
+fn check_with<'a>(format: Option<Format>, file: Option<&'a str>) -> Option<Invocation<'a>>
+    ensures { asked_by_some result ≡ check_with format (option_map (λ v. v.now) file.entry) }
+{
+    match format {
+        Some(format) => Some(Invocation::Check { format, file }),
+        None => None,
+    }
+}
+
+fn why_with<'a>(
+    source: Option<&'a str>,
+    target: Option<&'a str>,
+    permission: Option<&'a str>,
+    file: Option<&'a str>,
+) -> Option<Invocation<'a>>
+    ensures { asked_by_some result ≡ why_with (option_map (λ v. v.now) source.entry)
+        (option_map (λ v. v.now) target.entry) (option_map (λ v. v.now) permission.entry)
+        (option_map (λ v. v.now) file.entry) }
+{
+    match permission {
+        Some(permission) => Some(Invocation::Why {
+            source,
+            target,
+            permission,
+            file,
+        }),
+        None => None,
+    }
+}
+
+fn entries_with<'a>(
+    version: Option<u8>,
+    script: Option<Option<u16>>,
+    hex: bool,
+    all: bool,
+    file: Option<&'a str>,
+) -> Option<Invocation<'a>>
+    ensures { asked_by_some result ≡ entries_with version script hex all
+        (option_map (λ v. v.now) file.entry) }
+{
+    match (version, script) {
+        (Some(version), Some(script)) => Some(Invocation::Entries {
+            version,
+            hex,
+            all,
+            script,
+            file,
+        }),
+        _ => None,
+    }
+}
+
+// What the values of a command ask for, none if one of them is none that it takes.
+fn read<'a>(mode: Mode, matches: &ArgMatches<'a>) -> Option<Invocation<'a>>
+    ensures { asked_by_some result ≡ read mode (λ id. first_of id (rows_of (found_of matches.now))) }
+{
+    let file = value_of(matches, "file");
+    match mode {
+        Mode::Play => Some(Invocation::Play {
+            audit: is_set(matches, "audit"),
+            file,
+        }),
+        Mode::Run => Some(Invocation::Run {
+            audit: is_set(matches, "audit"),
+            file,
+        }),
+        Mode::Policy => Some(Invocation::Policy { file }),
+        Mode::Rules => Some(Invocation::Rules { rule: file }),
+        Mode::Check => check_with(format_of(value_of(matches, "format")), file),
+        Mode::Why => why_with(
+            type_of(value_of(matches, "source")),
+            type_of(value_of(matches, "target")),
+            value_of(matches, "permission"),
+            file,
+        ),
+        Mode::Entries => entries_with(
+            version_of(value_of(matches, "version")),
+            script_of(value_of(matches, "script")),
+            is_set(matches, "hex"),
+            is_set(matches, "all"),
+            file,
+        ),
+    }
+}
+
+// What the command of a name asks for.
+fn named<'a>(name: &str, matches: &ArgMatches<'a>) -> Option<Invocation<'a>>
+    ensures { asked_by_some result ≡ asked_named name.now (rows_of (found_of matches.now)) }
+{
+    match mode_of(name) {
+        Some(mode) => read(mode, matches),
+        None => None,
+    }
+}
+
+// The error for a value that an option does not take.
+fn value_error(alloc: Global, message: &str) -> Result<Error, Error>
+    ensures ok { IfOk result (λ e. kind_of e ≡ InvalidValue) }
+    ensures memory { IfErr result (λ e. kind_of e ≡ OutOfMemory) }
+{
+    let mut command = gthost_command(alloc)?;
+    let error = command.error(ErrorKind::InvalidValue, message)?;
+    Ok(error)
+}
+
+// What the options take of the command whose value is not taken.
+fn value_message(name: &str) -> &'static str {
+    if name == "check" {
+        "the value of --format is text or json"
+    } else {
+        "the value of --version is 1 or 2, and that of --script a number below 65536"
+    }
+}
+
+// What the command of a name asks for, or the error for a value that it does not take.
+#[tactic(auto, using(crate::proofs::Planned::planned_some, crate::proofs::Planned::planned_none))]
+fn planned<'a>(alloc: Global, name: &str, matches: &ArgMatches<'a>) -> Result<Invocation<'a>, Error>
+    ensures { IsAnswerTo (asked_named name.now (rows_of (found_of matches.now))) result }
+{
+    match named(name, matches) {
+        Some(invocation) => Ok(invocation),
+        None => match value_error(alloc, value_message(name)) {
+            Ok(error) => Err(error),
+            Err(error) => Err(error),
+        },
+    }
+}
+
+/// What the words of a command line, the program's name first, ask for. A line that asks for a command is refused only
+/// if memory is refused. Any other error prints as the help that was asked for, or as the text for standard error.
+pub fn plan<'a>(alloc: Global, words: &'a [String]) -> Result<Invocation<'a>, Error>
+    ensures answers { IsAnswerTo (asked (drop 1 (map string_bytes words.entry.now))) result }
+    ensures matches { IfOk result (λ p. IsPlanOf p (subcommand_of gthost_app (map string_bytes words.entry.now))) }
+{
+    let command = gthost_command(alloc)?;
+    let matches = command.try_get_matches_from(words)?;
+    match matches.subcommand() {
+        Some((name, matches)) => planned(alloc, name, matches),
+        None => unreachable!(),
+    }
+}

@@ -1,0 +1,56 @@
+//! The values of options.
+ghost use Rattle.std.specs.Prelude.{◌≡◌};
+ghost use Rattle.std.specs.Option.{option_map};
+ghost use Rattle.gt_commands.specs.Commands.{format_of, domain_of, script_of, type_of, version_of};
+
+use crate::invocation::Format;
+
+/// The format of this name; text where none is given.
+pub(crate) fn format_of(value: Option<&str>) -> Option<Format>
+    ensures { result ≡ format_of (option_map (λ v. v.now) value.entry) }
+{
+    match value {
+        None => Some(Format::Text),
+        Some("text") => Some(Format::Text),
+        Some("json") => Some(Format::Json),
+        Some(_) => None,
+    }
+}
+
+/// The type of this name; `-` is any.
+pub(crate) fn type_of<'a>(value: Option<&'a str>) -> Option<&'a str>
+    ensures { option_map (λ v. v.now) result ≡ type_of (option_map (λ v. v.now) value.entry) }
+{
+    value.filter(|name| *name != "-")
+}
+
+/// The version of a table.
+pub(crate) fn version_of(value: Option<&str>) -> Option<u8>
+    ensures { result ≡ version_of (option_map (λ v. v.now) value.entry) }
+{
+    match value {
+        Some("1") => Some(1),
+        Some("2") => Some(2),
+        _ => None,
+    }
+}
+
+// The number of a domain.
+fn domain_of(word: &str) -> Option<u16>
+    ensures { result ≡ domain_of word.now }
+{
+    match word.parse() {
+        Ok(number) => Some(number),
+        Err(_) => None,
+    }
+}
+
+/// The domain of a script, where one is given; none where the value is no number of a domain.
+pub(crate) fn script_of(value: Option<&str>) -> Option<Option<u16>>
+    ensures { result ≡ script_of (option_map (λ v. v.now) value.entry) }
+{
+    match value {
+        None => Some(None),
+        Some(word) => Some(Some(domain_of(word)?)),
+    }
+}
