@@ -2,14 +2,24 @@
  * gthost.h: the running monitor of grant tables, for a program in C or C++.
  *
  * Link with libgthost.a. Nothing here prints, waits, takes a lock, or ends the program. Memory comes from the
- * program's malloc, and only gthost_start, gthost_map (for its mapping) and a record that is kept take any.
+ * program's malloc. Only gthost_start, gthost_map (for its mapping), gthost_reserve_records and a record that is kept
+ * take any. The program keeps the guests' memory itself: the monitor says who may touch which bytes, and when.
+ *
+ * Units. A domain is the number of a domain of the run, or 0x7FF0 (DOMID_SELF) for the caller where a call names
+ * another. A reference is the place of an entry in its owner's table, from 0 on. A frame is the number of a page of
+ * 4,096 bytes of its owner's, from 0 on. Offsets and lengths are in bytes, and end by 4,096.
  *
  * Threads. A handle may be in one call at a time. The domains of one monitor may be used from different threads at
- * once. A handle goes to another thread by a lock, by the start or the join of a thread, or by an atomic.
+ * once. A handle goes to another thread by a lock, by the start or the join of a thread, or by a sequentially
+ * consistent atomic. No call comes from a signal's handler, or from the forked child of a process with threads.
+ * Each call writes its handle, and gthost_start writes them side by side. So threads had better move theirs to cache
+ * lines of their own: the bytes are copied once, and those of before are used no more.
  *
- * What a caller owes: pointers are valid, and a gthost_domain is all zeros or what gthost_start wrote. It is not
- * copied. All else is tested when a call is made: a wrong number is refused by a rule, and a handle of no domain is
- * answered GTHOST_NO_DOMAIN.
+ * What a caller owes: pointers are valid and not null, also where a length is 0, and a gthost_domain is all zeros or
+ * what gthost_start wrote. A domain has one handle. All else is tested when a call is made: a wrong number is refused by a
+ * rule, a handle of no domain is answered GTHOST_NO_DOMAIN, and one that is in a copy GTHOST_BUSY.
+ *
+ * After a refusal the domain's mappings, its pins and its table are as they were.
  */
 #ifndef GTHOST_H
 #define GTHOST_H
@@ -32,12 +42,12 @@ struct gthost_domain {
 struct gthost_settings {
     uint16_t id;           /* below 0x7FF0, and the number of no other domain */
     uint16_t label;        /* the number of its type in the policy, in the order of the declarations, from 0 on */
-    uint32_t frames;       /* how many frames of 4,096 bytes it has */
-    uint32_t table_frames; /* how many frames its grant table has, from 1 to 4 */
+    uint32_t frames;       /* how many frames of 4,096 bytes it has, from 1 to 64 */
+    uint32_t table_frames; /* how many frames its grant table has, from 1 to 16 */
     uint32_t version;      /* of its grant table: 1 or 2 */
 };
 
-/* Why a run did not start. */
+/* Why a run did not start. gthost_fault_text says each in words. */
 enum gthost_fault_kind {
     GTHOST_FAULT_NONE = 0,
     GTHOST_FAULT_MEMORY = 1,       /* memory was refused */
@@ -65,11 +75,24 @@ struct gthost_fault {
     uint32_t dom;  /* the domain at fault */
 };
 
-/* The rule of an answer: GTHOST_OK, 1 to 26 for the rules N1 to N26, or GTHOST_NO_DOMAIN. */
-enum { GTHOST_OK = 0, GTHOST_NO_DOMAIN = 256 };
+/*
+ * The rule of an answer: GTHOST_OK, 1 to 26 for the rules N1 to N26, or one of the others, by which the call was not
+ * made and nothing has changed.
+ */
+enum gthost_rule {
+    GTHOST_OK = 0,
+    GTHOST_NO_DOMAIN = 256, /* the handle has no domain */
+    GTHOST_BUSY = 257,      /* the domain is in a copy: only gthost_copy_end and gthost_finish may come */
+    GTHOST_NO_MEMORY = 258, /* memory was refused for records */
+    GTHOST_NO_COPY = 259,   /* the domain is in no copy that could end */
+    GTHOST_ABSENT = 260     /* there is no such mapping or record */
+};
 
-/* The flags of a map. */
+/* The flags of a map (GNTMAP_ of xen/grant_table.h: host_map, and readonly). */
 enum { GTHOST_MAP_WRITABLE = 2, GTHOST_MAP_READ_ONLY = 6 };
+
+/* The flags of a copy (GNTCOPY_ of xen/grant_table.h). */
+enum { GTHOST_COPY_SOURCE_GREF = 1, GTHOST_COPY_DEST_GREF = 2 };
 
 /* What an answer carries. */
 enum gthost_kind {
@@ -79,16 +102,29 @@ enum gthost_kind {
     GTHOST_VERSION = 3, /* Ok: the version `value` */
     GTHOST_SIZE = 4,    /* Ok: `value` frames of at most `more` */
     GTHOST_POLICY = 5,  /* refused: the policy denies the type `source` the permission `detail` (its bit) on `target` */
-    GTHOST_FIELD = 6,   /* refused: the field `detail` of the entry's bytes */
+    GTHOST_FIELD = 6,   /* refused: the field `detail` of the entry's bytes (enum gthost_field) */
     GTHOST_HEADER = 7,  /* refused: the header `word` of the domain `dom` */
     GTHOST_ENTRY = 8    /* refused: the control `word` of the entry `gref` of the domain `dom` */
 };
 
+/* The fields of an entry's bytes. */
+enum gthost_field {
+    GTHOST_FIELD_LENGTH = 1,
+    GTHOST_FIELD_KIND = 2,
+    GTHOST_FIELD_READING = 3,
+    GTHOST_FIELD_WRITING = 4,
+    GTHOST_FIELD_PWT = 5,
+    GTHOST_FIELD_PCD = 6,
+    GTHOST_FIELD_PAT = 7,
+    GTHOST_FIELD_SUB_PAGE = 8,
+    GTHOST_FIELD_RESERVED = 9
+};
+
 /* What a call answered. A field that says nothing is 0. No two outcomes have one answer. */
 struct gthost_answer {
-    uint32_t rule;
-    int32_t status; /* GNTST_ of xen/grant_table.h: 0, or below it */
-    uint32_t kind;  /* enum gthost_kind */
+    uint32_t rule;   /* enum gthost_rule, or 1 to 26 */
+    int32_t status;  /* GNTST_ of xen/grant_table.h: 0, or below it if a rule refused the call */
+    uint32_t kind;   /* enum gthost_kind */
     uint32_t dom;
     uint32_t gref;
     uint32_t source;
@@ -105,25 +141,97 @@ struct gthost_handle {
     size_t key;
 };
 
+/* What is mapped: the frame `frame` of `owner`, by its entry `gref`. It may be written if `writes` is 1. */
+struct gthost_mapping {
+    uint64_t frame;
+    uint32_t gref;
+    uint16_t owner;
+    uint16_t writes;
+};
+
+/* One end of a copy: by the flags a reference of the domain `dom`, or the number of a frame of the caller's own. */
+struct gthost_end {
+    uint64_t ptr;
+    uint16_t dom;
+    uint16_t off;
+};
+
+/* What a copy is asked. */
+struct gthost_copy {
+    struct gthost_end source;
+    struct gthost_end dest;
+    uint16_t len;
+    uint16_t flags; /* GTHOST_COPY_SOURCE_GREF and GTHOST_COPY_DEST_GREF, or'ed */
+};
+
+/* A place: the byte `off` of the frame `frame` of `owner`. */
+struct gthost_place {
+    uint64_t frame;
+    uint16_t owner;
+    uint16_t off;
+};
+
+/* What a copy may touch: `len` bytes, read from the one place and written to the other. */
+struct gthost_places {
+    struct gthost_place from;
+    struct gthost_place to;
+    uint16_t len;
+};
+
+/* What a record is of. */
+enum gthost_call {
+    GTHOST_CALL_MAP = 1,         /* of the entry `gref` of `dom`, with `flags` */
+    GTHOST_CALL_UNMAP = 2,       /* of a mapping of the entry `gref` of `dom` */
+    GTHOST_CALL_UNMAP_NONE = 3,  /* of a handle that names no mapping */
+    GTHOST_CALL_COPY = 4,        /* of `len` bytes from `source` to `dest`, with `flags` */
+    GTHOST_CALL_QUERY_SIZE = 5,  /* of the table of `dom` */
+    GTHOST_CALL_GET_VERSION = 6, /* of the table of `dom` */
+    GTHOST_CALL_SET_VERSION = 7, /* `flags` is the version */
+    GTHOST_CALL_SETUP_TABLE = 8  /* `flags` is how many frames */
+};
+
+/* The record of a call. A field that says nothing is 0. */
+struct gthost_record {
+    uint32_t call;   /* enum gthost_call */
+    uint32_t caller; /* the domain that called */
+    uint32_t dom;    /* as it was named, so 0x7FF0 for the caller */
+    uint32_t gref;
+    uint32_t flags;
+    uint32_t len;
+    struct gthost_end source;
+    struct gthost_end dest;
+    struct gthost_answer reply; /* what was answered; a map's handle is left out */
+};
+
 /*
- * Starts a run of `count` domains, whose entries begin at the generation `first_gen`, under the text of a policy. Each
- * of the `out_count` handles has to be all zeros, and there have to be `count` of them. Answers whether the run started. If not,
- * `fault` says why, and `out` is as it was. Pointers are not null, also where a length is 0.
+ * Starts a run of `count` domains, whose entries begin at the generation `first_gen`, under the text of a policy (the
+ * subset of FLASK's language that the repository's docs/FORMATS.md gives). Each of the `out_count` handles has to be
+ * all zeros, and there have to be `count` of them: the first one gets the first domain, and so on. Answers whether the
+ * run started. If not, `fault` says why, and `out` is as it was.
  */
 bool gthost_start(const struct gthost_settings *settings, size_t count, uint32_t first_gen, const uint8_t *policy,
                   size_t policy_len, struct gthost_domain *out, size_t out_count, struct gthost_fault *fault);
 
 /*
- * The domain leaves its run: its mappings and their pins are given up, and the handle is all zeros again. The last
- * domain of a run frees the monitor. Answers how many records were lost; 0 for a handle of no domain.
+ * Writes what a kind of fault means to the `len` bytes at `out`, as far as it fits, with no 0 at the end. Answers how
+ * long the whole text is.
+ */
+size_t gthost_fault_text(uint32_t kind, uint8_t *out, size_t len);
+
+/*
+ * The domain leaves its run: its copy is ended if it is in one, its mappings and their pins are given up, and the
+ * handle is all zeros again. The last domain of a run frees the monitor. Answers how many records were lost; 0 for a
+ * handle of no domain. The records that it kept are gone: gthost_record reads them before.
  */
 uint64_t gthost_finish(struct gthost_domain *domain);
 
 /* Publish an entry in place of an invalid one. Refused by N9, N19, N20, N21, N22 (and N25 for bytes). */
 void gthost_grant_page(struct gthost_domain *domain, uint32_t gref, uint16_t to, uint64_t frame, uint32_t ro,
                        struct gthost_answer *answer);
+/* For copies only: `len` bytes from the byte `off` on. In a table of version 2. */
 void gthost_grant_sub(struct gthost_domain *domain, uint32_t gref, uint16_t to, uint64_t frame, uint16_t off,
                       uint16_t len, uint32_t ro, struct gthost_answer *answer);
+/* For copies only, by the entry `ref2` of the domain `dom2`. In a table of version 2. */
 void gthost_grant_via(struct gthost_domain *domain, uint32_t gref, uint16_t to, uint16_t dom2, uint32_t ref2,
                       uint32_t ro, struct gthost_answer *answer);
 /* `bytes` is an entry as a guest writes it: 8 bytes in a table of version 1, 16 in one of version 2. */
@@ -139,11 +247,28 @@ void gthost_demote(struct gthost_domain *domain, uint32_t gref, struct gthost_an
 /* Makes an entry of its own writable. N9, N10, N18, N22. */
 void gthost_promote(struct gthost_domain *domain, uint32_t gref, struct gthost_answer *answer);
 
-/* Maps an entry of a domain. N1, N2, N5, N8 to N13, N16 to N18, N26. Mappings and pins are as they were then. */
+/* Maps an entry of a domain. N1, N2, N5, N8 to N13, N16 to N18, N26. */
 void gthost_map(struct gthost_domain *domain, uint16_t dom, uint32_t gref, uint32_t flags,
                 struct gthost_answer *answer);
 /* Gives a mapping up. N5, N6. */
 void gthost_unmap(struct gthost_domain *domain, struct gthost_handle name, struct gthost_answer *answer);
+/*
+ * The mapping of this name, until whose unmap the domain may touch the frame. GTHOST_ABSENT if it is none of the
+ * domain's; then `mapping` is as it was.
+ */
+void gthost_mapping(struct gthost_domain *domain, struct gthost_handle name, struct gthost_mapping *mapping,
+                    struct gthost_answer *answer);
+
+/*
+ * Begins a copy: its pins are taken, and `places` says what may be touched until gthost_copy_end. Until then every
+ * other call on this handle is GTHOST_BUSY, but gthost_finish, which ends the copy. Not promised: that the program
+ * touches just these bytes, and only until the end. Refused by the rules of a copy (N1, N5, N9 to N18, N26), no pin is
+ * kept, and `places` is as it was.
+ */
+void gthost_copy_begin(struct gthost_domain *domain, const struct gthost_copy *copy, struct gthost_places *places,
+                       struct gthost_answer *answer);
+/* Ends it: the pins are given back, the last one first. GTHOST_NO_COPY if there is none. */
+void gthost_copy_end(struct gthost_domain *domain, struct gthost_answer *answer);
 
 /* Gives its table this version, 1 or 2, while all its entries are invalid. N2, N24. */
 void gthost_set_version(struct gthost_domain *domain, uint32_t version, struct gthost_answer *answer);
@@ -153,6 +278,17 @@ void gthost_setup_table(struct gthost_domain *domain, uint32_t frames, struct gt
 void gthost_query_size(struct gthost_domain *domain, uint16_t dom, struct gthost_answer *answer);
 /* The version of the table of a domain. N1, N5. */
 void gthost_get_version(struct gthost_domain *domain, uint16_t dom, struct gthost_answer *answer);
+
+/*
+ * The record at a place, counted from 0, of the domain's calls in order: maps, unmaps, copies, queries, versions and
+ * setups. GTHOST_ABSENT past the last one; then `record` is as it was.
+ */
+void gthost_record(struct gthost_domain *domain, size_t index, struct gthost_record *record,
+                   struct gthost_answer *answer);
+/* From now on a record is kept only while there are fewer than so many, and else lost; with 0 none is kept. */
+void gthost_keep_at_most(struct gthost_domain *domain, size_t records, struct gthost_answer *answer);
+/* Makes room for so many more records, which then take no memory. GTHOST_NO_MEMORY if memory is refused. */
+void gthost_reserve_records(struct gthost_domain *domain, size_t records, struct gthost_answer *answer);
 
 #ifdef __cplusplus
 }

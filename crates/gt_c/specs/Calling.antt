@@ -1,39 +1,166 @@
--- What an answer says of the call that an export made.
-use Rattle.std.specs.Prelude.{◌≡◌, ℕ, Bool, Option, Some, None, Result, Ok, Err}
+-- What an export answers, of the call that it made.
+use Rattle.std.specs.Prelude.{◌≡◌, ◌≤◌, ◌⊎◌, ℕ, Bool, Option, Some, None, IsSome, Result, Ok, Err, OnOk, OnErr}
 use Rattle.gt_types.specs.declared.GrantRef.{GrantRef}
+use Rattle.gt_types.specs.declared.DomId.{DomId}
+use Rattle.gt_types.specs.declared.Memory.{Memory}
+use Rattle.gt_types.specs.declared.Size.{Size}
 use Rattle.gt_types.specs.declared.TypeId.{TypeId}
 use Rattle.gt_types.specs.declared.perms.Perms.{Perms}
 use Rattle.gt_types.specs.declared.denial.Denial.{Denial}
 use Rattle.gt_allow.specs.Looking.{Table, looks}
-use Rattle.gt_live.specs.Domains.{Answered, verdict_of}
+use Rattle.gt_audit.specs.declared.record.Hypercall.{Hypercall}
+use Rattle.gt_audit.specs.declared.record.Record.{Record as Kept}
+use Rattle.gt_audit.specs.Telling.{Tells}
+use Rattle.gt_calls.specs.declared.action.Verdict.{Verdict}
+use Rattle.gt_calls.specs.declared.held.Held.{Held as Mapped}
 use Rattle.gt_calls.specs.declared.request.Request.{Request}
+use Rattle.gt_handles.specs.declared.handles.Handle.{Handle as Name}
+use Rattle.gt_handles.specs.Handles.{value_of}
+use Rattle.gt_live.specs.declared.domain.Domain.{Domain}
+use Rattle.gt_live.specs.declared.domain.Left.{Left}
+use Rattle.gt_live.specs.Domains.{Answered, HasLeft, KeepsPinned, MapAnswered, mapping_reply, subject_of, told_of}
+use Rattle.gt_live.specs.Domains.{verdict_of, verdict_of_frames, verdict_of_size, verdict_of_version}
+use Rattle.gt_live.specs.Mappings.{Removes}
 use Rattle.gt_seat.specs.Encoding.{encoded}
+use Rattle.gt_seat.specs.Seated.{Ends, Seated, StaysIdle}
 use Rattle.gt_seat.specs.declared.answer.Answer.{Answer}
 use Rattle.gt_seat.specs.declared.answer.Outcome.{Outcome}
-use Rattle.gt_seat.specs.declared.answer.Outcome.TheVariants.{Done, Denied}
+use Rattle.gt_seat.specs.declared.answer.Outcome.TheVariants as outcomes
 use Rattle.gt_c.specs.declared.here.Here.{Here}
 
--- what a compiled policy allows
+-- whose type may do what to whose, in a compiled policy (own)
 abbrev pub may : Table → TypeId → TypeId → Perms → Bool
 may table source target perm = looks table source.0 target.0 perm
 
--- a handle has a domain before and after a call, of which this holds; or it has none, before and after
-abbrev pub Between : Option Here → Option Here → (Here → Here → Type 0) → Type 0
-Between (Some d) (Some e) Q = Q d e
-Between (Some d) None Q = ⊥
-Between None after Q = after ≡ None
+-- the handle was not taken, stays as it was, and the answer says why: it has no domain, or one that is in a copy (own)
+abbrev pub TurnedAway : Option Here → Option Here → Answer → Type 0
+TurnedAway None after answer = (after ≡ None) × (answer ≡ encoded outcomes.NoDomain)
+TurnedAway (Some d) after answer =
+    (after ≡ Some d) × IsSome d.guest.copying × (answer ≡ encoded outcomes.Busy)
 
--- the outcome of a call without a value
+-- a handle's domain was taken for a call, or the handle was turned away (own)
+abbrev pub Enters : Option Here → Option Here → Answer → Option Here → Type 0
+Enters before after answer None = TurnedAway before after answer
+Enters before after answer (Some d) = (before ≡ Some d) × (after ≡ None) × (d.guest.copying ≡ None)
+
+-- a call was made on the handle's domain, which was in no copy: the handle has it afterwards, and this holds of it
+-- before and after (own)
+pub record Made (before after : Option Here) (Holds : Here → Here → Type 0) : Type 0 where
+  pub was : Here
+  pub is : Here
+  pub before_is : before ≡ Some was
+  pub after_is : after ≡ Some is
+  pub idle : was.guest.copying ≡ None
+  pub holds : Holds was is
+
+-- the handle was turned away, or the call was made (own)
+abbrev pub Calls : Option Here → Option Here → Answer → (Here → Here → Type 0) → Type 0
+Calls before after answer Holds = TurnedAway before after answer ⊎ Made before after Holds
+
+-- the outcomes of a call without a value, and of calls with one (own)
 abbrev pub outcome : Result (Unit {0}) Denial → Outcome
-outcome (Ok done) = Done
-outcome (Err denial) = Denied denial
+outcome (Ok done) = outcomes.Done
+outcome (Err denial) = outcomes.Denied denial
 
--- the answer says how this request of the handle's domain was answered, on the monitor that it has
-abbrev pub Says : Request → Answer → Here → Here → Type 0
-Says request answer d e =
-    (r : Result (Unit {0}) Denial) × (answer ≡ encoded (outcome r))
-    × Answered may d.guest.0 d.guest.1 request (verdict_of r) e.guest.1 × (e.guest.0 ≡ d.guest.0)
+abbrev pub outcome_mapped : Result Name Denial → Outcome
+outcome_mapped (Ok handle) = outcomes.Mapped handle
+outcome_mapped (Err denial) = outcomes.Denied denial
 
--- the reference of this number
+abbrev pub outcome_frames : Result ℕ Denial → Outcome
+outcome_frames (Ok frames) = outcomes.Frames frames
+outcome_frames (Err denial) = outcomes.Denied denial
+
+abbrev pub outcome_version : Result ℕ Denial → Outcome
+outcome_version (Ok version) = outcomes.Version version
+outcome_version (Err denial) = outcomes.Denied denial
+
+abbrev pub outcome_size : Result Size Denial → Outcome
+outcome_size (Ok size) = outcomes.Size size
+outcome_size (Err denial) = outcomes.Denied denial
+
+-- the answer encodes a result, of which this holds; the domain keeps its monitor, and is in no copy (own)
+pub record Says {R : Type 0} (said : Result R Denial → Outcome) (Holds : Result R Denial → Type 0) (answer : Answer)
+    (d e : Here) : Type 0 where
+  pub result : Result R Denial
+  pub encodes : answer ≡ encoded (said result)
+  pub stays : StaysIdle d.guest e.guest
+  pub holds : Holds result
+
+-- this request of the domain was answered so, by the steps of its path; mappings, pins and records are as before (own)
+abbrev pub SaysDone : Request → Answer → Here → Here → Type 0
+SaysDone request answer d e =
+    Says outcome (λ r. Answered may d.guest.monitor d.guest.domain request (verdict_of r) e.guest.domain
+    × KeepsPinned d.guest.domain e.guest.domain × (e.guest.domain.trail ≡ d.guest.domain.trail)) answer d e
+
+-- the same of a call that is recorded, whose result gives this verdict (own)
+abbrev pub SaysTold : {R : Type 0} → (Result R Denial → Outcome) → (Result R Denial → Verdict) → Request → Hypercall
+    → Answer → Here → Here → Type 0
+SaysTold said verdict request call answer d e =
+    Says said (λ r. Answered may d.guest.monitor d.guest.domain request (verdict r) e.guest.domain
+    × KeepsPinned d.guest.domain e.guest.domain
+    × Tells d.guest.domain.trail (told_of d.guest.domain call (verdict r)) e.guest.domain.trail) answer d e
+
+-- the record of a map (own)
+abbrev pub map_told : Domain → Hypercall → Result Name Denial → Kept
+map_told d call r = record { dom = d.seat.dom; call = call; reply = mapping_reply r }
+
+-- the same of a map, whose mapping is kept (own)
+abbrev pub SaysMapped : Request → Hypercall → Answer → Here → Here → Type 0
+SaysMapped request call answer d e =
+    Says outcome_mapped (λ r. MapAnswered may d.guest.monitor d.guest.domain request r e.guest.domain
+    × Tells d.guest.domain.trail (map_told d.guest.domain call r) e.guest.domain.trail) answer d e
+
+-- the same of an unmap, whose mapping is gone (own)
+abbrev pub SaysUnmapped : Request → (Option (DomId × GrantRef) → Hypercall) → Name → Answer → Here → Here → Type 0
+SaysUnmapped request call name answer d e =
+    Says outcome (λ r. Answered may d.guest.monitor d.guest.domain request (verdict_of r) e.guest.domain
+    × OnOk r ((p : Mapped) × Removes d.guest.domain.mappings e.guest.domain.mappings name p)
+    × OnErr r (KeepsPinned d.guest.domain e.guest.domain)
+    × Tells d.guest.domain.trail (told_of d.guest.domain (call (subject_of d.guest.domain name)) (verdict_of r))
+    e.guest.domain.trail) answer d e
+
+-- it keeps at most so many records from now on, and nothing else changed (own)
+abbrev pub KeepsAtMost : ℕ → Answer → Here → Here → Type 0
+KeepsAtMost most answer d e =
+    (answer ≡ encoded outcomes.Done) × StaysIdle d.guest e.guest
+    × (e.guest.domain ≡ record d.guest.domain { trail = record d.guest.domain.trail { most = most } })
+
+-- the outcome of a call that takes memory (own)
+abbrev pub outcome_reserved : Result (Unit {0}) Memory → Outcome
+outcome_reserved (Ok done) = outcomes.Done
+outcome_reserved (Err refused) = outcomes.NoMemory
+
+-- there is room for so many records if the answer is Ok, and nothing else changed (own)
+pub record Reserves (records : ℕ) (answer : Answer) (d e : Here) : Type 0 where
+  pub result : Result (Unit {0}) Memory
+  pub encodes : answer ≡ encoded (outcome_reserved result)
+  pub stays : StaysIdle d.guest e.guest
+  pub room : OnOk result (records ≤ e.guest.domain.trail.room)
+  pub kept : e.guest.domain ≡ record d.guest.domain {
+    trail =
+        record d.guest.domain.trail { room = e.guest.domain.trail.room };
+  }
+
+-- the guest is in no copy; or it was in one, which was ended (own)
+abbrev pub Settles : Seated Table → Seated Table → Type 0
+Settles s t = (((s.copying ≡ None) × (t ≡ s))) ⊎ Ends s t
+
+-- the domain left the run, after the end of its copy if it was in one, and so many of its records were lost (own)
+pub record Leaves (s : Seated Table) (lost : ℕ) : Type 0 where
+  pub settled : Seated Table
+  pub settles : Settles s settled
+  pub left : Left
+  pub leaves : HasLeft settled.monitor.words.layout settled.domain left
+  pub lost_is : lost ≡ left.trail.lost
+
+-- the domain of a handle left; or the handle had none (own)
+abbrev pub Finishes : Option Here → Option Here → ℕ → Type 0
+Finishes None after lost = (after ≡ None) × (lost ≡ 0)
+Finishes (Some d) after lost = (after ≡ None) × Leaves d.guest lost
+
+-- the reference of this number, and the domain (own)
 abbrev pub at : ℕ → GrantRef
 at gref = record { 0 = gref }
+
+abbrev pub dom_of : ℕ → DomId
+dom_of dom = record { 0 = dom }

@@ -1,2 +1,4 @@
+pub mod Asking
 pub mod Calling
 pub mod Owning
+pub mod Telling

@@ -1,11 +1,15 @@
 //! How a run starts, and how a domain leaves it.
+ghost use Rattle.std.specs.Prelude.{◌≡◌, true, false};
+ghost use Rattle.gt_c.specs.Calling.{Finishes, Leaves};
+ghost use Rattle.gt_c.specs.Telling.{no_fault};
 
+use crate::faults::{Fault, HANDLES, MEMORY, config_fault, fault_at, policy_fault};
 use crate::handle::Handle;
 use crate::here::Here;
 use gt_allow::AllowTable;
-use gt_policy::{Policy, PolicyFault, PolicyFaultKind};
+use gt_policy::Policy;
 use gt_seat::{Guest, start};
-use gt_types::{Config, ConfigFault, DomId, DomainConfig, StartFault, TypeId};
+use gt_types::{Config, DomId, DomainConfig, TypeId};
 use std::alloc::{AllocError, Global};
 
 /// A domain of a run to start.
@@ -17,68 +21,6 @@ pub struct DomainSettings {
     pub frames: u32,
     pub table_frames: u32,
     pub version: u32,
-}
-
-/// Why a run did not start.
-#[repr(C)]
-#[derive(Clone, Copy)]
-pub struct Fault {
-    /// 0: none. 1 memory; 2 the handles; 3 to 9 the policy; 10 to 17 the configuration.
-    pub kind: u32,
-    /// The line of the policy that is at fault, from 1 on.
-    pub line: u32,
-    /// The domain that is at fault.
-    pub dom: u32,
-}
-
-fn fault_at(kind: u32, line: u32, dom: DomId) -> Fault {
-    Fault {
-        kind,
-        line,
-        dom: u32::from(dom.0),
-    }
-}
-
-const MEMORY: Fault = Fault {
-    kind: 1,
-    line: 0,
-    dom: 0,
-};
-
-// The handles are not as many as the domains, or one of them has a domain.
-const HANDLES: Fault = Fault {
-    kind: 2,
-    line: 0,
-    dom: 0,
-};
-
-fn policy_fault(refused: PolicyFault) -> Fault {
-    let nobody = DomId(0);
-    match refused.kind {
-        PolicyFaultKind::Syntax => fault_at(3, refused.line, nobody),
-        PolicyFaultKind::Unknown(_) => fault_at(4, refused.line, nobody),
-        PolicyFaultKind::Twice(_) => fault_at(5, refused.line, nobody),
-        PolicyFaultKind::Permission(_) => fault_at(6, refused.line, nobody),
-        PolicyFaultKind::Outside(_) => fault_at(7, refused.line, nobody),
-        PolicyFaultKind::Limit => fault_at(8, refused.line, nobody),
-        PolicyFaultKind::Memory => MEMORY,
-    }
-}
-
-fn config_fault(refused: StartFault) -> Fault {
-    match refused {
-        StartFault::Memory => MEMORY,
-        StartFault::Config(config) => match config {
-            ConfigFault::NoDomains => fault_at(10, 0, DomId(0)),
-            ConfigFault::TooMany(id) => fault_at(11, 0, id),
-            ConfigFault::Id(id) => fault_at(12, 0, id),
-            ConfigFault::Repeated(id) => fault_at(13, 0, id),
-            ConfigFault::Frames(id) => fault_at(14, 0, id),
-            ConfigFault::TableFrames(id) => fault_at(15, 0, id),
-            ConfigFault::Version(id) => fault_at(16, 0, id),
-            ConfigFault::Generation => fault_at(17, 0, DomId(0)),
-        },
-    }
 }
 
 fn configured(
@@ -156,8 +98,8 @@ fn hand_out(alloc: Global, all: Vec<Box<Here>>, out: &mut [Handle]) {
     }
 }
 
-/// Starts a run of these domains, in order, under a policy's text. Each handle of `out` has to be one of none, and there
-/// have to be as many as domains. Answers whether the run started; if not, `fault` says why, and `out` is as it was.
+/// Starts a run of these domains, in order, under a policy's text. Each handle of `out` has to be one of none, and
+/// there have to be as many as domains. Answers whether the run started; if not, `fault` says why, and `out` is as it was.
 #[unsafe(no_mangle)]
 pub extern "C" fn gthost_start(
     alloc: Global,
@@ -166,7 +108,10 @@ pub extern "C" fn gthost_start(
     policy: &[u8],
     out: &mut [Handle],
     fault: &mut Fault,
-) -> bool {
+) -> bool
+    ensures started { result ≡ true → fault.new ≡ no_fault }
+    ensures untouched { result ≡ false → out.new ≡ out.old }
+{
     if out.len() != settings.len() || out.iter().any(|handle| handle.is_live) {
         *fault = HANDLES;
         return false;
@@ -188,13 +133,26 @@ pub extern "C" fn gthost_start(
     }
 }
 
+// The domain leaves, after the end of its copy if it is in one. Answers how many records were lost.
+fn leave(mut guest: Guest<AllowTable>) -> u64
+    ensures { Leaves guest result }
+{
+    if guest.is_copying() {
+        guest.copy_end();
+        return guest.finish().lost();
+    }
+    guest.finish().lost()
+}
+
 /// The domain leaves its run: its mappings and their pins are given up, and the handle is one of none. The last one
 /// frees the monitor. Answers how many records were lost, 0 for a handle of none.
 #[unsafe(no_mangle)]
-pub extern "C" fn gthost_finish(alloc: Global, domain: &mut Handle) -> u64 {
+pub extern "C" fn gthost_finish(alloc: Global, domain: &mut Handle) -> u64
+    ensures { Finishes domain.old.held.value domain.new.held.value result }
+{
     let Some(here) = domain.take(alloc) else {
         return 0;
     };
     let here = Box::into_inner(here);
-    here.guest.finish().lost()
+    leave(here.guest)
 }

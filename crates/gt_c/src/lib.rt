@@ -1,23 +1,27 @@
 //! The running monitor for a program in C: one export for each call of a domain that waits for nobody.
 //!
-//! `include/gthost.h` declares all of it. A [`Handle`] stands for a domain, or for none if it is all zeros. A call takes
-//! the domain out of its handle, makes the call of `gt_seat` on it, puts it back, and writes an [`Answer`]. It takes no
-//! memory for that.
+//! `include/gthost.h` declares all of it. A [`Handle`] stands for a domain, or for none if it is all zeros. A call
+//! takes the domain out of its handle, makes the call of `gt_seat` on it, puts it back, and writes an `Answer`. It
+//! takes no memory for that.
 //!
-//! What holds: every call is safe and ends. Revoke, withdraw, demote, promote and set_version make just the call of their
-//! name on the handle's domain, and the answer is the encoding of its outcome; the other exports have no clause yet. C
-//! owes only what the types say: pointers are valid, a handle is zeros or what [`gthost_start`] wrote, and is in one call
-//! at a time.
+//! What holds: every call is safe and ends. Each makes just the call of its name, with its own arguments, on its
+//! handle's domain, and the answer is the encoding of that call's outcome; or the handle has no domain, or one in a
+//! copy, and the answer says so. A copy that began holds its pins until it ends. C owes only what the types say:
+//! pointers are valid, a handle is zeros or what `gthost_start` wrote, and is in one call at a time.
 //!
-//! It uses `gt_seat`, `gt_allow` and `gt_policy` (rights), `gt_calls`, `gt_entry` and `gt_types`.
+//! It uses `gt_seat`, `gt_allow` and `gt_policy` (rights), `gt_audit` (records), `gt_calls`, `gt_entry`, `gt_handles`
+//! and `gt_types`.
 #![tactic(auto)]
 
 mod beginning;
 mod calls;
+mod copies;
+mod faults;
 mod handle;
 mod held;
 mod here;
 mod parts;
+mod telling;
 
 pub use calls::MapHandle;
 pub use handle::Handle;

@@ -15,7 +15,7 @@ use Rattle.gt_types.specs.declared.Use.TheVariants.{Copy as ForCopy}
 use Rattle.gt_types.specs.declared.denial.Denial.{Denial}
 use Rattle.gt_types.specs.Names.{copy as copying, domain_of, resolved}
 use Rattle.gt_entry.specs.Permits.{permits}
-use Rattle.gt_words.specs.Conditions.{SeatOf}
+use Rattle.gt_words.specs.Conditions.{KeepsPins, SeatOf}
 use Rattle.gt_words.specs.Rule.{Layout}
 use Rattle.gt_words.specs.Views.{IsIn}
 use Rattle.gt_words.specs.declared.view.View.{View}
@@ -134,18 +134,25 @@ may-copy c caller a pins opens source dest =
       beyond-source c caller (is_source_granted a) a Read a.len pins.source (named_by caller pins.dest) _ source to (beyond-dest c caller (is_dest_granted a) a.dest Write a.len pins.source pins.dest dest),
     )
 
+-- a copy that came to its access and gave its pins back is whole
+pub whole-copy : (c : CallerKnowledge) (k : Layout) (call : Call) (from to : Place) (len : ℕ) (v mid w : View) → AtAccess c k call from to len v mid → GivesBack k (pins_by_call call) mid w
+    → Accessed k (path c call.caller call.request) (CopyBytes from to len) v w × KeepsPins v w
+whole-copy c k call from to len v mid w a g =
+    let way = path c call.caller call.request in
+    let ends : Called k (onward way (shown a.comes.steps ++ Nothing ∷ [])) Granted mid w =
+    subst (λ (y : Continuation). Called k y Granted mid w) (sym a.ends)
+    (record { steps = g.steps; view = g.view; walked = g.walked; moments = walk-moments k (give_back (last_first (pins_by_call call)) Granted) mid g.steps g.walked; answered = g.ended; carried = tt }) in (
+      record { at = mid; comes = a.comes; ends = ends; only = only-access k way (CopyBytes from to len) v mid w a.comes ends },
+      (g.back v a.taken).pins,
+    )
+
 -- a copy that came to its access and gave its pins back
 pub made-whole : (c : CallerKnowledge) (k : Layout) (call : Call) (from to : Place) (len : ℕ) (v mid w : View) (way : Continuation) (writer : DomId) (result : Result Copying Denial) → AtAccess c k call from to len v mid → GivesBack k (pins_by_call call) mid w → way ≡ path c call.caller call.request
     → IfOk result (λ (r : Copying). r ≡ copying_at (spot_of from) (spot_of to) len writer) → IfErr result IsOfAccess → AnsweredBy k way (IsCopiedBy writer) result v w
 made-whole c k call from to len v mid w way writer result a g same ok err = subst (λ (y : Continuation). AnsweredBy k y (IsCopiedBy writer) result v w) (sym same) (by result ok err)
   where
     whole : Accessed k (path c call.caller call.request) (CopyBytes from to len) v w
-    whole =
-        let way = path c call.caller call.request in
-        let ends : Called k (onward way (shown a.comes.steps ++ Nothing ∷ [])) Granted mid w =
-        subst (λ (y : Continuation). Called k y Granted mid w) (sym a.ends)
-        (record { steps = g.steps; view = g.view; walked = g.walked; moments = walk-moments k (give_back (last_first (pins_by_call call)) Granted) mid g.steps g.walked; answered = g.ended; carried = tt }) in
-        record { at = mid; comes = a.comes; ends = ends; only = only-access k way (CopyBytes from to len) v mid w a.comes ends }
+    whole = (whole-copy c k call from to len v mid w a g).0
 
     by : (r : Result Copying Denial) → IfOk r (λ (x : Copying). x ≡ copying_at (spot_of from) (spot_of to) len writer) → IfErr r IsOfAccess → AnsweredBy k (path c call.caller call.request) (IsCopiedBy writer) r v w
     by (Ok r) o e = (CopyBytes from to len, whole, o)

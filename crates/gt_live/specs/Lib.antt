@@ -10,3 +10,4 @@ pub mod Rows
 pub mod Domains
 pub mod Starting
 pub mod Tries
+pub mod Halves

@@ -17,6 +17,7 @@ mod copies;
 
 use crate::driving::{Effect, Finished, drive, drive_map, pin_of};
 use crate::monitor::Monitor;
+pub use copies::Halfway;
 use gt_access::{Refused, Run, read_by, write_by};
 use gt_audit::{Hypercall, Record, Reply, Trail};
 use gt_calls::{

@@ -20,6 +20,6 @@ mod laws;
 mod monitor;
 mod start;
 
-pub use domain::{Domain, Left};
-pub use laws::{every_change_makes_four_tries, every_leg_makes_four_tries};
+pub use domain::{Domain, Halfway, Left};
+pub use laws::{every_change_makes_four_tries, every_leg_makes_four_tries, two_halves_make_a_copy};
 pub use monitor::Monitor;

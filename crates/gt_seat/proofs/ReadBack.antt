@@ -12,7 +12,8 @@ use Rattle.gt_types.specs.declared.denial.Field.{Field}
 use Rattle.gt_types.specs.declared.denial.Field.TheVariants as fields
 use Rattle.gt_types.specs.Denial.{rule_number, status_number}
 use Rattle.gt_seat.specs.declared.answer.Outcome.{Outcome}
-use Rattle.gt_seat.specs.declared.answer.Outcome.TheVariants.{Done, Mapped, Frames, Version, Size, Denied, NoDomain}
+use Rattle.gt_seat.specs.declared.answer.Outcome.TheVariants.{Done, Mapped, Frames, Version, Size, Denied}
+use Rattle.gt_seat.specs.declared.answer.Outcome.TheVariants.{NoDomain, Busy, NoMemory, NoCopy, Absent}
 use Rattle.gt_seat.specs.Encoding.{encoded, field_number}
 use Rattle.gt_seat.specs.Decoding.{AnswersAreReadBack, decoded, field_named, rule_named, status_named}
 
@@ -43,7 +44,9 @@ same : (r : Rule) (s : Status) (f g : Facts) → f ≡ g
 same r s f g e = λ i. Denied (record { rule = r; status = named_status s i; facts = e i })
 
 denied : (r : Rule) (s : Status) (f g : Facts) (x : Outcome) → f ≡ g
-    → (if rule_number r == 256 then NoDomain else if rule_number r == 0 then x else
+    → (if rule_number r == 256 then NoDomain else if rule_number r == 257 then Busy else
+    if rule_number r == 258 then NoMemory else if rule_number r == 259 then NoCopy else
+    if rule_number r == 260 then Absent else if rule_number r == 0 then x else
     Denied (record { rule = rule_named (rule_number r); status = status_named (status_number s); facts = f }))
     ≡ Denied (record { rule = r; status = s; facts = g })
 denied N1 s f g x e = same N1 s f g e
@@ -91,3 +94,7 @@ read_back (Version version) = refl
 read_back (Size size) = refl
 read_back (Denied d) = read_refusal d.rule d.status d.facts
 read_back NoDomain = refl
+read_back Busy = refl
+read_back NoMemory = refl
+read_back NoCopy = refl
+read_back Absent = refl

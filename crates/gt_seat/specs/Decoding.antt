@@ -11,7 +11,8 @@ use Rattle.gt_types.specs.declared.denial.Field.{Field}
 use Rattle.gt_types.specs.declared.denial.Field.TheVariants as fields
 use Rattle.gt_seat.specs.declared.answer.Answer.{Answer}
 use Rattle.gt_seat.specs.declared.answer.Outcome.{Outcome}
-use Rattle.gt_seat.specs.declared.answer.Outcome.TheVariants.{Done, Mapped, Frames, Version, Size as SizeOf, Denied, NoDomain}
+use Rattle.gt_seat.specs.declared.answer.Outcome.TheVariants.{Done, Mapped, Frames, Version, Size as SizeOf, Denied}
+use Rattle.gt_seat.specs.declared.answer.Outcome.TheVariants.{NoDomain, Busy, NoMemory, NoCopy, Absent}
 use Rattle.gt_seat.specs.Encoding.{encoded}
 
 -- the rule of this number, the last one if there is none
@@ -97,6 +98,10 @@ given_in a =
 abbrev pub decoded : Answer → Outcome
 decoded a =
     if a.rule == 256 then NoDomain else
+    if a.rule == 257 then Busy else
+    if a.rule == 258 then NoMemory else
+    if a.rule == 259 then NoCopy else
+    if a.rule == 260 then Absent else
     if a.rule == 0 then given_in a else
     Denied (record { rule = rule_named a.rule; status = status_named a.status; facts = facts_in a })
 

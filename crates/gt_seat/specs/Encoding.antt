@@ -13,7 +13,8 @@ use Rattle.gt_types.specs.declared.denial.Field.TheVariants as fields
 use Rattle.gt_types.specs.Denial.{rule_number, status_number}
 use Rattle.gt_seat.specs.declared.answer.Answer.{Answer}
 use Rattle.gt_seat.specs.declared.answer.Outcome.{Outcome}
-use Rattle.gt_seat.specs.declared.answer.Outcome.TheVariants.{Done, Mapped, Frames, Version, Size as SizeOf, Denied, NoDomain}
+use Rattle.gt_seat.specs.declared.answer.Outcome.TheVariants.{Done, Mapped, Frames, Version, Size as SizeOf, Denied}
+use Rattle.gt_seat.specs.declared.answer.Outcome.TheVariants.{NoDomain, Busy, NoMemory, NoCopy, Absent}
 
 -- the number of a field of an entry's bytes
 abbrev pub field_number : Field → ℕ
@@ -70,3 +71,7 @@ encoded (Version version) = given 3 version 0
 encoded (SizeOf size) = given 4 size.frames size.max
 encoded (Denied denial) = refusal denial
 encoded NoDomain = bare 256 (pos 0)
+encoded Busy = bare 257 (pos 0)
+encoded NoMemory = bare 258 (pos 0)
+encoded NoCopy = bare 259 (pos 0)
+encoded Absent = bare 260 (pos 0)

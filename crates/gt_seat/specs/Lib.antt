@@ -1,2 +1,4 @@
 pub mod Decoding
 pub mod Encoding
+pub mod Recording
+pub mod Seated

@@ -1,6 +1,6 @@
 //! An answer, in a layout that C reads.
-ghost use Rattle.std.specs.Prelude.{◌≡◌};
-ghost use Rattle.gt_seat.specs.Encoding.{encoded, field_number, given, refusal};
+ghost use Rattle.std.specs.Prelude.{◌≡◌, pos};
+ghost use Rattle.gt_seat.specs.Encoding.{bare, encoded, field_number, given, refusal};
 ghost use Rattle.gt_seat.specs.Decoding.{AnswersAreReadBack};
 
 use bitflags::Flags;
@@ -24,13 +24,22 @@ pub enum Outcome {
     Denied(Denial),
     /// The handle stands for no domain: the call was not made.
     NoDomain,
+    /// The domain is in a copy: the call was not made.
+    Busy,
+    /// Memory was refused, and nothing has changed.
+    NoMemory,
+    /// The domain is in no copy that could end.
+    NoCopy,
+    /// There is no such mapping or record.
+    Absent,
 }
 
 /// What a call answered, in a layout that C reads. A field that says nothing is 0.
 #[repr(C)]
 #[derive(Clone, Copy)]
 pub struct Answer {
-    /// 0 if the call is Ok, the number of the rule from 1 to 26 if it is refused, or [`NO_DOMAIN`].
+    /// 0 if the call is Ok, the number of the rule from 1 to 26 if it is refused, or else one of [`NO_DOMAIN`],
+    /// [`BUSY`], [`NO_MEMORY`], [`NO_COPY`] and [`ABSENT`].
     pub rule: u32,
     /// The status of the public header `grant_table.h`: 0, or below it.
     pub status: i32,
@@ -57,6 +66,18 @@ pub struct Answer {
 
 /// The rule of an answer to a call that was not made.
 pub const NO_DOMAIN: u32 = 256;
+
+/// The rule of an answer to a call that was not made, since the domain is in a copy.
+pub const BUSY: u32 = 257;
+
+/// The rule of an answer to a call that memory was refused.
+pub const NO_MEMORY: u32 = 258;
+
+/// The rule of an answer to the end of a copy, if there is none.
+pub const NO_COPY: u32 = 259;
+
+/// The rule of an answer that a mapping or a record would be told by, if there is none.
+pub const ABSENT: u32 = 260;
 
 const DONE: Answer = Answer {
     rule: 0,
@@ -87,6 +108,13 @@ fn field_number(field: Field) -> u32
         Field::SubPage => 8,
         Field::Reserved => 9,
     }
+}
+
+// An answer that only has a rule.
+fn by_rule(rule: u32) -> Answer
+    ensures { result ≡ bare rule (pos 0) }
+{
+    Answer { rule, ..DONE }
 }
 
 // A refusal.
@@ -159,10 +187,11 @@ impl Answer {
             Outcome::Version(version) => given(3, u64::from(version), 0),
             Outcome::Size(size) => given(4, u64::from(size.frames), u64::from(size.max)),
             Outcome::Denied(denial) => refusal(denial),
-            Outcome::NoDomain => Answer {
-                rule: NO_DOMAIN,
-                ..DONE
-            },
+            Outcome::NoDomain => by_rule(NO_DOMAIN),
+            Outcome::Busy => by_rule(BUSY),
+            Outcome::NoMemory => by_rule(NO_MEMORY),
+            Outcome::NoCopy => by_rule(NO_COPY),
+            Outcome::Absent => by_rule(ABSENT),
         }
     }
 }

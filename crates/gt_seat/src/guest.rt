@@ -1,44 +1,68 @@
 //! A domain beside its monitor.
 ghost use Rattle.std.specs.Prelude.{◌≡◌};
 ghost use Rattle.gt_live.specs.Domains.{IsOf};
+ghost use Rattle.gt_seat.specs.Seated.{StandsBy};
 
-use gt_calls::{Handle, Held};
+use gt_audit::Record;
+use gt_calls::{CopyArgs, Handle, Held, Place};
 use gt_entry::Entry;
-use gt_live::{Domain, Left, Monitor};
+use gt_live::{Domain, Halfway, Left, Monitor};
 use gt_types::{Allows, Denial, DomId, GrantRef, Memory, Size};
 use std::alloc::Global;
 use std::marker::Model;
 use std::sync::Arc;
 
-/// A domain beside an owner of its monitor. It leaves the run if it is let go. A contract sees the monitor and the
-/// domain.
+/// Where a copy at its access may read and write: so many bytes from the one place to the other.
+#[derive(Clone, Copy)]
+pub struct Places {
+    pub from: Place,
+    pub to: Place,
+    pub len: u16,
+}
+
+/// A domain beside an owner of its monitor, and the copy that it is in, if it is in one. It leaves the run if it is let
+/// go. A contract sees these three.
 pub struct Guest<P: Allows + Drop> {
     monitor: Arc<Monitor<P>, Global>,
     domain: Domain,
+    copying: Option<Halfway>,
+}
+
+// Gives back the pins of the copy that the domain is in, if it is in one.
+fn settle<P: Allows>(monitor: &Monitor<P>, domain: &mut Domain, copying: Option<Halfway>)
+    requires { StandsBy P.may monitor.now domain.old copying }
+    ensures { IsOf P.may monitor.now domain.new }
+{
+    if let Some(halfway) = copying {
+        domain.copy_end(monitor, halfway);
+    }
 }
 
 impl<P: Allows + Drop> Model for Guest<P> {
     ghost use Rattle.std.specs.Arc.{arc_value};
-    ghost use Rattle.gt_live.specs.Domains.{IsOf};
-    ghost use Rattle.gt_live.specs.declared.domain.Domain.{Domain};
-    ghost use Rattle.gt_live.specs.declared.monitor.Monitor.{Monitor};
+    ghost use Rattle.gt_seat.specs.Seated.{Seated, StandsBy};
 
-    ghost Value = { Monitor P × Domain };
+    ghost Value = { Seated P };
 
-    ghost view = { λ g. (arc_value g.monitor, g.domain) };
+    ghost view = { λ g. record { monitor = arc_value g.monitor; domain = g.domain; copying = g.copying } };
 
-    ghost invariant = { λ g. IsOf P.may (arc_value g.monitor) g.domain };
+    ghost invariant = { λ g. StandsBy P.may (arc_value g.monitor) g.domain g.copying };
 }
 
 impl<P: Allows + Drop> Drop for Guest<P> {
     fn drop(self) {
-        let Guest { monitor, domain } = self;
+        let Guest {
+            monitor,
+            mut domain,
+            copying,
+        } = self;
+        settle(&monitor, &mut domain, copying);
         let _ = domain.finish(&monitor);
     }
 }
 
 impl<P: Allows + Drop> Guest<P> {
-    ghost use Rattle.std.specs.Prelude.{◌≡◌, ◌≤◌, OnOk, OnErr};
+    ghost use Rattle.std.specs.Prelude.{◌≡◌, ◌≤◌, IsSome, None, OnOk, OnErr, is_some};
     ghost use Rattle.gt_audit.specs.Telling.{Tells};
     ghost use Rattle.gt_audit.specs.declared.record.Hypercall.TheVariants as Hypercall;
     ghost use Rattle.gt_calls.specs.declared.held.Held.{Held as Mapping};
@@ -48,14 +72,20 @@ impl<P: Allows + Drop> Guest<P> {
     ghost use Rattle.gt_live.specs.Domains.{verdict_of_version};
     ghost use Rattle.gt_live.specs.Mappings.{Removes};
     ghost use Rattle.gt_handles.specs.Handles.{value_of};
+    ghost use Rattle.gt_seat.specs.Seated.{Begins, Ends, StaysIdle};
+    ghost use Rattle.std.specs.List.{slice_get};
     ghost use Rattle.std.specs.Arc.{arc_value};
 
     /// The domain beside its monitor.
     pub(crate) fn new(monitor: Arc<Monitor<P>, Global>, domain: Domain) -> Self
         requires { IsOf P.may (arc_value monitor) domain }
-        ensures { result ≡ (arc_value monitor, domain) }
+        ensures { result ≡ record { monitor = arc_value monitor; domain = domain; copying = None } }
     {
-        Guest { monitor, domain }
+        Guest {
+            monitor,
+            domain,
+            copying: None,
+        }
     }
 
     /// Publishes an entry in place of an invalid one.
@@ -63,10 +93,12 @@ impl<P: Allows + Drop> Guest<P> {
     /// # Errors
     /// N9, N20, N21, N22 or N19.
     pub fn grant(&mut self, gref: GrantRef, entry: &Entry) -> Result<(), Denial>
-        ensures monitor { self.new.0 ≡ self.old.0 }
-        ensures answered { Answered P.may self.old.0 self.old.1 (Request.Grant gref entry.now) (verdict_of result) self.new.1 }
-        ensures kept { KeepsPinned self.old.1 self.new.1 }
-        ensures silent { self.new.1.trail ≡ self.old.1.trail }
+        requires idle { self.old.copying ≡ None }
+        ensures stays { StaysIdle self.old self.new }
+        ensures answered { Answered P.may self.old.monitor self.old.domain
+            (Request.Grant gref entry.now) (verdict_of result) self.new.domain }
+        ensures kept { KeepsPinned self.old.domain self.new.domain }
+        ensures silent { self.new.domain.trail ≡ self.old.domain.trail }
     {
         self.domain.grant(&self.monitor, gref, entry)
     }
@@ -76,10 +108,12 @@ impl<P: Allows + Drop> Guest<P> {
     /// # Errors
     /// N9, N20, N22, N25 or N19.
     pub fn grant_bytes(&mut self, gref: GrantRef, bytes: &[u8]) -> Result<(), Denial>
-        ensures monitor { self.new.0 ≡ self.old.0 }
-        ensures answered { Answered P.may self.old.0 self.old.1 (Request.GrantBytes gref bytes.entry) (verdict_of result) self.new.1 }
-        ensures kept { KeepsPinned self.old.1 self.new.1 }
-        ensures silent { self.new.1.trail ≡ self.old.1.trail }
+        requires idle { self.old.copying ≡ None }
+        ensures stays { StaysIdle self.old self.new }
+        ensures answered { Answered P.may self.old.monitor self.old.domain
+            (Request.GrantBytes gref bytes.entry) (verdict_of result) self.new.domain }
+        ensures kept { KeepsPinned self.old.domain self.new.domain }
+        ensures silent { self.new.domain.trail ≡ self.old.domain.trail }
     {
         self.domain.grant_bytes(&self.monitor, gref, bytes)
     }
@@ -89,10 +123,12 @@ impl<P: Allows + Drop> Guest<P> {
     /// # Errors
     /// N9, N10 or N19.
     pub fn revoke(&mut self, gref: GrantRef) -> Result<(), Denial>
-        ensures monitor { self.new.0 ≡ self.old.0 }
-        ensures answered { Answered P.may self.old.0 self.old.1 (Request.Revoke gref) (verdict_of result) self.new.1 }
-        ensures kept { KeepsPinned self.old.1 self.new.1 }
-        ensures silent { self.new.1.trail ≡ self.old.1.trail }
+        requires idle { self.old.copying ≡ None }
+        ensures stays { StaysIdle self.old self.new }
+        ensures answered { Answered P.may self.old.monitor self.old.domain
+            (Request.Revoke gref) (verdict_of result) self.new.domain }
+        ensures kept { KeepsPinned self.old.domain self.new.domain }
+        ensures silent { self.new.domain.trail ≡ self.old.domain.trail }
     {
         self.domain.revoke(&self.monitor, gref)
     }
@@ -102,10 +138,12 @@ impl<P: Allows + Drop> Guest<P> {
     /// # Errors
     /// N9, N10 or N18.
     pub fn withdraw(&mut self, gref: GrantRef) -> Result<(), Denial>
-        ensures monitor { self.new.0 ≡ self.old.0 }
-        ensures answered { Answered P.may self.old.0 self.old.1 (Request.Withdraw gref) (verdict_of result) self.new.1 }
-        ensures kept { KeepsPinned self.old.1 self.new.1 }
-        ensures silent { self.new.1.trail ≡ self.old.1.trail }
+        requires idle { self.old.copying ≡ None }
+        ensures stays { StaysIdle self.old self.new }
+        ensures answered { Answered P.may self.old.monitor self.old.domain
+            (Request.Withdraw gref) (verdict_of result) self.new.domain }
+        ensures kept { KeepsPinned self.old.domain self.new.domain }
+        ensures silent { self.new.domain.trail ≡ self.old.domain.trail }
     {
         self.domain.withdraw(&self.monitor, gref)
     }
@@ -115,10 +153,12 @@ impl<P: Allows + Drop> Guest<P> {
     /// # Errors
     /// N9, N10, N22, N18 or N19.
     pub fn demote(&mut self, gref: GrantRef) -> Result<(), Denial>
-        ensures monitor { self.new.0 ≡ self.old.0 }
-        ensures answered { Answered P.may self.old.0 self.old.1 (Request.Demote gref) (verdict_of result) self.new.1 }
-        ensures kept { KeepsPinned self.old.1 self.new.1 }
-        ensures silent { self.new.1.trail ≡ self.old.1.trail }
+        requires idle { self.old.copying ≡ None }
+        ensures stays { StaysIdle self.old self.new }
+        ensures answered { Answered P.may self.old.monitor self.old.domain
+            (Request.Demote gref) (verdict_of result) self.new.domain }
+        ensures kept { KeepsPinned self.old.domain self.new.domain }
+        ensures silent { self.new.domain.trail ≡ self.old.domain.trail }
     {
         self.domain.demote(&self.monitor, gref)
     }
@@ -128,10 +168,12 @@ impl<P: Allows + Drop> Guest<P> {
     /// # Errors
     /// N9, N10, N22 or N18.
     pub fn promote(&mut self, gref: GrantRef) -> Result<(), Denial>
-        ensures monitor { self.new.0 ≡ self.old.0 }
-        ensures answered { Answered P.may self.old.0 self.old.1 (Request.Promote gref) (verdict_of result) self.new.1 }
-        ensures kept { KeepsPinned self.old.1 self.new.1 }
-        ensures silent { self.new.1.trail ≡ self.old.1.trail }
+        requires idle { self.old.copying ≡ None }
+        ensures stays { StaysIdle self.old self.new }
+        ensures answered { Answered P.may self.old.monitor self.old.domain
+            (Request.Promote gref) (verdict_of result) self.new.domain }
+        ensures kept { KeepsPinned self.old.domain self.new.domain }
+        ensures silent { self.new.domain.trail ≡ self.old.domain.trail }
     {
         self.domain.promote(&self.monitor, gref)
     }
@@ -141,11 +183,13 @@ impl<P: Allows + Drop> Guest<P> {
     /// # Errors
     /// N2 or N24.
     pub fn set_version(&mut self, version: u32) -> Result<(), Denial>
-        ensures monitor { self.new.0 ≡ self.old.0 }
-        ensures answered { Answered P.may self.old.0 self.old.1 (Request.SetVersion version) (verdict_of result) self.new.1 }
-        ensures kept { KeepsPinned self.old.1 self.new.1 }
-        ensures told { Tells self.old.1.trail
-            (told_of self.old.1 (Hypercall.SetVersion version) (verdict_of result)) self.new.1.trail }
+        requires idle { self.old.copying ≡ None }
+        ensures stays { StaysIdle self.old self.new }
+        ensures answered { Answered P.may self.old.monitor self.old.domain
+            (Request.SetVersion version) (verdict_of result) self.new.domain }
+        ensures kept { KeepsPinned self.old.domain self.new.domain }
+        ensures told { Tells self.old.domain.trail
+            (told_of self.old.domain (Hypercall.SetVersion version) (verdict_of result)) self.new.domain.trail }
     {
         self.domain.set_version(&self.monitor, version)
     }
@@ -155,11 +199,13 @@ impl<P: Allows + Drop> Guest<P> {
     /// # Errors
     /// N5 or N23.
     pub fn setup_table(&mut self, frames: u32) -> Result<u32, Denial>
-        ensures monitor { self.new.0 ≡ self.old.0 }
-        ensures answered { Answered P.may self.old.0 self.old.1 (Request.SetupTable frames) (verdict_of_frames result) self.new.1 }
-        ensures kept { KeepsPinned self.old.1 self.new.1 }
-        ensures told { Tells self.old.1.trail
-            (told_of self.old.1 (Hypercall.SetupTable frames) (verdict_of_frames result)) self.new.1.trail }
+        requires idle { self.old.copying ≡ None }
+        ensures stays { StaysIdle self.old self.new }
+        ensures answered { Answered P.may self.old.monitor self.old.domain
+            (Request.SetupTable frames) (verdict_of_frames result) self.new.domain }
+        ensures kept { KeepsPinned self.old.domain self.new.domain }
+        ensures told { Tells self.old.domain.trail
+            (told_of self.old.domain (Hypercall.SetupTable frames) (verdict_of_frames result)) self.new.domain.trail }
     {
         self.domain.setup_table(&self.monitor, frames)
     }
@@ -169,11 +215,13 @@ impl<P: Allows + Drop> Guest<P> {
     /// # Errors
     /// N1 or N5.
     pub fn query_size(&mut self, dom: DomId) -> Result<Size, Denial>
-        ensures monitor { self.new.0 ≡ self.old.0 }
-        ensures answered { Answered P.may self.old.0 self.old.1 (Request.QuerySize dom) (verdict_of_size result) self.new.1 }
-        ensures kept { KeepsPinned self.old.1 self.new.1 }
-        ensures told { Tells self.old.1.trail
-            (told_of self.old.1 (Hypercall.QuerySize dom) (verdict_of_size result)) self.new.1.trail }
+        requires idle { self.old.copying ≡ None }
+        ensures stays { StaysIdle self.old self.new }
+        ensures answered { Answered P.may self.old.monitor self.old.domain
+            (Request.QuerySize dom) (verdict_of_size result) self.new.domain }
+        ensures kept { KeepsPinned self.old.domain self.new.domain }
+        ensures told { Tells self.old.domain.trail
+            (told_of self.old.domain (Hypercall.QuerySize dom) (verdict_of_size result)) self.new.domain.trail }
     {
         self.domain.query_size(&self.monitor, dom)
     }
@@ -183,11 +231,13 @@ impl<P: Allows + Drop> Guest<P> {
     /// # Errors
     /// N1 or N5.
     pub fn get_version(&mut self, dom: DomId) -> Result<u32, Denial>
-        ensures monitor { self.new.0 ≡ self.old.0 }
-        ensures answered { Answered P.may self.old.0 self.old.1 (Request.GetVersion dom) (verdict_of_version result) self.new.1 }
-        ensures kept { KeepsPinned self.old.1 self.new.1 }
-        ensures told { Tells self.old.1.trail
-            (told_of self.old.1 (Hypercall.GetVersion dom) (verdict_of_version result)) self.new.1.trail }
+        requires idle { self.old.copying ≡ None }
+        ensures stays { StaysIdle self.old self.new }
+        ensures answered { Answered P.may self.old.monitor self.old.domain
+            (Request.GetVersion dom) (verdict_of_version result) self.new.domain }
+        ensures kept { KeepsPinned self.old.domain self.new.domain }
+        ensures told { Tells self.old.domain.trail
+            (told_of self.old.domain (Hypercall.GetVersion dom) (verdict_of_version result)) self.new.domain.trail }
     {
         self.domain.get_version(&self.monitor, dom)
     }
@@ -197,11 +247,13 @@ impl<P: Allows + Drop> Guest<P> {
     /// # Errors
     /// N1, N2, N5, N8 to N13, N16 to N18, or N26. Mappings and pins are as they were.
     pub fn map(&mut self, dom: DomId, gref: GrantRef, flags: u32) -> Result<Handle, Denial>
-        ensures monitor { self.new.0 ≡ self.old.0 }
-        ensures answered { MapAnswered P.may self.old.0 self.old.1 (Request.Map dom gref flags) result self.new.1 }
-        ensures told { Tells self.old.1.trail
-            (record { dom = self.old.1.seat.dom; call = Hypercall.Map dom gref flags; reply = mapping_reply result })
-            self.new.1.trail }
+        requires idle { self.old.copying ≡ None }
+        ensures stays { StaysIdle self.old self.new }
+        ensures answered { MapAnswered P.may self.old.monitor self.old.domain
+            (Request.Map dom gref flags) result self.new.domain }
+        ensures told { Tells self.old.domain.trail
+            (record { dom = self.old.domain.seat.dom; call = Hypercall.Map dom gref flags; reply = mapping_reply result })
+            self.new.domain.trail }
     {
         self.domain.map(&self.monitor, dom, gref, flags)
     }
@@ -211,29 +263,34 @@ impl<P: Allows + Drop> Guest<P> {
     /// # Errors
     /// N6 or N5, and mappings and pins are as they were.
     pub fn unmap(&mut self, handle: Handle) -> Result<(), Denial>
-        ensures monitor { self.new.0 ≡ self.old.0 }
-        ensures answered { Answered P.may self.old.0 self.old.1 (Request.Unmap handle) (verdict_of result) self.new.1 }
+        requires idle { self.old.copying ≡ None }
+        ensures stays { StaysIdle self.old self.new }
+        ensures answered { Answered P.may self.old.monitor self.old.domain
+            (Request.Unmap handle) (verdict_of result) self.new.domain }
         ensures removed { OnOk result ((p : Mapping)
-            × Removes self.old.1.mappings self.new.1.mappings handle p) }
-        ensures refused { OnErr result (KeepsPinned self.old.1 self.new.1) }
-        ensures told { Tells self.old.1.trail
-            (told_of self.old.1 (Hypercall.Unmap (subject_of self.old.1 handle)) (verdict_of result))
-            self.new.1.trail }
+            × Removes self.old.domain.mappings self.new.domain.mappings handle p) }
+        ensures refused { OnErr result (KeepsPinned self.old.domain self.new.domain) }
+        ensures told { Tells self.old.domain.trail
+            (told_of self.old.domain (Hypercall.Unmap (subject_of self.old.domain handle)) (verdict_of result))
+            self.new.domain.trail }
     {
         self.domain.unmap(&self.monitor, handle)
     }
 
     /// The mapping under a handle, None if the handle names none of its mappings.
     pub fn mapping(&self, handle: Handle) -> Option<Held>
-        ensures { result ≡ value_of self.now.1.mappings handle }
+        requires idle { self.now.copying ≡ None }
+        ensures { result ≡ value_of self.now.domain.mappings handle }
     {
         self.domain.mapping(&self.monitor, handle)
     }
 
     /// From now on it keeps a record only while it has fewer than so many; with 0 its calls are not recorded at all.
     pub fn keep_at_most(&mut self, records: usize)
-        ensures monitor { self.new.0 ≡ self.old.0 }
-        ensures bound { self.new.1 ≡ record self.old.1 { trail = record self.old.1.trail { most = records } } }
+        requires idle { self.old.copying ≡ None }
+        ensures stays { StaysIdle self.old self.new }
+        ensures bound { self.new.domain
+            ≡ record self.old.domain { trail = record self.old.domain.trail { most = records } } }
     {
         self.domain.keep_at_most(records);
     }
@@ -243,21 +300,82 @@ impl<P: Allows + Drop> Guest<P> {
     /// # Errors
     /// `Memory`, and what it keeps stays.
     pub fn reserve_records(&mut self, records: usize) -> Result<(), Memory>
-        ensures monitor { self.new.0 ≡ self.old.0 }
-        ensures room { OnOk result (records ≤ self.new.1.trail.room) }
-        ensures kept { self.new.1 ≡ record self.old.1 {
+        requires idle { self.old.copying ≡ None }
+        ensures stays { StaysIdle self.old self.new }
+        ensures room { OnOk result (records ≤ self.new.domain.trail.room) }
+        ensures kept { self.new.domain ≡ record self.old.domain {
           trail =
-              record self.old.1.trail { room = self.new.1.trail.room };
+              record self.old.domain.trail { room = self.new.domain.trail.room };
         } }
     {
         self.domain.reserve_records(records)
     }
 
+    /// The record of its calls at this place, counted from 0.
+    pub fn record_at(&self, index: usize) -> Option<Record>
+        ensures { result ≡ slice_get self.now.domain.trail.records index }
+    {
+        self.domain.trail().records().get(index).copied()
+    }
+
+    /// How many records were lost so far.
+    pub fn lost(&self) -> u64
+        ensures { result ≡ self.now.domain.trail.lost }
+    {
+        self.domain.trail().lost()
+    }
+
+    /// Whether it is in a copy.
+    pub fn is_copying(&self) -> bool
+        ensures { result ≡ is_some self.now.copying }
+    {
+        self.copying.is_some()
+    }
+
+    /// Begins a copy: takes its pins, and tells the two places that may now be touched. Until `copy_end` it is in this
+    /// copy. That just these bytes are moved is for the caller.
+    ///
+    /// # Errors
+    /// The first rule that stands. Then no pin is kept.
+    pub fn copy_begin(&mut self, copy: &CopyArgs) -> Result<Places, Denial>
+        requires idle { self.old.copying ≡ None }
+        ensures begins { Begins P.may self.old copy.now result self.new }
+    {
+        match self.domain.copy_begin(&self.monitor, copy) {
+            Ok(halfway) => {
+                self.copying = Some(halfway);
+                Ok(Places {
+                    from: halfway.from,
+                    to: halfway.to,
+                    len: halfway.len,
+                })
+            }
+            Err(denial) => Err(denial),
+        }
+    }
+
+    /// Ends the copy that it is in: its pins are given back, the last one first.
+    pub fn copy_end(&mut self)
+        requires copying { IsSome self.old.copying }
+        ensures ends { Ends self.old self.new }
+    {
+        let copying = self.copying;
+        if let Some(halfway) = copying {
+            self.domain.copy_end(&self.monitor, halfway);
+            self.copying = None;
+        }
+    }
+
     /// Leaves the run: each of its mappings is given up, and its pin back.
     pub fn finish(self) -> Left
-        ensures left { HasLeft self.0.words.layout self.1 result }
+        requires idle { self.copying ≡ None }
+        ensures left { HasLeft self.monitor.words.layout self.domain result }
     {
-        let Guest { monitor, domain } = self;
+        let Guest {
+            monitor,
+            domain,
+            copying: _,
+        } = self;
         domain.finish(&monitor)
     }
 }

@@ -4,16 +4,19 @@
 //! them share. A guest needs no monitor in its calls, leaves the run if it is let go, and the last one frees the
 //! monitor. [`Answer`] is what a call answered, in a layout that C reads.
 //!
-//! What holds: each call promises what the call of `gt_live` promises, on the guest's own monitor. An [`Answer`] says
-//! all that the call answered, since it is read back as it was. None of these calls waits.
+//! What holds: each call promises what the call of `gt_live` promises, on the guest's own monitor. A copy in two halves
+//! holds its pins from the one to the other. An [`Answer`] says all that the call answered, since it is read back as it
+//! was. None of these calls waits.
 //!
 //! It uses `gt_live`, `gt_calls` (handles), `gt_entry` (entries) and `gt_types`.
 #![tactic(auto)]
 
 mod answer;
 mod guest;
+mod record;
 mod starting;
 
 pub use answer::{Answer, Outcome, answers_are_read_back};
-pub use guest::Guest;
+pub use guest::{Guest, Places};
+pub use record::{CopyEnd, Record};
 pub use starting::start;

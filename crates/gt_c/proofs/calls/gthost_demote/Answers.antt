@@ -1,19 +1,19 @@
-use Rattle.std.proofs.Common.{ap, subst, ◌∙◌}
-use Rattle.gt_calls.specs.declared.request.Request.TheVariants.{Demote}
-use Rattle.gt_live.specs.Domains.{Answered, verdict_of}
+use Rattle.std.proofs.Common.{ap, ◌∙◌}
 use Rattle.gt_seat.specs.Encoding.{encoded}
-use Rattle.gt_c.specs.Calling.{Says, at, may}
-use Rattle.gt_c.specs.declared.here.Here.{Here}
-use Rattle.gt_c.proofs.Between.{between}
+use Rattle.gt_calls.specs.declared.request.Request.TheVariants as requests
+use Rattle.gt_c.specs.Calling.{SaysDone, at}
+use Rattle.gt_c.proofs.Made.{idle-there, made}
 use Rattle.gt_c.proofs.calls.gthost_demote.Goals as goal
+
+pub demote-requires : goal.demote-requires
+demote-requires c = record { idle = idle-there c.deref_mut.ensures.value c.in-Some.ensures.2 }
 
 pub returns : goal.returns
 returns c =
-    let was = c.deref_mut.ensures.value in
-    let answered = subst (λ (x : Here). Answered may x.guest.0 x.guest.1 (Demote (at c.args.gref)) (verdict_of c.demote.result) c.demote.new.self.1)
-    was c.demote.ensures.answered in
-    record {
-      answered =
-          between (Says (Demote (at c.args.gref)) c.of-2.result) c.in-Some.ensures.taken c.put.ensures.1
-          (c.demote.result, c.of-2.ensures ∙ ap encoded c.done.ensures, answered, c.demote.ensures.monitor ∙ ap (λ (x : Here). x.guest.0) was);
-    }
+    made c.of.result (SaysDone (requests.Demote (at c.args.gref)) c.of.result) c.deref_mut.ensures.value c.in-Some.ensures.0 c.put.ensures.1 c.in-Some.ensures.2
+    (record {
+      result = c.demote.result;
+      encodes = c.of.ensures ∙ ap encoded c.done.ensures;
+      stays = c.demote.ensures.stays;
+      holds = (c.demote.ensures.answered, c.demote.ensures.kept, c.demote.ensures.silent);
+    })

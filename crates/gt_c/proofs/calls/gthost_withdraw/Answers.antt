@@ -1,19 +1,19 @@
-use Rattle.std.proofs.Common.{ap, subst, ◌∙◌}
-use Rattle.gt_calls.specs.declared.request.Request.TheVariants.{Withdraw}
-use Rattle.gt_live.specs.Domains.{Answered, verdict_of}
+use Rattle.std.proofs.Common.{ap, ◌∙◌}
 use Rattle.gt_seat.specs.Encoding.{encoded}
-use Rattle.gt_c.specs.Calling.{Says, at, may}
-use Rattle.gt_c.specs.declared.here.Here.{Here}
-use Rattle.gt_c.proofs.Between.{between}
+use Rattle.gt_calls.specs.declared.request.Request.TheVariants as requests
+use Rattle.gt_c.specs.Calling.{SaysDone, at}
+use Rattle.gt_c.proofs.Made.{idle-there, made}
 use Rattle.gt_c.proofs.calls.gthost_withdraw.Goals as goal
+
+pub withdraw-requires : goal.withdraw-requires
+withdraw-requires c = record { idle = idle-there c.deref_mut.ensures.value c.in-Some.ensures.2 }
 
 pub returns : goal.returns
 returns c =
-    let was = c.deref_mut.ensures.value in
-    let answered = subst (λ (x : Here). Answered may x.guest.0 x.guest.1 (Withdraw (at c.args.gref)) (verdict_of c.withdraw.result) c.withdraw.new.self.1)
-    was c.withdraw.ensures.answered in
-    record {
-      answered =
-          between (Says (Withdraw (at c.args.gref)) c.of-2.result) c.in-Some.ensures.taken c.put.ensures.1
-          (c.withdraw.result, c.of-2.ensures ∙ ap encoded c.done.ensures, answered, c.withdraw.ensures.monitor ∙ ap (λ (x : Here). x.guest.0) was);
-    }
+    made c.of.result (SaysDone (requests.Withdraw (at c.args.gref)) c.of.result) c.deref_mut.ensures.value c.in-Some.ensures.0 c.put.ensures.1 c.in-Some.ensures.2
+    (record {
+      result = c.withdraw.result;
+      encodes = c.of.ensures ∙ ap encoded c.done.ensures;
+      stays = c.withdraw.ensures.stays;
+      holds = (c.withdraw.ensures.answered, c.withdraw.ensures.kept, c.withdraw.ensures.silent);
+    })

@@ -1,0 +1,26 @@
+-- What C asks, as the monitor knows it.
+use Rattle.std.specs.Prelude.{ℕ, Bool, true, false, ◌==◌, if◌then◌else◌}
+use Rattle.gt_entry.specs.declared.entry.Entry.{Entry}
+use Rattle.gt_entry.specs.declared.entry.Entry.TheVariants.{Page, Sub, Via}
+use Rattle.gt_handles.specs.declared.handles.Handle.{Handle as Name}
+use Rattle.gt_c.specs.declared.calls.MapHandle.{MapHandle}
+
+-- the name of a mapping (own)
+abbrev pub name_of : MapHandle → Name
+name_of name = record { serial = name.serial; key = name.key }
+
+-- for reading only, if the number is not 0 (own)
+abbrev pub reads_only : ℕ → Bool
+reads_only ro = if ro == 0 then false else true
+
+-- a page (grant_table.h)
+abbrev pub page : ℕ → ℕ → ℕ → Entry
+page to frame ro = Page (record { 0 = to }) (reads_only ro) frame
+
+-- bytes of a page (grant_table.h, sub-page)
+abbrev pub sub : ℕ → ℕ → ℕ → ℕ → ℕ → Entry
+sub to frame off len ro = Sub (record { 0 = to }) (reads_only ro) frame off len
+
+-- another grant (grant_table.h, transitive)
+abbrev pub via : ℕ → ℕ → ℕ → ℕ → Entry
+via to dom2 gref ro = Via (record { 0 = to }) (reads_only ro) (record { 0 = dom2 }) (record { 0 = gref })

@@ -1,0 +1,104 @@
+-- What exports tell in layouts of C: the places of a copy, a mapping, a record.
+use Rattle.std.specs.Prelude.{◌≡◌, ◌⊎◌, ℕ, List, Option, Some, None, Result, Ok, Err}
+use Rattle.std.specs.List.{slice_get}
+use Rattle.gt_types.specs.declared.Dir.{Dir}
+use Rattle.gt_types.specs.declared.Dir.TheVariants.{Read, Write}
+use Rattle.gt_types.specs.declared.denial.Denial.{Denial}
+use Rattle.gt_audit.specs.declared.record.Record.{Record as Kept}
+use Rattle.gt_calls.specs.declared.action.Place.{Place}
+use Rattle.gt_calls.specs.declared.held.Held.{Held as Mapped}
+use Rattle.gt_calls.specs.declared.request.CopyArgs.{CopyArgs}
+use Rattle.gt_calls.specs.declared.request.End.{End}
+use Rattle.gt_entry.specs.Entries.{frame_of}
+use Rattle.gt_handles.specs.declared.handles.Handle.{Handle as Name}
+use Rattle.gt_handles.specs.Handles.{value_of}
+use Rattle.gt_seat.specs.Encoding.{encoded}
+use Rattle.gt_seat.specs.Recording.{recorded}
+use Rattle.gt_seat.specs.Seated.{Begins, Ends}
+use Rattle.gt_seat.specs.declared.answer.Answer.{Answer}
+use Rattle.gt_seat.specs.declared.answer.Outcome.{Outcome}
+use Rattle.gt_seat.specs.declared.answer.Outcome.TheVariants as outcomes
+use Rattle.gt_seat.specs.declared.guest.Places.{Places}
+use Rattle.gt_seat.specs.declared.record.CopyEnd.{CopyEnd}
+use Rattle.gt_seat.specs.declared.record.Record.{Record}
+use Rattle.gt_c.specs.declared.copies.CopySettings.{CopySettings}
+use Rattle.gt_c.specs.declared.copies.PlaceTold.{PlaceTold}
+use Rattle.gt_c.specs.declared.copies.PlacesTold.{PlacesTold}
+use Rattle.gt_c.specs.declared.telling.Mapping.{Mapping}
+use Rattle.gt_c.specs.declared.faults.Fault.{Fault}
+use Rattle.gt_c.specs.declared.here.Here.{Here}
+use Rattle.gt_c.specs.Calling.{may}
+
+-- an end of a copy as C asks it (own)
+abbrev pub end_asked : CopyEnd → End
+end_asked end = record { ptr = end.ptr; domid = record { 0 = end.dom }; offset = end.off }
+
+-- the copy that C asks (own)
+abbrev pub copy_asked : CopySettings → CopyArgs
+copy_asked c = record { source = end_asked c.source; dest = end_asked c.dest; len = c.len; flags = c.flags }
+
+-- a place as C reads it (own)
+abbrev pub place_told : Place → PlaceTold
+place_told p = record { frame = p.frame; owner = p.owner.0; off = p.off }
+
+-- the places of a copy that began; what was there, if it was refused (own)
+abbrev pub places_after : Result Places Denial → PlacesTold → PlacesTold
+places_after (Ok p) old = record { from = place_told p.from; to = place_told p.to; len = p.len }
+places_after (Err denial) old = old
+
+-- the outcome of a copy's beginning (own)
+abbrev pub outcome_begun : Result Places Denial → Outcome
+outcome_begun (Ok places) = outcomes.Done
+outcome_begun (Err denial) = outcomes.Denied denial
+
+-- a copy of the domain was begun so: the answer encodes whether, and its places are told (own)
+pub record SaysBegun (copy : CopyArgs) (old new : PlacesTold) (answer : Answer) (d e : Here) : Type 0 where
+  pub result : Result Places Denial
+  pub encodes : answer ≡ encoded (outcome_begun result)
+  pub places : new ≡ places_after result old
+  pub begins : Begins may d.guest copy result e.guest
+
+-- the copy of a handle's domain was ended; or there was none, or no domain, and the answer says so (own)
+abbrev pub EndsCopy : Option Here → Option Here → Answer → Type 0
+EndsCopy None after answer = (after ≡ None) × (answer ≡ encoded outcomes.NoDomain)
+EndsCopy (Some d) None answer = ⊥
+EndsCopy (Some d) (Some e) answer =
+    ((d.guest.copying ≡ None) × (e ≡ d) × (answer ≡ encoded outcomes.NoCopy))
+    ⊎ (Ends d.guest e.guest × (answer ≡ encoded outcomes.Done))
+
+-- 1 for a mapping that writes, 0 for one that reads (own)
+abbrev pub writes : Dir → ℕ
+writes Read = 0
+writes Write = 1
+
+-- a mapping as C reads it (own)
+abbrev pub mapping_after : Option Mapped → Mapping → Mapping
+mapping_after None old = old
+mapping_after (Some p) old =
+    record { frame = frame_of p.entry; gref = p.gref.0; owner = p.dom.0; writes = writes p.dir }
+
+-- whether there is one (own)
+abbrev pub outcome_present : {A : Type 0} → Option A → Outcome
+outcome_present None = outcomes.Absent
+outcome_present (Some a) = outcomes.Done
+
+-- the mapping under this handle is told, if there is one, and nothing changed (own)
+abbrev pub SaysMapping : Name → Mapping → Mapping → Answer → Here → Here → Type 0
+SaysMapping name old new answer d e =
+    (answer ≡ encoded (outcome_present (value_of d.guest.domain.mappings name)))
+    × (new ≡ mapping_after (value_of d.guest.domain.mappings name) old) × (e ≡ d)
+
+-- the record at this place, counted from 0, as C reads it (own)
+abbrev pub record_after : Option Kept → Record → Record
+record_after None old = old
+record_after (Some r) old = recorded r
+
+-- the record at this place is told, if there is one, and nothing changed (own)
+abbrev pub SaysRecord : ℕ → Record → Record → Answer → Here → Here → Type 0
+SaysRecord index old new answer d e =
+    (answer ≡ encoded (outcome_present (slice_get d.guest.domain.trail.records index)))
+    × (new ≡ record_after (slice_get d.guest.domain.trail.records index) old) × (e ≡ d)
+
+-- nothing is at fault (own)
+abbrev pub no_fault : Fault
+no_fault = record { kind = 0; line = 0; dom = 0 }

@@ -1,0 +1,100 @@
+//! Why a run did not start.
+
+use gt_policy::{PolicyFault, PolicyFaultKind};
+use gt_types::{ConfigFault, DomId, StartFault};
+
+/// Why a run did not start, and where the fault is.
+#[repr(C)]
+#[derive(Clone, Copy)]
+pub struct Fault {
+    /// 0: none. 1 memory; 2 the handles; 3 to 9 the policy; 10 to 17 the configuration.
+    pub kind: u32,
+    /// The line of the policy that is at fault, from 1 on.
+    pub line: u32,
+    /// The domain that is at fault.
+    pub dom: u32,
+}
+
+pub(crate) fn fault_at(kind: u32, line: u32, dom: DomId) -> Fault {
+    Fault {
+        kind,
+        line,
+        dom: u32::from(dom.0),
+    }
+}
+
+pub(crate) const MEMORY: Fault = Fault {
+    kind: 1,
+    line: 0,
+    dom: 0,
+};
+
+// The handles are not as many as the domains, or one of them has a domain.
+pub(crate) const HANDLES: Fault = Fault {
+    kind: 2,
+    line: 0,
+    dom: 0,
+};
+
+pub(crate) fn policy_fault(refused: PolicyFault) -> Fault {
+    let nobody = DomId(0);
+    match refused.kind {
+        PolicyFaultKind::Syntax => fault_at(3, refused.line, nobody),
+        PolicyFaultKind::Unknown(_) => fault_at(4, refused.line, nobody),
+        PolicyFaultKind::Twice(_) => fault_at(5, refused.line, nobody),
+        PolicyFaultKind::Permission(_) => fault_at(6, refused.line, nobody),
+        PolicyFaultKind::Outside(_) => fault_at(7, refused.line, nobody),
+        PolicyFaultKind::Limit => fault_at(8, refused.line, nobody),
+        PolicyFaultKind::Memory => MEMORY,
+    }
+}
+
+pub(crate) fn config_fault(refused: StartFault) -> Fault {
+    match refused {
+        StartFault::Memory => MEMORY,
+        StartFault::Config(config) => match config {
+            ConfigFault::NoDomains => fault_at(10, 0, DomId(0)),
+            ConfigFault::TooMany(id) => fault_at(11, 0, id),
+            ConfigFault::Id(id) => fault_at(12, 0, id),
+            ConfigFault::Repeated(id) => fault_at(13, 0, id),
+            ConfigFault::Frames(id) => fault_at(14, 0, id),
+            ConfigFault::TableFrames(id) => fault_at(15, 0, id),
+            ConfigFault::Version(id) => fault_at(16, 0, id),
+            ConfigFault::Generation => fault_at(17, 0, DomId(0)),
+        },
+    }
+}
+
+fn text_of(kind: u32) -> &'static str {
+    match kind {
+        0 => "none",
+        1 => "memory",
+        2 => "the handles are not as many as the domains, or one of them has a domain",
+        3 => "syntax",
+        4 => "unknown name",
+        5 => "name declared twice",
+        6 => "no such permission",
+        7 => "outside the part of the language that is read",
+        8 => "limit of the policy",
+        9 => "the policy is no UTF-8",
+        10 => "no domain",
+        11 => "one domain too many",
+        12 => "number out of range",
+        13 => "number given before",
+        14 => "frames out of range",
+        15 => "table frames out of range",
+        16 => "no such version",
+        17 => "first generation out of range",
+        _ => "no such fault",
+    }
+}
+
+/// Writes what a kind of fault means, as far as it fits, without an end. Answers how long the whole text is.
+#[unsafe(no_mangle)]
+pub extern "C" fn gthost_fault_text(kind: u32, out: &mut [u8]) -> usize {
+    let text = text_of(kind).as_bytes();
+    for (to, from) in out.iter_mut().zip(text) {
+        *to = *from;
+    }
+    text.len()
+}

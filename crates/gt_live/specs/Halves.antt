@@ -1,0 +1,72 @@
+-- A copy in two halves: the way to its access, which the monitor's caller makes, and the way from there to its end.
+use Rattle.std.specs.Prelude.{◌≡◌, ◌+◌, ◌≤◌, ℕ}
+use Rattle.gt_types.specs.declared.Dir.TheVariants.{Read, Write}
+use Rattle.gt_types.specs.declared.Use.TheVariants.{Copy as ForCopy}
+use Rattle.gt_words.specs.Conditions.{IsSameSeat, KeepsPins}
+use Rattle.gt_words.specs.Rule.{Layout}
+use Rattle.gt_words.specs.declared.view.View.{View}
+use Rattle.gt_access.specs.Routes.{MayCopy, Reaches}
+use Rattle.gt_audit.specs.declared.record.Hypercall.{Hypercall}
+use Rattle.gt_audit.specs.declared.record.Hypercall.TheVariants as hypercalls
+use Rattle.gt_audit.specs.declared.record.Record.{Record}
+use Rattle.gt_audit.specs.declared.record.Reply.TheVariants as replies
+use Rattle.gt_calls.specs.declared.action.Place.{Place}
+use Rattle.gt_calls.specs.declared.action.Step.TheVariants.{Copy as CopyBytes}
+use Rattle.gt_calls.specs.declared.call.Call.{Call}
+use Rattle.gt_calls.specs.declared.request.CopyArgs.{CopyArgs}
+use Rattle.gt_calls.specs.declared.request.Request.TheVariants as requests
+use Rattle.gt_calls.specs.Path.{path, path_of}
+use Rattle.gt_calls.specs.Rules.{CallerKnowledge}
+use Rattle.gt_calls.specs.Standing.{pins_by_call}
+use Rattle.gt_live.specs.declared.domain.Domain.{Domain}
+use Rattle.gt_live.specs.declared.domain.copies.Halfway.{Halfway}
+use Rattle.gt_live.specs.declared.monitor.Monitor.{Monitor}
+use Rattle.gt_live.specs.Accesses.{Accessed, spot_of}
+use Rattle.gt_live.specs.Domains.{AllowRelation, IsOf, IsUnsettled, known, told_end}
+use Rattle.gt_live.specs.Underway.{AtAccess, GivesBack}
+
+-- what a record keeps of a copy (own)
+abbrev pub copy_told : CopyArgs → Hypercall
+copy_told c = hypercalls.Copy (told_end c.source) (told_end c.dest) c.len c.flags
+
+-- the record of a copy that this domain ended, which is Ok (own)
+abbrev pub done_copy : Domain → CopyArgs → Record
+done_copy d c = record { dom = d.seat.dom; call = copy_told c; reply = replies.Done }
+
+-- The domain d was asked this copy and came to its access, after which it is e. Its steps are those of the copy's path.
+-- The pins that it holds reach both places, and the policy lets it copy by them; each place is inside its frame.
+-- Nothing else of the domain has changed (own)
+pub record ComesHalfway {P : Type 0} (may : P → AllowRelation) (m : Monitor P) (d : Domain) (copy : CopyArgs)
+    (h : Halfway) (e : Domain) : Type 0 where
+  pub asked : h.copy ≡ copy
+  pub way : path_of (known may m d) d.seat.dom (requests.Copy copy)
+      ≡ path (known may m d) h.call.caller h.call.request
+  pub access : AtAccess (known may m d) m.words.layout h.call h.from h.to h.len d.seat.view e.seat.view
+  pub source : Reaches m.words.layout e.seat Read ForCopy (spot_of h.from).frame h.from.off h.len
+      (pins_by_call h.call).source
+  pub dest : Reaches m.words.layout e.seat Write ForCopy (spot_of h.to).frame h.to.off h.len
+      (pins_by_call h.call).dest
+  pub allowed : MayCopy m.config.domains.items (may m.rights) e.seat.dom (pins_by_call h.call)
+  pub source_range : h.from.off + h.len ≤ 4096
+  pub dest_range : h.to.off + h.len ≤ 4096
+  pub kept : IsUnsettled d e
+
+-- the domain stands at the access of this copy, since it was one of this monitor's run and was asked it (own)
+abbrev pub IsHalfway : {P : Type 0} → (P → AllowRelation) → Monitor P → Halfway → Domain → Type 0
+IsHalfway may m h e = (d : Domain) × IsOf may m d × ComesHalfway may m d h.copy h e
+
+-- the pins of a copy at its access were given back, one after another, the last one first, and nothing else changed but
+-- the trail (own)
+pub record EndsHalfway (k : Layout) (h : Halfway) (e f : Domain) : Type 0 where
+  pub gives : GivesBack k (pins_by_call h.call) e.seat.view f.seat.view
+  pub seat : IsSameSeat e.seat f.seat
+  pub own : f.own ≡ e.own
+  pub mappings : f.mappings ≡ e.mappings
+
+-- a copy that came to its access, and whose pins were then given back, is whole: its steps are those of its path before
+-- and after the one access, and the pins are those of before (own)
+abbrev pub TwoHalvesMakeACopy : Type 0
+TwoHalvesMakeACopy =
+    (c : CallerKnowledge) (k : Layout) (call : Call) (from to : Place) (len : ℕ) (v mid w : View)
+    → AtAccess c k call from to len v mid → GivesBack k (pins_by_call call) mid w
+    → Accessed k (path c call.caller call.request) (CopyBytes from to len) v w × KeepsPins v w

@@ -1,0 +1,140 @@
+//! The record of a call, in a layout that C reads.
+ghost use Rattle.std.specs.Prelude.{◌≡◌};
+ghost use Rattle.gt_seat.specs.Recording.{end_recorded, recorded, replied};
+
+use crate::answer::{Answer, Outcome};
+use gt_audit::{Hypercall, Reply};
+
+/// One end of a copy as it was asked: a reference of the domain, or the number of a frame.
+#[repr(C)]
+#[derive(Clone, Copy)]
+pub struct CopyEnd {
+    pub ptr: u64,
+    pub dom: u16,
+    pub off: u16,
+}
+
+/// The record of a call, in a layout that C reads. A field that says nothing is 0.
+#[repr(C)]
+#[derive(Clone, Copy)]
+pub struct Record {
+    /// What was called: 1 a map, 2 an unmap of a mapping, 3 an unmap of none, 4 a copy, 5 a size, 6 a version that is
+    /// asked, 7 a version that is set, 8 a setup.
+    pub call: u32,
+    /// The domain that called.
+    pub caller: u32,
+    /// The domain of the entry, or the one asked about.
+    pub dom: u32,
+    /// The reference of the entry.
+    pub gref: u32,
+    /// The flags of a map or a copy, the version that is set, or how many frames are set up.
+    pub flags: u32,
+    /// How many bytes are copied.
+    pub len: u32,
+    pub source: CopyEnd,
+    pub dest: CopyEnd,
+    /// What was answered; a map's handle is left out.
+    pub reply: Answer,
+}
+
+const NO_END: CopyEnd = CopyEnd {
+    ptr: 0,
+    dom: 0,
+    off: 0,
+};
+
+// What a record keeps of an answer.
+fn replied(reply: Reply) -> Outcome
+    ensures { result ≡ replied reply }
+{
+    match reply {
+        Reply::Done => Outcome::Done,
+        Reply::Frames(frames) => Outcome::Frames(frames),
+        Reply::Size(size) => Outcome::Size(size),
+        Reply::Version(version) => Outcome::Version(version),
+        Reply::Denied(denial) => Outcome::Denied(denial),
+    }
+}
+
+fn end_recorded(end: gt_audit::CopyEnd) -> CopyEnd
+    ensures { result ≡ end_recorded end }
+{
+    CopyEnd {
+        ptr: end.ptr,
+        dom: end.dom.0,
+        off: end.off,
+    }
+}
+
+impl Record {
+    ghost use Rattle.std.specs.Prelude.{◌≡◌};
+    ghost use Rattle.gt_seat.specs.Recording.{recorded};
+
+    /// The record, as C reads it.
+    pub fn of(told: gt_audit::Record) -> Record
+        ensures { result ≡ recorded told }
+    {
+        let bare = Record {
+            call: 0,
+            caller: u32::from(told.dom.0),
+            dom: 0,
+            gref: 0,
+            flags: 0,
+            len: 0,
+            source: NO_END,
+            dest: NO_END,
+            reply: Answer::of(replied(told.reply)),
+        };
+        match told.call {
+            Hypercall::Map { dom, gref, flags } => Record {
+                call: 1,
+                dom: u32::from(dom.0),
+                gref: gref.0,
+                flags,
+                ..bare
+            },
+            Hypercall::Unmap {
+                subject: Some((dom, gref)),
+            } => Record {
+                call: 2,
+                dom: u32::from(dom.0),
+                gref: gref.0,
+                ..bare
+            },
+            Hypercall::Unmap { subject: None } => Record { call: 3, ..bare },
+            Hypercall::Copy {
+                source,
+                dest,
+                len,
+                flags,
+            } => Record {
+                call: 4,
+                flags: u32::from(flags),
+                len: u32::from(len),
+                source: end_recorded(source),
+                dest: end_recorded(dest),
+                ..bare
+            },
+            Hypercall::QuerySize { dom } => Record {
+                call: 5,
+                dom: u32::from(dom.0),
+                ..bare
+            },
+            Hypercall::GetVersion { dom } => Record {
+                call: 6,
+                dom: u32::from(dom.0),
+                ..bare
+            },
+            Hypercall::SetVersion { version } => Record {
+                call: 7,
+                flags: version,
+                ..bare
+            },
+            Hypercall::SetupTable { frames } => Record {
+                call: 8,
+                flags: frames,
+                ..bare
+            },
+        }
+    }
+}
