@@ -36,6 +36,8 @@ use Rattle.gt_run.specs.declared.lists.Duty.{Duty}
 use Rattle.gt_run.specs.declared.lists.Part.{Part}
 use Rattle.gt_run.specs.declared.serving.Output.{Output}
 use Rattle.gt_run.specs.declared.telling.Teller.{Teller}
+use Rattle.gt_run.specs.declared.threads.Refusal.{Refusal}
+use Rattle.gt_run.specs.declared.threads.Refusal.TheVariants as refusals
 
 -- what comes of a duty
 
@@ -307,11 +309,11 @@ late_wrote may ds e old new (inl memory) begun = subst (λ (f : RunFault). Wrote
 late_wrote may ds e old new (inr write) begun = subst (λ (f : RunFault). WroteLists may ds old new (Err f)) (sym write) begun
 
 -- a fault stopped the threads' lines
-pub wrote_lines : {P : Type 0} (may : P → AllowRelation) (ds : List (Duty P)) (all : Bool) (r : Result (Unit {0}) RunFault) (e : RunFault) (audit : List ℕ) (lost : ℕ) (old new : Option (List ℕ))
-    → r ≡ Err e → all ≡ true → Joins may ds audit lost old new r → WroteStarted may all ds old new (Err e)
+pub wrote_lines : {P : Type 0} (may : P → AllowRelation) (ds : List (Duty P)) (all : Option Refusal) (r : Result (Unit {0}) RunFault) (e : RunFault) (audit : List ℕ) (lost : ℕ) (old new : Option (List ℕ))
+    → r ≡ Err e → all ≡ None → Joins may ds audit lost old new r → WroteStarted may all ds old new (Err e)
 wrote_lines may ds all r e audit lost old new is given joined =
     let j = subst (λ (q : Result (Unit {0}) RunFault). Joins may ds audit lost old new q) is joined in
-    subst (λ (b : Bool). WroteStarted may b ds old new (Err e)) (sym given) (late_wrote may ds e old new j.0 (inl j.1))
+    subst (λ (b : Option Refusal). WroteStarted may b ds old new (Err e)) (sym given) (late_wrote may ds e old new j.0 (inl j.1))
 
 -- the audit lines went out too, or a beginning of them
 wrote_end : {P : Type 0} (may : P → AllowRelation) (ds : List (Duty P)) (all : List (Served P)) (r : Result (Unit {0}) RunFault) (audit : List ℕ) (lost : ℕ) (old now new : Option (List ℕ))
@@ -324,12 +326,12 @@ wrote_end may ds all (Err e) audit lost old now new (same, are, out) a l end beg
     let tail : audit ++ lost_text lost ≡ audits_in all ++ lost_text (counted (all_lost all)) = ap (λ (x : List ℕ). x ++ lost_text lost) a ∙ ap (λ (n : ℕ). audits_in all ++ lost_text n) l in
     late_wrote may ds e old new late (inr (all, same, are, begins_after old now new (texts_in all) _ out (subst (λ (x : List ℕ). AppendsBeginning now new x) tail begun)))
 
-pub wrote_all : {P : Type 0} (may : P → AllowRelation) (ds : List (Duty P)) (all : Bool) (r0 r : Result (Unit {0}) RunFault) (d : Unit {0}) (audit : List ℕ) (lost : ℕ) (old now new : Option (List ℕ))
-    → r0 ≡ Ok d → all ≡ true → Joins may ds audit lost old now r0 → OnOk r (Appends now new (audit ++ lost_text lost)) → AppendsBeginning now new (audit ++ lost_text lost)
+pub wrote_all : {P : Type 0} (may : P → AllowRelation) (ds : List (Duty P)) (all : Option Refusal) (r0 r : Result (Unit {0}) RunFault) (d : Unit {0}) (audit : List ℕ) (lost : ℕ) (old now new : Option (List ℕ))
+    → r0 ≡ Ok d → all ≡ None → Joins may ds audit lost old now r0 → OnOk r (Appends now new (audit ++ lost_text lost)) → AppendsBeginning now new (audit ++ lost_text lost)
     → IfErr r IsLate → WroteStarted may all ds old new r
 wrote_all may ds all r0 r d audit lost old now new was given joined out begun late =
     let j = subst (λ (q : Result (Unit {0}) RunFault). Joins may ds audit lost old now q) was joined in
-    subst (λ (b : Bool). WroteStarted may b ds old new r) (sym given) (wrote_end may ds j.0 r audit lost old now new j.1 j.2 j.3 out begun late)
+    subst (λ (b : Option Refusal). WroteStarted may b ds old new r) (sym given) (wrote_end may ds j.0 r audit lost old now new j.1 j.2 j.3 out begun late)
 
 -- what duties wrote of which this is known
 wrote_of : {P : Type 0} (may : P → AllowRelation) (Are : List (Duty P) → Type 0) (ds : List (Duty P)) (r : Result (Unit {0}) RunFault) (old new : Option (List ℕ)) → Are ds → WroteLists may ds old new r
@@ -343,10 +345,11 @@ wrote_of may Are ds (Err (Play (plays.Script fault))) old new are wrote = absurd
 wrote_of may Are ds (Err (Play (plays.Policy fault))) old new are wrote = absurd wrote
 
 -- the threads that were started are those of these duties, where all were
-pub wrote_started : {P : Type 0} (may : P → AllowRelation) (Are : List (Duty P) → Type 0) (all : Bool) (hs : List (Duty P)) (r : Result (Unit {0}) RunFault) (old new : Option (List ℕ))
-    → (IsTrue all → Are hs) → WroteStarted may all hs old new r → Wrote may Are old new r
-wrote_started may Are true hs r old new are wrote = wrote_of may Are hs r old new (are refl) wrote
-wrote_started may Are false hs r old new are wrote = subst (λ (q : Result (Unit {0}) RunFault). Wrote may Are old new q) (sym wrote.0) wrote.1
+pub wrote_started : {P : Type 0} (may : P → AllowRelation) (Are : List (Duty P) → Type 0) (all : Option Refusal) (hs : List (Duty P)) (r : Result (Unit {0}) RunFault) (old new : Option (List ℕ))
+    → (all ≡ None → Are hs) → WroteStarted may all hs old new r → Wrote may Are old new r
+wrote_started may Are None hs r old new are wrote = wrote_of may Are hs r old new (are refl) wrote
+wrote_started may Are (Some refusals.Memory) hs r old new are wrote = subst (λ (q : Result (Unit {0}) RunFault). Wrote may Are old new q) (sym wrote.0) (inl wrote.1)
+wrote_started may Are (Some refusals.Thread) hs r old new are wrote = subst (λ (q : Result (Unit {0}) RunFault). Wrote may Are old new q) (sym wrote.0) wrote.1
 
 -- more is known of the duties
 pub wrote_as : {P : Type 0} (may : P → AllowRelation) (Are Be : List (Duty P) → Type 0) (r : Result (Unit {0}) RunFault) (old new : Option (List ℕ)) → ((ds : List (Duty P)) → Are ds → Be ds)

@@ -22,6 +22,8 @@ use Rattle.gt_live.specs.Domains.{subject_of}
 use Rattle.gt_live.specs.Domains.{told_copy, told_of, verdict_of, verdict_of_frames, verdict_of_size}
 use Rattle.gt_live.specs.Domains.{verdict_of_version}
 use Rattle.gt_live.specs.Mappings.{Removes}
+use Rattle.gt_live.specs.Visiting.{HasVisited, WasCopied, WasRead, WasWritten}
+use Rattle.gt_frames.specs.Visits.{Visit}
 
 -- a domain beside the monitor of its run
 pub record Stand (P : Type 0) : Type 0 where
@@ -63,25 +65,29 @@ abbrev pub IsReadAnswer : Result Reading Denial → Answer → Type 0
 IsReadAnswer (Ok r) answer = HasBytes r.bytes answer
 IsReadAnswer (Err denial) answer = answer ≡ answers.Denied denial
 
--- A call that is not recorded was answered so: the domain has the mappings, pins and records that it had.
+-- A call that is not recorded was answered so: the domain has the mappings, pins and records that it had, and locked
+-- no frame.
 abbrev pub AnswersQuietly : {P : Type 0} → (P → AllowRelation) → Monitor P → Domain → Request → Verdict → Domain
     → Type 0
 AnswersQuietly may m d request verdict e =
-    Answered may m d request verdict e × KeepsPinned d e × (e.trail ≡ d.trail)
+    Answered may m d request verdict e × KeepsPinned d e × (e.trail ≡ d.trail) × (e.visits ≡ d.visits)
 
 -- a call that is recorded was answered so: the domain has the mappings and pins that it had, and this call is the one
--- record more, which is kept or counted as lost
+-- record more, which is kept or counted as lost; it locked no frame
 abbrev pub AnswersTold : {P : Type 0} → (P → AllowRelation) → Monitor P → Domain → Request → Hypercall → Verdict
     → Domain
     → Type 0
 AnswersTold may m d request call verdict e =
     Answered may m d request verdict e × KeepsPinned d e × Tells d.trail (told_of d call verdict) e.trail
+    × (e.visits ≡ d.visits)
 
--- an access to one frame was answered so: the domain has the mappings, pins and records that it had
+-- An access to one frame was answered so: the domain has the mappings, pins and records that it had, and what was
+-- answered is what it did to the frame under its lock.
 abbrev pub AccessesQuietly : {P R : Type 0} → (P → AllowRelation) → Monitor P → Domain → Request → (Step → R → Type 0)
-    → Result R Denial → Domain → Type 0
-AccessesQuietly may m d request tells result e =
+    → (R → List Visit → Type 0) → Result R Denial → Domain → Type 0
+AccessesQuietly may m d request tells did result e =
     Accesses may m d request tells result e × KeepsPinned d e × (e.trail ≡ d.trail)
+    × HasVisited did result d.visits e.visits
 
 -- The domain d was asked this, answered so, and is e after it: the answer tells how its own call of that name was
 -- answered, and so what that call did, to its mappings and its records too.
@@ -90,11 +96,13 @@ AnswersCall may m d (requests.Map dom gref flags) answer e =
     (r : Result Handle Denial) × (answer ≡ mapped_answer r)
     × MapAnswered may m d (requests.Map dom gref flags) r e
     × Tells d.trail (record { dom = d.seat.dom; call = hypercalls.Map dom gref flags; reply = mapping_reply r }) e.trail
+    × (e.visits ≡ d.visits)
 AnswersCall may m d (requests.Unmap handle) answer e =
     (r : Result (Unit {0}) Denial) × (answer ≡ plain_answer r)
     × Answered may m d (requests.Unmap handle) (verdict_of r) e
     × OnOk r ((p : Held) × Removes d.mappings e.mappings handle p) × OnErr r (KeepsPinned d e)
     × Tells d.trail (told_of d (hypercalls.Unmap (subject_of d handle)) (verdict_of r)) e.trail
+    × (e.visits ≡ d.visits)
 AnswersCall may m d (requests.SetVersion version) answer e =
     (r : Result (Unit {0}) Denial) × (answer ≡ plain_answer r)
     × AnswersTold may m d (requests.SetVersion version) (hypercalls.SetVersion version) (verdict_of r) e
@@ -109,20 +117,21 @@ AnswersCall may m d (requests.GetVersion dom) answer e =
     × AnswersTold may m d (requests.GetVersion dom) (hypercalls.GetVersion dom) (verdict_of_version r) e
 AnswersCall may m d (requests.Load handle off len) answer e =
     (r : Result Reading Denial) × IsReadAnswer r answer
-    × AccessesQuietly may m d (requests.Load handle off len) IsReadBy r e
+    × AccessesQuietly may m d (requests.Load handle off len) IsReadBy WasRead r e
 AnswersCall may m d (requests.Peek frame off len) answer e =
     (r : Result Reading Denial) × IsReadAnswer r answer
-    × AccessesQuietly may m d (requests.Peek frame off len) IsReadBy r e
+    × AccessesQuietly may m d (requests.Peek frame off len) IsReadBy WasRead r e
 AnswersCall may m d (requests.Store handle off bytes) answer e =
     (r : Result Writing Denial) × (answer ≡ plain_answer r)
-    × AccessesQuietly may m d (requests.Store handle off bytes) (IsWrittenBy d.seat.dom bytes.now) r e
+    × AccessesQuietly may m d (requests.Store handle off bytes) (IsWrittenBy d.seat.dom bytes.now) WasWritten r e
 AnswersCall may m d (requests.Poke frame off bytes) answer e =
     (r : Result Writing Denial) × (answer ≡ plain_answer r)
-    × AccessesQuietly may m d (requests.Poke frame off bytes) (IsWrittenBy d.seat.dom bytes.now) r e
+    × AccessesQuietly may m d (requests.Poke frame off bytes) (IsWrittenBy d.seat.dom bytes.now) WasWritten r e
 AnswersCall may m d (requests.Copy args) answer e =
     (r : Result Copying Denial) × (answer ≡ plain_answer r)
     × Accesses may m d (requests.Copy args) (IsCopiedBy d.seat.dom) r e
     × KeepsPinned d e × Tells d.trail (told_copy d args r) e.trail
+    × HasVisited WasCopied r d.visits e.visits
 AnswersCall may m d request answer e =
     (r : Result (Unit {0}) Denial) × (answer ≡ plain_answer r) × AnswersQuietly may m d request (verdict_of r) e
 

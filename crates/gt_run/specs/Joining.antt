@@ -1,11 +1,13 @@
 -- What the threads of a run come to as they are joined, one after the other.
-use Rattle.std.specs.Prelude.{◌≡◌, ◌⊎◌, ℕ, Bool, true, false, List, Option, Result, Ok, Err, IsTrue}
+use Rattle.std.specs.Prelude.{◌≡◌, ◌⊎◌, ℕ, Bool, List, Option, Some, None, Result, Ok, Err, IsTrue}
 use Rattle.std.specs.Io.KnownBytes.{Appends, Keeps}
 use Rattle.gt_live.specs.Domains.{AllowRelation}
 use Rattle.gt_streams.specs.Streams.{AppendsBeginning}
 use Rattle.gt_run.specs.declared.fault.RunFault.{RunFault}
 use Rattle.gt_run.specs.declared.fault.RunFault.TheVariants.{Thread}
 use Rattle.gt_run.specs.declared.lists.Duty.{Duty}
+use Rattle.gt_run.specs.declared.threads.Refusal.{Refusal}
+use Rattle.gt_run.specs.declared.threads.Refusal.TheVariants as refusals
 use Rattle.gt_run.specs.Faults.{not_written, out_of_memory}
 use Rattle.gt_run.specs.Printing.{BeginsLists, Served, WritesLists, all_lost, audits_in}
 use Rattle.gt_run.specs.Runs.{WroteLists}
@@ -33,9 +35,14 @@ Joins {P} may duties audit lost old new (Ok done) =
     × (lost ≡ counted (all_lost all))
 Joins may duties audit lost old new (Err fault) = IsLate fault × BeginsLists may duties old new
 
--- what was written of the duties that were started, if all were or not:
--- nothing, and that is the fault, unless all were
-abbrev pub WroteStarted : {P : Type 0} → (P → AllowRelation) → Bool → List (Duty P) → Option (List ℕ) → Option (List ℕ)
+-- the fault of a run that has not a thread for each domain
+abbrev pub fault_of : Refusal → RunFault
+fault_of refusals.Thread = Thread
+fault_of refusals.Memory = out_of_memory
+
+-- what was written of the duties that were started, if something was refused or nothing:
+-- nothing, and what was refused is the fault, unless all were started
+abbrev pub WroteStarted : {P : Type 0} → (P → AllowRelation) → Option Refusal → List (Duty P) → Option (List ℕ) → Option (List ℕ)
     → Result (Unit {0}) RunFault → Type 0
-WroteStarted may true duties old new r = WroteLists may duties old new r
-WroteStarted may false duties old new r = (r ≡ Err Thread) × Keeps old new
+WroteStarted may None duties old new r = WroteLists may duties old new r
+WroteStarted may (Some refusal) duties old new r = (r ≡ Err (fault_of refusal)) × Keeps old new

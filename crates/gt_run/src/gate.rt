@@ -1,4 +1,6 @@
 //! If domains wait for one another.
+ghost use Rattle.std.specs.Prelude.{◌≡◌, true};
+
 use gt_types::Memory;
 use std::alloc::Global;
 use std::sync::{Condvar, Mutex, Wait};
@@ -52,7 +54,9 @@ impl<'r, R: Wait> Gate for Flags<'r, R> {
         self.more.notify_all();
     }
 
-    fn pass(&self, flag: usize) -> bool {
+    fn pass(&self, flag: usize) -> bool
+        ensures { result ≡ true }
+    {
         let told = self.told.lock(self.rt);
         let _told = self
             .more

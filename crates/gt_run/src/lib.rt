@@ -8,6 +8,7 @@
 
 mod fault;
 mod gate;
+mod laws;
 mod lists;
 mod reading;
 mod running;
@@ -17,6 +18,7 @@ mod threads;
 
 pub use fault::RunFault;
 pub use gate::{FLAGS, Flags, Gate};
+pub use laws::no_script_names_so_many_flags;
 pub use lists::Part;
 pub use reading::run;
 pub use threads::run_lists;

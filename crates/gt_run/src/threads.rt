@@ -1,7 +1,6 @@
 //! A thread for each domain.
 ghost use Rattle.std.specs.Prelude.{◌≡◌, ◌≤◌, ◌++◌, ◌⊎◌, All, length, map, is_some};
-ghost use Rattle.std.specs.Prelude.{Err, IfOk, IfErr, IsOk, OnOk};
-ghost use Rattle.std.specs.Prelude.{IsTrue};
+ghost use Rattle.std.specs.Prelude.{Err, IfOk, IfErr, IsOk, None, OnOk};
 ghost use Rattle.std.specs.Io.KnownBytes.{Appends};
 ghost use Rattle.gt_types.specs.Config.{AreFaultless};
 ghost use Rattle.gt_types.specs.declared.limits.TheConstants.{LAST_GENERATION};
@@ -9,7 +8,7 @@ ghost use Rattle.gt_audit.specs.Lines.{lost_text};
 ghost use Rattle.gt_live.specs.Domains.{IsOf};
 ghost use Rattle.gt_streams.specs.Streams.{AppendsBeginning};
 ghost use Rattle.gt_run.specs.Faults.{out_of_memory};
-ghost use Rattle.gt_run.specs.Joining.{IsLate, Joins, WritesNext, WroteStarted};
+ghost use Rattle.gt_run.specs.Joining.{IsLate, Joins, WritesNext, WroteStarted, fault_of};
 ghost use Rattle.gt_run.specs.Printing.{AreDuties, CameOf, promised};
 ghost use Rattle.gt_run.specs.Runs.{AreUnder, Wrote};
 ghost use Rattle.gt_run.specs.Serving.{counted, AreReady, IsReady};
@@ -62,11 +61,29 @@ pub fn all_running<'m, P: Allows>(
     Ok(all)
 }
 
-// What was started: the threads in the order of their domains, and whether there is one for each.
+// Why there is not a thread for each domain: one was refused, or memory for the list of them.
+#[derive(Clone, Copy)]
+enum Refusal {
+    Thread,
+    Memory,
+}
+
+impl From<Refusal> for RunFault {
+    ghost from_gives = { λ refusal fault. fault ≡ fault_of refusal };
+
+    fn from(refusal: Refusal) -> RunFault {
+        match refusal {
+            Refusal::Thread => RunFault::Thread,
+            Refusal::Memory => RunFault::from(Memory),
+        }
+    }
+}
+
+// What was started: the threads in the order of their domains, and what was refused if there is not one for each.
 #[derive(Drop)]
 struct Started<'s, 'a, P: Allows> {
     handles: Vec<PromisedHandle<Output, Duty<'s, 'a, P>>>,
-    all: bool,
+    refused: Option<Refusal>,
 }
 
 // Starts a thread for each domain, with its part. It waits for the start before it does anything. Behind a thread that
@@ -83,7 +100,7 @@ fn start_each<'s, 'a, E, R: Wait + Sync, P: Allows + Sync, G: Gate + Sync>(
     start: &'s OnceLock<bool>,
 ) -> Started<'s, 'a, P>
     requires { AreReady P.may monitor.now domains.items parts.now }
-    ensures { IsTrue result.all →
+    ensures { (result.refused ≡ None) →
         AreDuties monitor.now (is_some log.entry) parts.entry.now (promised result.handles.items) }
 {
     let mut handles = Vec::new(alloc);
@@ -103,21 +120,20 @@ fn start_each<'s, 'a, E, R: Wait + Sync, P: Allows + Sync, G: Gate + Sync>(
         ) {
             Ok(handle) => {
                 if handles.push(handle).is_err() {
-                    return Started {
-                        handles,
-                        all: false,
-                    };
+                    let refused = Some(Refusal::Memory);
+                    return Started { handles, refused };
                 }
             }
             Err(_) => {
-                return Started {
-                    handles,
-                    all: false,
-                };
+                let refused = Some(Refusal::Thread);
+                return Started { handles, refused };
             }
         }
     }
-    Started { handles, all: true }
+    Started {
+        handles,
+        refused: None,
+    }
 }
 
 // What was joined: how it went, the audit lines of the domains, and how many records were lost.
@@ -234,15 +250,15 @@ fn write_each<'s, 'a, R: Threads, P: Allows, W: Write>(
     rt: &R,
     alloc: Global,
     handles: Vec<PromisedHandle<Output, Duty<'s, 'a, P>>>,
-    all: bool,
+    refused: Option<Refusal>,
     writer: &mut W,
 ) -> Result<(), RunFault>
-    ensures { WroteStarted P.may all (promised handles.entry.items)
+    ensures { WroteStarted P.may refused (promised handles.entry.items)
         (W.contents writer.old) (W.contents writer.new) result }
 {
-    if !all {
+    if let Some(refusal) = refused {
         join_idle(rt, handles);
-        return Err(RunFault::Thread);
+        return Err(RunFault::from(refusal));
     }
     let Joined {
         outcome,
@@ -255,7 +271,7 @@ fn write_each<'s, 'a, R: Threads, P: Allows, W: Write>(
 
 /// Gives each domain a thread of its own, with its part, and writes what they print: the lines of each domain as it is
 /// joined, in their order, and then their audit lines. No list begins before all threads are there. If one is
-/// refused, no list runs.
+/// refused, or memory for the list of them, no list runs.
 pub fn run_each<'a, R: Threads + Wait + Sync, P: Allows + Sync, G: Gate + Sync, W: Write>(
     rt: &R,
     alloc: Global,
@@ -281,11 +297,11 @@ pub fn run_each<'a, R: Threads + Wait + Sync, P: Allows + Sync, G: Gate + Sync, 
             ensures text { Wrote P.may (AreDuties monitor.entry.now (is_some log.entry) parts.entry.now)
                 (W.contents writer.entry.now) (W.contents result.writer.now) result.outcome }
         {
-            let Started { handles, all } = start_each(
+            let Started { handles, refused } = start_each(
                 scope, rt, alloc, monitor, domains, parts, log, gate, start,
             );
-            let _ = start.try_set(all);
-            let outcome = write_each(rt, alloc, handles, all, writer);
+            let _ = start.try_set(refused.is_none());
+            let outcome = write_each(rt, alloc, handles, refused, writer);
             Written { writer, outcome }
         },
     );

@@ -1,4 +1,4 @@
-use Rattle.std.proofs.Common.{rules, ◌≡◌, ◌++◌, ℕ, List, OnOk, subst, true}
+use Rattle.std.proofs.Common.{rules, ◌≡◌, ◌++◌, ℕ, List, None, OnOk, subst}
 use Rattle.std.specs.Io.KnownBytes.{Appends}
 use Rattle.std.proofs.lemmas.Result.{err_from_is_err_and}
 use Rattle.gt_streams.specs.Streams.{AppendsBeginning}
@@ -8,15 +8,15 @@ use Rattle.gt_run.proofs.threads.write_each.Goals as goal
 
 pub returns : goal.returns
 returns g c =
-    let given : c.args.all ≡ true = search rules in
+    let given : c.args.refused ≡ None = search rules in
     let out = subst (λ (l : List ℕ). OnOk c.write_audit.result (Appends (g.W.Write.contents c.join_each-outcome.new.writer) (g.W.Write.contents c.write_audit.new.writer)
     (l ++ lost_text c.join_each-outcome.result.lost))) c.as_slice.ensures.value c.write_audit.ensures.whole in
     let begun = subst (λ (l : List ℕ). AppendsBeginning (g.W.Write.contents c.join_each-outcome.new.writer) (g.W.Write.contents c.write_audit.new.writer)
     (l ++ lost_text c.join_each-outcome.result.lost)) c.as_slice.ensures.value c.write_audit.ensures.beginning in
-    wrote_all g.P.Allows.may _ c.args.all _ _ _ _ _ _ _ _ c.in_ok-outcome.was given c.join_each-outcome.ensures out begun c.write_audit.ensures.late
+    wrote_all g.P.Allows.may _ c.args.refused _ _ _ _ _ _ _ _ c.in_ok-outcome.was given c.join_each-outcome.ensures out begun c.write_audit.ensures.late
 
 pub returns-in_err-outcome : goal.returns-in_err-outcome
 returns-in_err-outcome g c =
-    let given : c.args.all ≡ true = search rules in
+    let given : c.args.refused ≡ None = search rules in
     let p = err_from_is_err_and c.from_residual.result c.from_residual.ensures.1 in
     rw (p.1, p.2) (wrote_lines g.P.Allows.may _ _ _ _ _ _ _ _ c.in_err-outcome.was given c.join_each-outcome.ensures)

@@ -7,7 +7,7 @@ returns-in-Grant-clause-asked g c =
       (
         c.grant.result,
         c.done.ensures,
-        (c.grant.ensures.answered, c.grant.ensures.kept, c.grant.ensures.silent),
+        (c.grant.ensures.answered, c.grant.ensures.kept, c.grant.ensures.silent, c.grant.ensures.untouched),
       ),
     )
 
@@ -18,7 +18,7 @@ returns-in-GrantBytes-clause-asked g c =
       (
         c.grant_bytes.result,
         c.done-in-GrantBytes.ensures,
-        (c.grant_bytes.ensures.answered, c.grant_bytes.ensures.kept, c.grant_bytes.ensures.silent),
+        (c.grant_bytes.ensures.answered, c.grant_bytes.ensures.kept, c.grant_bytes.ensures.silent, c.grant_bytes.ensures.untouched),
       ),
     )
 
@@ -29,7 +29,7 @@ returns-in-Revoke-clause-asked g c =
       (
         c.revoke.result,
         c.done-in-Revoke.ensures,
-        (c.revoke.ensures.answered, c.revoke.ensures.kept, c.revoke.ensures.silent),
+        (c.revoke.ensures.answered, c.revoke.ensures.kept, c.revoke.ensures.silent, c.revoke.ensures.untouched),
       ),
     )
 
@@ -40,7 +40,7 @@ returns-in-Withdraw-clause-asked g c =
       (
         c.withdraw.result,
         c.done-in-Withdraw.ensures,
-        (c.withdraw.ensures.answered, c.withdraw.ensures.kept, c.withdraw.ensures.silent),
+        (c.withdraw.ensures.answered, c.withdraw.ensures.kept, c.withdraw.ensures.silent, c.withdraw.ensures.untouched),
       ),
     )
 
@@ -51,7 +51,7 @@ returns-in-Demote-clause-asked g c =
       (
         c.demote.result,
         c.done-in-Demote.ensures,
-        (c.demote.ensures.answered, c.demote.ensures.kept, c.demote.ensures.silent),
+        (c.demote.ensures.answered, c.demote.ensures.kept, c.demote.ensures.silent, c.demote.ensures.untouched),
       ),
     )
 
@@ -62,14 +62,14 @@ returns-in-Promote-clause-asked g c =
       (
         c.promote.result,
         c.done-in-Promote.ensures,
-        (c.promote.ensures.answered, c.promote.ensures.kept, c.promote.ensures.silent),
+        (c.promote.ensures.answered, c.promote.ensures.kept, c.promote.ensures.silent, c.promote.ensures.untouched),
       ),
     )
 
 pub returns-in-Map-clause-asked : goal.returns-in-Map-clause-asked
 returns-in-Map-clause-asked g c =
     rw (← c.self.view_is, c.in-Map.is)
-    (c.map.ensures.seat.dom, (c.map.result, c.mapped.ensures, c.map.ensures.answered, c.map.ensures.told))
+    (c.map.ensures.seat.dom, (c.map.result, c.mapped.ensures, c.map.ensures.answered, c.map.ensures.told, c.map.ensures.untouched))
 
 pub returns-in-Unmap-clause-asked : goal.returns-in-Unmap-clause-asked
 returns-in-Unmap-clause-asked g c =
@@ -82,6 +82,7 @@ returns-in-Unmap-clause-asked g c =
         c.unmap.ensures.removed,
         c.unmap.ensures.refused,
         c.unmap.ensures.told,
+        c.unmap.ensures.untouched,
       ),
     )
 
@@ -92,7 +93,7 @@ returns-in-SetVersion-clause-asked g c =
       (
         c.set_version.result,
         c.done-in-SetVersion.ensures,
-        (c.set_version.ensures.answered, c.set_version.ensures.kept, c.set_version.ensures.told),
+        (c.set_version.ensures.answered, c.set_version.ensures.kept, c.set_version.ensures.told, c.set_version.ensures.untouched),
       ),
     )
 
@@ -103,7 +104,7 @@ returns-in-SetupTable-clause-asked g c =
       (
         c.setup_table.result,
         c.frames_told.ensures,
-        (c.setup_table.ensures.answered, c.setup_table.ensures.kept, c.setup_table.ensures.told),
+        (c.setup_table.ensures.answered, c.setup_table.ensures.kept, c.setup_table.ensures.told, c.setup_table.ensures.untouched),
       ),
     )
 
@@ -114,7 +115,7 @@ returns-in-QuerySize-clause-asked g c =
       (
         c.query_size.result,
         c.size_told.ensures,
-        (c.query_size.ensures.answered, c.query_size.ensures.kept, c.query_size.ensures.told),
+        (c.query_size.ensures.answered, c.query_size.ensures.kept, c.query_size.ensures.told, c.query_size.ensures.untouched),
       ),
     )
 
@@ -125,7 +126,7 @@ returns-in-GetVersion-clause-asked g c =
       (
         c.get_version.result,
         c.version_told.ensures,
-        (c.get_version.ensures.answered, c.get_version.ensures.kept, c.get_version.ensures.told),
+        (c.get_version.ensures.answered, c.get_version.ensures.kept, c.get_version.ensures.told, c.get_version.ensures.untouched),
       ),
     )
 
@@ -136,7 +137,7 @@ returns-in-Load-clause-asked g c =
       (
         c.load.result,
         c.read.ensures,
-        (c.load.ensures.answered, c.load.ensures.kept, c.load.ensures.silent),
+        (c.load.ensures.answered, c.load.ensures.kept, c.load.ensures.silent, c.load.ensures.visited),
       ),
     )
 
@@ -147,7 +148,7 @@ returns-in-Store-clause-asked g c =
       (
         c.store.result,
         c.written.ensures,
-        (c.store.ensures.answered, c.store.ensures.kept, c.store.ensures.silent),
+        (c.store.ensures.answered, c.store.ensures.kept, c.store.ensures.silent, c.store.ensures.visited),
       ),
     )
 
@@ -158,7 +159,7 @@ returns-in-Peek-clause-asked g c =
       (
         c.peek.result,
         c.read-in-Peek.ensures,
-        (c.peek.ensures.answered, c.peek.ensures.kept, c.peek.ensures.silent),
+        (c.peek.ensures.answered, c.peek.ensures.kept, c.peek.ensures.silent, c.peek.ensures.visited),
       ),
     )
 
@@ -169,7 +170,7 @@ returns-in-Poke-clause-asked g c =
       (
         c.poke.result,
         c.written-in-Poke.ensures,
-        (c.poke.ensures.answered, c.poke.ensures.kept, c.poke.ensures.silent),
+        (c.poke.ensures.answered, c.poke.ensures.kept, c.poke.ensures.silent, c.poke.ensures.visited),
       ),
     )
 
@@ -183,5 +184,6 @@ returns-in-Copy-clause-asked g c =
         c.copy.ensures.answered,
         c.copy.ensures.kept,
         c.copy.ensures.told,
+        c.copy.ensures.visited,
       ),
     )
