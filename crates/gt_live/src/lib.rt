@@ -10,8 +10,8 @@
 //! mappings, and one that has left has none (`specs/Domains.antt`). An Ok of a call that accesses bytes
 //! is the receipt of just what its path accesses (`specs/Accesses.antt`).
 //!
-//! It uses `gt_calls`, `gt_words`, `gt_access`, `gt_frames`, `gt_handles`, `gt_audit`, `gt_entry` and
-//! `gt_types`.
+//! It uses `gt_calls`, `gt_words`, `gt_access`, `gt_frames`, `gt_handles`, `gt_audit`, `gt_entry`,
+//! `gt_positions` and `gt_types`.
 #![tactic(auto)]
 
 mod domain;

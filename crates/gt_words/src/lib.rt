@@ -9,7 +9,8 @@
 //! all domains have one order. At run time views and steps cost nothing. No call but `Words::new` takes memory, and
 //! none waits.
 //!
-//! It uses `atomic_table`, whose rule is `Shows` of specs/Rule.antt, and the words of `gt_entry`.
+//! It uses `atomic_table`, whose rule is `Shows` of specs/Rule.antt, the words of `gt_entry`, and
+//! `gt_positions`, which finds domains by their numbers.
 #![tactic(auto)]
 
 mod laws;
