@@ -1,6 +1,6 @@
 -- A call that was made on a handle's domain, as its export states it.
-use Rattle.std.proofs.Common.{◌≡◌, ◌∙◌, ap, refl, subst, sym, inr, Option, Some, None}
-use Rattle.std.specs.Prelude.{is_some, true, false}
+use Rattle.std.proofs.Common.{◌≡◌, ◌∙◌, ap, refl, subst, inr, Option, Some, None}
+use Rattle.std.specs.Prelude.{is_some, false}
 use mathlib.Core.Bool.{true≢false}
 use Rattle.gt_seat.specs.declared.answer.Answer.{Answer}
 use Rattle.gt_c.specs.declared.here.Here.{Here}

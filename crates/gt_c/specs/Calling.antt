@@ -15,11 +15,10 @@ use Rattle.gt_calls.specs.declared.action.Verdict.{Verdict}
 use Rattle.gt_calls.specs.declared.held.Held.{Held as Mapped}
 use Rattle.gt_calls.specs.declared.request.Request.{Request}
 use Rattle.gt_handles.specs.declared.handles.Handle.{Handle as Name}
-use Rattle.gt_handles.specs.Handles.{value_of}
 use Rattle.gt_live.specs.declared.domain.Domain.{Domain}
 use Rattle.gt_live.specs.declared.domain.Left.{Left}
 use Rattle.gt_live.specs.Domains.{Answered, HasLeft, KeepsPinned, MapAnswered, mapping_reply, subject_of, told_of}
-use Rattle.gt_live.specs.Domains.{verdict_of, verdict_of_frames, verdict_of_size, verdict_of_version}
+use Rattle.gt_live.specs.Domains.{verdict_of}
 use Rattle.gt_live.specs.Mappings.{Removes}
 use Rattle.gt_seat.specs.Encoding.{encoded}
 use Rattle.gt_seat.specs.Seated.{Ends, Seated, StaysIdle}

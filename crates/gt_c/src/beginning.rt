@@ -1,5 +1,5 @@
 //! How a run starts, and how a domain leaves it.
-ghost use Rattle.std.specs.Prelude.{◌≡◌, true, false};
+ghost use Rattle.std.specs.Prelude.{◌≡◌, ◌≤◌, IfErr, true, false};
 ghost use Rattle.gt_c.specs.Calling.{Finishes, Leaves};
 ghost use Rattle.gt_c.specs.Telling.{no_fault};
 
@@ -41,7 +41,9 @@ fn configured(
     Ok(Config { domains, first_gen })
 }
 
-fn rights(alloc: Global, policy: &[u8]) -> Result<AllowTable, Fault> {
+fn rights(alloc: Global, policy: &[u8]) -> Result<AllowTable, Fault>
+    ensures { IfErr result (λ fault. 1 ≤ fault.kind) }
+{
     let Ok(text) = str::from_utf8(policy) else {
         return Err(fault_at(9, 0, DomId(0)));
     };
@@ -69,7 +71,9 @@ fn begin(
     settings: &[DomainSettings],
     first_gen: u32,
     policy: &[u8],
-) -> Result<Vec<Box<Here>>, Fault> {
+) -> Result<Vec<Box<Here>>, Fault>
+    ensures { IfErr result (λ fault. 1 ≤ fault.kind) }
+{
     let rights = match rights(alloc, policy) {
         Ok(rights) => rights,
         Err(fault) => return Err(fault),
@@ -111,6 +115,7 @@ pub extern "C" fn gthost_start(
 ) -> bool
     ensures started { result ≡ true → fault.new ≡ no_fault }
     ensures untouched { result ≡ false → out.new ≡ out.old }
+    ensures named { result ≡ false → 1 ≤ fault.new.kind }
 {
     if out.len() != settings.len() || out.iter().any(|handle| handle.is_live) {
         *fault = HANDLES;

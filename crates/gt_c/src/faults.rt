@@ -1,4 +1,5 @@
 //! Why a run did not start.
+ghost use Rattle.std.specs.Prelude.{◌≡◌, ◌≤◌};
 
 use gt_policy::{PolicyFault, PolicyFaultKind};
 use gt_types::{ConfigFault, DomId, StartFault};
@@ -15,7 +16,9 @@ pub struct Fault {
     pub dom: u32,
 }
 
-pub(crate) fn fault_at(kind: u32, line: u32, dom: DomId) -> Fault {
+pub(crate) fn fault_at(kind: u32, line: u32, dom: DomId) -> Fault
+    ensures { result ≡ record { kind = kind; line = line; dom = dom.0 } }
+{
     Fault {
         kind,
         line,
@@ -36,7 +39,9 @@ pub(crate) const HANDLES: Fault = Fault {
     dom: 0,
 };
 
-pub(crate) fn policy_fault(refused: PolicyFault) -> Fault {
+pub(crate) fn policy_fault(refused: PolicyFault) -> Fault
+    ensures { 1 ≤ result.kind }
+{
     let nobody = DomId(0);
     match refused.kind {
         PolicyFaultKind::Syntax => fault_at(3, refused.line, nobody),
@@ -49,7 +54,9 @@ pub(crate) fn policy_fault(refused: PolicyFault) -> Fault {
     }
 }
 
-pub(crate) fn config_fault(refused: StartFault) -> Fault {
+pub(crate) fn config_fault(refused: StartFault) -> Fault
+    ensures { 1 ≤ result.kind }
+{
     match refused {
         StartFault::Memory => MEMORY,
         StartFault::Config(config) => match config {

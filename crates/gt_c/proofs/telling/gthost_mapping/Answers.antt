@@ -1,4 +1,4 @@
-use Rattle.std.proofs.Common.{ap, refl, ◌≡◌, ◌∙◌, Option}
+use Rattle.std.proofs.Common.{ap, refl, ◌∙◌, Option}
 use Rattle.gt_seat.specs.Encoding.{encoded}
 use Rattle.gt_c.specs.declared.here.Here.{Here}
 use Rattle.gt_calls.specs.declared.held.Held.{Held as Kept}
