@@ -1,0 +1,71 @@
+-- What goes out for a command whose text is written as JSON.
+use Rattle.std.specs.Prelude.{◌≡◌, ◌⊎◌, ℕ, Bool, List, [], Option, Some, Result, Ok, Err}
+use Rattle.std.specs.Io.KnownBytes.{Appends, Keeps}
+use Rattle.gt_streams.specs.Streams.{AppendsBeginning}
+use Rattle.gt_json.specs.Lines.{json_text}
+use Rattle.gt_json.specs.declared.places.Printed.{Printed}
+use Rattle.gt_json.specs.declared.places.Printed.TheVariants.{Run, Policy, Entries}
+use Rattle.gt_script.specs.Script.{Tells}
+use Rattle.gt_script.specs.RunScripts.{RunTells}
+use Rattle.gt_host.specs.declared.fault.PlayFault.{PlayFault}
+use Rattle.gt_host.specs.declared.fault.PlayFault.TheVariants as plays
+use Rattle.gt_host.specs.Playing.{Played}
+use Rattle.gt_run.specs.declared.fault.RunFault.{RunFault}
+use Rattle.gt_run.specs.declared.fault.RunFault.TheVariants as runs
+use Rattle.gt_run.specs.Runs.{Ran}
+use Rattle.gt_listing.specs.declared.fault.ListingFault.{ListingFault}
+use Rattle.gt_listing.specs.declared.fault.ListingFault.TheVariants as listings
+use Rattle.gt_listing.specs.Writing.{Listed}
+use Rattle.gt_dump.specs.declared.asked.Asked.{Asked}
+use Rattle.gt_dump.specs.declared.fault.DumpFault.{DumpFault}
+use Rattle.gt_dump.specs.declared.fault.DumpFault.TheVariants as dumps
+use Rattle.gt_dump.specs.Dumps.{Told}
+
+-- what a command promises of the bytes that its writer held and holds, and of its answer (own)
+abbrev pub Promise : Type 0 → Type 1
+Promise F = Option (List ℕ) → Option (List ℕ) → Result (Unit {0}) F → Type 0
+
+-- the text is one that the command writes to a writer without bytes, with this answer (own)
+abbrev pub Writes : {F : Type 0} → Promise F → Result (Unit {0}) F → List ℕ → Type 0
+Writes Wrote answer text = Wrote (Some []) (Some text) answer
+
+-- Why the JSON did not go out whole. It may be that none did: memory was refused, or the command has this fault. Or
+-- memory was refused or a write failed on the way, and a beginning of it did. (own)
+abbrev pub Failed : {F : Type 0} → Printed → F → F → Promise F → Option (List ℕ) → Option (List ℕ) → F → Type 0
+Failed printed memory write Wrote old new fault =
+    (Keeps old new × ((fault ≡ memory) ⊎ ((text : List ℕ) × Writes Wrote (Err fault) text)))
+    ⊎ (((fault ≡ memory) ⊎ (fault ≡ write))
+    × ((text : List ℕ) × Writes Wrote (Ok tt) text × AppendsBeginning old new (json_text printed text)))
+
+-- what goes out: at Ok the JSON of a text that the command writes; after a fault none of it, or a beginning (own)
+abbrev pub AsJson : {F : Type 0} → Printed → F → F → Promise F → Promise F
+AsJson printed memory write Wrote old new (Ok done) =
+    (text : List ℕ) × Writes Wrote (Ok tt) text × Appends old new (json_text printed text)
+AsJson printed memory write Wrote old new (Err fault) = Failed printed memory write Wrote old new fault
+
+-- What goes out once a command wrote a text to memory, with an answer. At Ok it is the JSON of the text, or a beginning
+-- of it, since memory was refused or a write failed. At a fault nothing does, and the fault is the
+-- command's, or that memory was refused. (own)
+abbrev pub Passes : {F : Type 0} → Printed → F → F → List ℕ → Result (Unit {0}) F → Promise F
+Passes printed memory write text (Ok done) old new (Ok passed) = Appends old new (json_text printed text)
+Passes printed memory write text (Ok done) old new (Err fault) =
+    ((fault ≡ memory) ⊎ (fault ≡ write)) × AppendsBeginning old new (json_text printed text)
+Passes printed memory write text (Err why) old new (Ok passed) = ⊥
+Passes printed memory write text (Err why) old new (Err fault) = ((fault ≡ memory) ⊎ (fault ≡ why)) × Keeps old new
+
+-- what `play_json` writes for an input (own)
+abbrev pub PlayedAsJson : List ℕ → Bool → Promise PlayFault
+PlayedAsJson input audit = AsJson Run plays.Memory plays.Write (Played (Tells input) audit)
+
+-- what `run_json` writes for an input, with a log or without (own)
+abbrev pub RanAsJson : List ℕ → Bool → Promise RunFault
+RanAsJson input logged =
+    AsJson Run (runs.Play plays.Memory) (runs.Play plays.Write) (Ran logged (RunTells input))
+
+-- what `policy_json` writes for an input (own)
+abbrev pub ListedAsJson : List ℕ → Promise ListingFault
+ListedAsJson input = AsJson Policy listings.Memory listings.Write (Listed input)
+
+-- what `entries_json` writes for an input of which this is asked (own)
+abbrev pub ToldAsJson : Asked → List ℕ → Promise DumpFault
+ToldAsJson asked input = AsJson Entries dumps.Memory dumps.Write (Told asked input)

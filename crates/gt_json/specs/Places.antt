@@ -1,0 +1,117 @@
+-- What each word of a line is, by its place (own; the lines are those of the texts that the commands print).
+use Rattle.std.specs.Prelude.{ℕ, ◌&&◌, ◌||◌, not, Bool, true, false, List, codes, if◌then◌else◌}
+use Rattle.std.specs.Str.{bytes_eq}
+use Rattle.gt_json.specs.Words.{is_rule}
+use Rattle.gt_json.specs.declared.places.Printed.{Printed}
+use Rattle.gt_json.specs.declared.places.Printed.TheVariants.{Run, Policy, Entries}
+use Rattle.gt_json.specs.declared.places.Place.{Place}
+use Rattle.gt_json.specs.declared.places.Place.TheVariants as place
+
+-- what the first word of a line is (own)
+abbrev pub start : Printed → Place
+start Run = place.Line
+start Policy = place.Source
+start Entries = place.Dumped
+
+-- it is the first word of a line (own)
+abbrev pub is_start : Place → Bool
+is_start place.Line = true
+is_start place.Source = true
+is_start place.Dumped = true
+is_start _ = false
+
+-- it is a fact, which may have its own name (own)
+abbrev pub is_fact : Place → Bool
+is_fact place.Fact = true
+is_fact _ = false
+
+-- the word is the colon before the answer of an audit line, which is no member (own)
+abbrev pub is_mark : Place → List ℕ → Bool
+is_mark p w = not (is_start p) && bytes_eq w (codes ":")
+
+-- what comes after the first word of a line of a run (own)
+abbrev pub after_line : List ℕ → Place
+after_line w = if bytes_eq w (codes "audit") then place.Recorded
+    else (if bytes_eq w (codes "lost") then place.Lost else place.Caller)
+
+-- what comes after the kind of an entry (own)
+abbrev pub after_kind : List ℕ → Place
+after_kind w = if (bytes_eq w (codes "page") || bytes_eq w (codes "sub")) || bytes_eq w (codes "via") then place.Grantee
+    else (if bytes_eq w (codes "refused") then place.Field else place.Fact)
+
+-- what comes after the name of a call (own)
+abbrev pub after_call : List ℕ → Place
+after_call w = if bytes_eq w (codes "copy") then place.FromKind
+    else (if bytes_eq w (codes "version") || bytes_eq w (codes "setup") then place.Asked else place.Owner)
+
+-- what comes after a word that is a member (own)
+abbrev pub next_told : Place → List ℕ → Place
+next_told place.Line w = after_line w
+next_told place.Caller w = if bytes_eq w (codes "show") then place.Shown else place.Answer
+next_told place.Answer w = if is_rule w then place.Status else place.Fact
+next_told place.Status w = place.Fact
+next_told place.Fact w = place.Fact
+next_told place.Shown w = place.Entry
+next_told place.Entry w = place.Kind
+next_told place.Kind w = after_kind w
+next_told place.Grantee w = place.Mode
+next_told place.Mode w = place.Fact
+next_told place.Field w = place.Fact
+next_told place.Recorded w = place.Call
+next_told place.Call w = after_call w
+next_told place.Owner w = place.Reference
+next_told place.Reference w = place.Flags
+next_told place.Flags w = place.Fact
+next_told place.Asked w = place.Fact
+next_told place.FromKind w = place.FromOwner
+next_told place.FromOwner w = place.FromAt
+next_told place.FromAt w = place.FromOff
+next_told place.FromOff w = place.ToKind
+next_told place.ToKind w = place.ToOwner
+next_told place.ToOwner w = place.ToAt
+next_told place.ToAt w = place.ToOff
+next_told place.ToOff w = place.Len
+next_told place.Len w = place.Flags
+next_told place.Lost w = place.Fact
+next_told place.Source w = place.Target
+next_told place.Target w = place.Permission
+next_told place.Permission w = place.Fact
+next_told place.Dumped w = place.Kind
+
+-- what the word after this one is (own)
+unfoldable pub next : Place → List ℕ → Place
+next p w = if is_mark p w then place.Answer else next_told p w
+
+-- what the word at this place is called; at a fact, one without a name of its own (own)
+unfoldable pub name_at : Place → List ℕ → List ℕ
+name_at place.Line w = if bytes_eq w (codes "audit") || bytes_eq w (codes "lost") then codes "type" else codes "line"
+name_at place.Caller w = if bytes_eq w (codes "show") then codes "type" else codes "domain"
+name_at place.Answer w = if is_rule w then codes "rule" else codes "answer"
+name_at place.Status w = codes "status"
+name_at place.Fact w = codes "bytes"
+name_at place.Shown w = codes "domain"
+name_at place.Entry w = codes "entry"
+name_at place.Kind w = codes "kind"
+name_at place.Grantee w = codes "grantee"
+name_at place.Mode w = codes "mode"
+name_at place.Field w = codes "field"
+name_at place.Recorded w = codes "domain"
+name_at place.Call w = codes "call"
+name_at place.Owner w = codes "owner"
+name_at place.Reference w = codes "ref"
+name_at place.Flags w = codes "flags"
+name_at place.Asked w = codes "asked"
+name_at place.FromKind w = codes "from_kind"
+name_at place.FromOwner w = codes "from_owner"
+name_at place.FromAt w = codes "from_at"
+name_at place.FromOff w = codes "from_off"
+name_at place.ToKind w = codes "to_kind"
+name_at place.ToOwner w = codes "to_owner"
+name_at place.ToAt w = codes "to_at"
+name_at place.ToOff w = codes "to_off"
+name_at place.Len w = codes "len"
+name_at place.Lost w = codes "records"
+name_at place.Source w = codes "source"
+name_at place.Target w = codes "target"
+name_at place.Permission w = codes "perm"
+name_at place.Dumped w = codes "entry"

@@ -1,0 +1,34 @@
+//! Why a text was not written as JSON.
+use gt_streams::WriteFault;
+use std::alloc::AllocError;
+
+/// Why a text was not written whole. A beginning of its JSON may have gone out.
+#[derive(Clone, Copy, Debug, PartialEq, Eq)]
+pub enum JsonFault {
+    /// Memory was refused.
+    Memory,
+    /// A write failed.
+    Write,
+}
+
+impl From<AllocError> for JsonFault {
+    ghost use Rattle.std.specs.Prelude.{◌≡◌};
+    ghost use Rattle.gt_json.specs.declared.fault.JsonFault.TheVariants as faults;
+
+    ghost from_gives = { λ _ fault. fault ≡ faults.Memory };
+
+    fn from(_error: AllocError) -> JsonFault {
+        JsonFault::Memory
+    }
+}
+
+impl From<WriteFault> for JsonFault {
+    ghost use Rattle.std.specs.Prelude.{◌≡◌};
+    ghost use Rattle.gt_json.specs.declared.fault.JsonFault.TheVariants as faults;
+
+    ghost from_gives = { λ _ fault. fault ≡ faults.Write };
+
+    fn from(_error: WriteFault) -> JsonFault {
+        JsonFault::Write
+    }
+}

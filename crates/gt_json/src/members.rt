@@ -1,0 +1,61 @@
+//! A word of a line as a member of an object.
+ghost use Rattle.std.specs.Prelude.{◌≡◌, ◌++◌, OnOk};
+ghost use Rattle.gt_json.specs.Lines.{is_fact, member_of, is_hex, lead, member_text, piece};
+
+use crate::places::Place;
+use crate::values::{push_quoted, push_value};
+use crate::words::{is, split_at_equals};
+use gt_streams::push_text;
+use std::alloc::AllocError;
+
+// The name and the value of a word.
+fn member_of<'w>(place: Place, word: &'w [u8]) -> (&'w [u8], &'w [u8])
+    ensures { (result.0.now, result.1.now) ≡ member_of place word.entry.now }
+{
+    let called = place.name(word).as_bytes();
+    if !place.is_fact() {
+        return (called, word);
+    }
+    match split_at_equals(word) {
+        Some(parts) => parts,
+        None => (called, word),
+    }
+}
+
+// Whether the value of this name is hexadecimal.
+fn is_hex(place: Place, name: &[u8]) -> bool
+    ensures { result ≡ is_hex place name.now }
+{
+    place.is_fact() && (is(name, "bytes") || is(name, "status"))
+}
+
+// What stands before a member.
+fn lead(place: Place) -> &'static str
+    ensures { result.now ≡ lead place }
+{
+    if place.is_start() { "{" } else { "," }
+}
+
+// Appends a word as a member.
+#[tactic(auto, unfolding(crate::specs::Lines::member_text))]
+fn push_member(out: &mut Vec<u8>, place: Place, word: &[u8]) -> Result<(), AllocError>
+    ensures { OnOk result (out.new.items ≡ out.old.items ++ member_text place word.now) }
+{
+    let (name, value) = member_of(place, word);
+    push_text(out, lead(place))?;
+    push_quoted(out, name)?;
+    push_text(out, ":")?;
+    push_value(out, is_hex(place, name), value)
+}
+
+/// Appends what a word comes to: its member, or nothing where it is none. After an Err a part of it may be there.
+#[tactic(auto, unfolding(crate::specs::Lines::piece))]
+pub fn push_piece(out: &mut Vec<u8>, place: Place, word: &[u8]) -> Result<(), AllocError>
+    ensures { OnOk result (out.new.items ≡ out.old.items ++ piece place word.now) }
+{
+    if place.is_mark(word) {
+        Ok(())
+    } else {
+        push_member(out, place, word)
+    }
+}

@@ -1,0 +1,30 @@
+-- Reasons as lines.
+use Rattle.std.specs.Prelude.{◌≡◌, ℕ, ◌-◌, List, ◌++◌, codes, decimal}
+use Rattle.gt_types.specs.declared.limits.TheConstants.{DOMID_SELF, LAST_VERSION, MAX_DOMAINS, MAX_FRAMES, MAX_TABLE_FRAMES}
+use Rattle.gt_types.specs.declared.config.ConfigFault.{ConfigFault}
+use Rattle.gt_types.specs.declared.config.ConfigFault.TheVariants as faults
+
+-- `FILE:LINE:COLUMN: ` (own)
+abbrev pub heading_text : List ℕ → ℕ → ℕ → List ℕ
+heading_text file line column =
+    file ++ codes ":" ++ decimal line ++ codes ":" ++ decimal column ++ codes ": "
+
+-- a word in quotes (own)
+abbrev pub quoted_text : List ℕ → List ℕ
+quoted_text word = codes "\"" ++ word ++ codes "\""
+
+-- a line was added that tells a reason at this line of the file (own)
+abbrev pub TellsAt : List ℕ → ℕ → List ℕ → List ℕ → Type 0
+TellsAt file line old new =
+    (column : ℕ) × (message : List ℕ) × (new ≡ old ++ heading_text file line column ++ message ++ codes "\n")
+
+-- the limit that a fault is about, 0 where it is about none (own)
+abbrev pub limit_of : ConfigFault → ℕ
+limit_of faults.NoDomains = 0
+limit_of (faults.TooMany id) = MAX_DOMAINS
+limit_of (faults.Id id) = DOMID_SELF - 1
+limit_of (faults.Repeated id) = 0
+limit_of (faults.Frames id) = MAX_FRAMES
+limit_of (faults.TableFrames id) = MAX_TABLE_FRAMES
+limit_of (faults.Version id) = LAST_VERSION
+limit_of faults.Generation = 0

@@ -1,0 +1,44 @@
+//! The policy block of a script.
+use gt_lines::{is, line_words};
+use std::alloc::{AllocError, Global};
+
+fn is_just(words: &[&[u8]], word: &str) -> bool {
+    match words {
+        [only] => is(only, word),
+        _ => false,
+    }
+}
+
+/// Whether the first line with words is a line `policy`.
+pub fn has_policy(alloc: Global, lines: &[&str]) -> Result<bool, AllocError> {
+    for line in lines {
+        let words = line_words(alloc, line)?;
+        if !words.is_empty() {
+            return Ok(is_just(words.as_slice(), "policy"));
+        }
+    }
+    Ok(false)
+}
+
+/// The text of the policy block, with as many empty lines before it as the script has lines: its lines have the numbers
+/// that they have in the script. None without a block.
+pub fn block_text(alloc: Global, lines: &[&str]) -> Result<Option<String>, AllocError> {
+    let mut text = String::new(alloc);
+    let mut is_open = false;
+    if !has_policy(alloc, lines)? {
+        return Ok(None);
+    }
+    for line in lines {
+        let words = line_words(alloc, line)?;
+        if is_open {
+            if is_just(words.as_slice(), "end") {
+                break;
+            }
+            text.push_str(line)?;
+        } else {
+            is_open = is_just(words.as_slice(), "policy");
+        }
+        text.push('\n')?;
+    }
+    Ok(Some(text))
+}

@@ -1,0 +1,26 @@
+//! Where a word of a line stands.
+
+/// The column of a line at which its word with this number begins, from 0 on; the one past its last word if there is
+/// no such word. Columns are counted from 1, in bytes.
+pub fn column_of(line: &[u8], number: usize) -> usize {
+    let mut seen: usize = 0;
+    let mut end: usize = 0;
+    let mut is_in_word = false;
+    for (at, byte) in line.iter().enumerate() {
+        if *byte == b'#' {
+            break;
+        }
+        let is_blank = *byte == b' ' || *byte == b'\t';
+        if !is_blank {
+            if !is_in_word {
+                if seen == number {
+                    return at.saturating_add(1);
+                }
+                seen = seen.saturating_add(1);
+            }
+            end = at.saturating_add(1);
+        }
+        is_in_word = !is_blank;
+    }
+    end.saturating_add(1)
+}

@@ -1,0 +1,166 @@
+//! The forms of a script's lines, and what stands at each of their words.
+use gt_lines::is;
+
+/// The form of each line, as docs/FORMATS.md writes it. A word in capitals is a part, and any other stands for itself.
+pub const FORMS: [&str; 30] = [
+    "triple TYPE TYPE PERMISSION",
+    "wear GENERATION",
+    "domain ID LABEL FRAMES TABLEFRAMES VERSION",
+    "do ID grant REF page DOM MODE FRAME",
+    "do ID grant REF sub DOM MODE FRAME OFF LEN",
+    "do ID grant REF via DOM MODE DOM REF",
+    "do ID bytes REF HEX",
+    "do ID revoke REF",
+    "do ID withdraw REF",
+    "do ID demote REF",
+    "do ID promote REF",
+    "do ID map NAME DOM REF FLAGS",
+    "do ID unmap NAME",
+    "do ID load NAME OFF LEN",
+    "do ID store NAME OFF HEX",
+    "do ID peek FRAME OFF LEN",
+    "do ID poke FRAME OFF HEX",
+    "do ID copy gref DOM REF OFF gref DOM REF OFF LEN",
+    "do ID copy gref DOM REF OFF frame DOM FRAME OFF LEN",
+    "do ID copy frame DOM FRAME OFF gref DOM REF OFF LEN",
+    "do ID copy frame DOM FRAME OFF frame DOM FRAME OFF LEN",
+    "do ID version NUMBER",
+    "do ID setup NUMBER",
+    "do ID size DOM",
+    "do ID getversion DOM",
+    "begin ID revoke REF",
+    "tick ID STEPS",
+    "show ID REF",
+    "tell ID FLAG",
+    "await ID FLAG",
+];
+
+// A part of a form: its name, a word that fits, and what is said to be expected there.
+struct Part {
+    name: &'static str,
+    example: &'static str,
+    expected: &'static str,
+}
+
+const PARTS: [Part; 20] = [
+    Part {
+        name: "TYPE",
+        example: "t",
+        expected: "a type, as the policy language has names",
+    },
+    Part {
+        name: "PERMISSION",
+        example: "copy",
+        expected: "map_read, map_write, unmap, transfer, setup, copy or query",
+    },
+    Part {
+        name: "GENERATION",
+        example: "0",
+        expected: "a generation, 0 to 1048575",
+    },
+    Part {
+        name: "ID",
+        example: "0",
+        expected: "the number of a domain",
+    },
+    Part {
+        name: "LABEL",
+        example: "u:r:t",
+        expected: "a label USER:ROLE:TYPE",
+    },
+    Part {
+        name: "FRAMES",
+        example: "1",
+        expected: "a number of frames",
+    },
+    Part {
+        name: "TABLEFRAMES",
+        example: "1",
+        expected: "a number of table frames",
+    },
+    Part {
+        name: "VERSION",
+        example: "1",
+        expected: "the version of a table",
+    },
+    Part {
+        name: "REF",
+        example: "0",
+        expected: "a reference, a number below 4294967296",
+    },
+    Part {
+        name: "DOM",
+        example: "0",
+        expected: "a domain, a number below 65536 or self",
+    },
+    Part {
+        name: "MODE",
+        example: "rw",
+        expected: "rw or ro",
+    },
+    Part {
+        name: "FRAME",
+        example: "0",
+        expected: "a frame, a number below 18446744073709551616",
+    },
+    Part {
+        name: "OFF",
+        example: "0",
+        expected: "an offset, a number below 65536",
+    },
+    Part {
+        name: "LEN",
+        example: "0",
+        expected: "a length, a number below 65536",
+    },
+    Part {
+        name: "HEX",
+        example: "-",
+        expected: "bytes: an even number of hexadecimal digits, at most 8192, or -",
+    },
+    Part {
+        name: "NAME",
+        example: "a",
+        expected: "a label: a letter, and at most 31 letters, digits or _",
+    },
+    Part {
+        name: "FLAGS",
+        example: "rw",
+        expected: "flags: rw, ro or a number below 4294967296",
+    },
+    Part {
+        name: "NUMBER",
+        example: "0",
+        expected: "a number below 4294967296",
+    },
+    Part {
+        name: "STEPS",
+        example: "1",
+        expected: "a number of steps, 1 to 100000",
+    },
+    Part {
+        name: "FLAG",
+        example: "a",
+        expected: "a flag: a letter, and at most 31 letters, digits or _",
+    },
+];
+
+/// A word that fits this word of a form.
+pub fn example_of<'f>(word: &'f [u8]) -> &'f [u8] {
+    for part in &PARTS {
+        if is(word, part.name) {
+            return part.example.as_bytes();
+        }
+    }
+    word
+}
+
+/// What is expected at this word of a form; nothing for a word that stands for itself.
+pub fn expected_at(word: &[u8]) -> Option<&'static str> {
+    for part in &PARTS {
+        if is(word, part.name) {
+            return Some(part.expected);
+        }
+    }
+    None
+}

@@ -1,0 +1,41 @@
+//! How far the words of a line fit a form.
+ghost use Rattle.std.specs.Prelude.{◌≡◌, ◌≤◌, IfOk, length, map};
+ghost use Rattle.gt_reasons.specs.Fitting.{fits, IsFitting};
+
+use gt_lines::read_line;
+use std::alloc::{AllocError, Global};
+
+// Whether a line can be read that begins with so many of these words, and goes on as the example does.
+fn fits<'w>(
+    alloc: Global,
+    words: &[&'w [u8]],
+    example: &[&'w [u8]],
+    count: usize,
+) -> Result<bool, AllocError>
+    requires words { count ≤ length words.now }
+    requires example { count ≤ length example.now }
+    ensures { IfOk result (λ b. b ≡ fits (map (λ w. w.now) words.now) (map (λ w. w.now) example.now) count) }
+{
+    let mut line = Vec::from_slice(alloc, &words[..count])?;
+    line.extend_from_slice(&example[count..])?;
+    Ok(read_line(line.as_slice()).is_some())
+}
+
+/// How many first words of a line fit an example: with so many of them it can be read when it goes on as the example
+/// does, and with one more it can't, or there is none in the line or in the example. With no word at all the example
+/// itself has to be read, or the answer is 0.
+pub fn fitting<'w>(
+    alloc: Global,
+    words: &[&'w [u8]],
+    example: &[&'w [u8]],
+) -> Result<usize, AllocError>
+    ensures { IfOk result (IsFitting (map (λ w. w.now) words.now) (map (λ w. w.now) example.now)) }
+{
+    let most = words.len().min(example.len());
+    'counts: for count in 0..most {
+        if !fits(alloc, words, example, count + 1)? {
+            return Ok(count);
+        }
+    }
+    Ok(most)
+}

@@ -1,0 +1,169 @@
+//! The rules that come near a call that the policy refused.
+use crate::blocks::block_text;
+use crate::texts::push_word;
+use gt_advice::{Question, why};
+use gt_lines::{Line, line_words, read_line, text_lines};
+use gt_policy::PolicyFaultKind;
+use gt_streams::text_of;
+use gt_texts::{push_number, push_text};
+use std::alloc::{AllocError, Global};
+
+// A call that was refused: the number of its line, and what the policy does not allow.
+#[derive(Clone, Copy)]
+struct Refusal<'t> {
+    line: &'t str,
+    facts: &'t str,
+    source: &'t str,
+    target: &'t str,
+    perm: &'t str,
+}
+
+// The refusal that an answer line tells: none of a line with another answer, or of an audit line.
+fn refusal_of<'t>(line: &'t str) -> Option<Refusal<'t>> {
+    let (call, facts) = line.split_once(" N5 -8 source=")?;
+    let (number, domain) = call.split_once(' ')?;
+    let (source, rest) = facts.split_once(" target=")?;
+    let (target, perm) = rest.split_once(" perm=")?;
+    if domain.contains(' ') {
+        return None;
+    }
+    Some(Refusal {
+        line: number,
+        facts,
+        source,
+        target,
+        perm,
+    })
+}
+
+// Appends the lines of the statements that come near, and answers whether there is one.
+fn push_statements(
+    alloc: Global,
+    out: &mut Vec<u8>,
+    file: &str,
+    block: &str,
+    refusal: Refusal<'_>,
+) -> Result<bool, AllocError> {
+    let question = Question {
+        source: Some(refusal.source),
+        target: Some(refusal.target),
+        perm: refusal.perm,
+    };
+    let explanation = match why(alloc, file, block, &question) {
+        Ok(explanation) => explanation,
+        Err(fault) => {
+            return match fault.kind {
+                PolicyFaultKind::Memory => Err(AllocError),
+                _ => Ok(false),
+            };
+        }
+    };
+    let Some(near) = explanation.lines.as_slice().strip_prefix(b"denied\n") else {
+        return Ok(false);
+    };
+    out.extend_from_slice(near)?;
+    Ok(!near.is_empty())
+}
+
+// Appends a triple with its line, if it comes near: it has the target, and the permission or the source.
+fn push_triple(
+    alloc: Global,
+    out: &mut Vec<u8>,
+    file: &str,
+    number: usize,
+    line: &str,
+    refusal: Refusal<'_>,
+) -> Result<bool, AllocError> {
+    let words = line_words(alloc, line)?;
+    let Some(Line::Triple(triple)) = read_line(words.as_slice()) else {
+        return Ok(false);
+    };
+    let has_target = triple.target.as_bytes() == refusal.target.as_bytes();
+    let has_source = triple.source.as_bytes() == refusal.source.as_bytes();
+    if !has_target || !(has_source || triple.perm.name() == refusal.perm) {
+        return Ok(false);
+    }
+    push_text(out, file)?;
+    push_text(out, ":")?;
+    push_number(out, number)?;
+    push_text(out, ": ")?;
+    push_text(out, line.trim())?;
+    push_text(out, "\n")?;
+    Ok(true)
+}
+
+fn push_triples(
+    alloc: Global,
+    out: &mut Vec<u8>,
+    file: &str,
+    lines: &[&str],
+    refusal: Refusal<'_>,
+) -> Result<bool, AllocError> {
+    let mut is_any = false;
+    for (i, line) in lines.iter().enumerate() {
+        is_any |= push_triple(alloc, out, file, i.saturating_add(1), line, refusal)?;
+    }
+    Ok(is_any)
+}
+
+// Appends the first line about a refusal.
+fn push_refusal(out: &mut Vec<u8>, file: &str, refusal: Refusal<'_>) -> Result<(), AllocError> {
+    push_text(out, file)?;
+    push_text(out, ":")?;
+    push_text(out, refusal.line)?;
+    push_text(out, ": N5: no rule gives ")?;
+    push_text(out, refusal.perm)?;
+    push_text(out, " to ")?;
+    push_word(out, refusal.source.as_bytes())?;
+    push_text(out, " on ")?;
+    push_word(out, refusal.target.as_bytes())?;
+    push_text(out, "; near:\n")
+}
+
+// Appends the rules that come near a refusal.
+fn push_near(
+    alloc: Global,
+    out: &mut Vec<u8>,
+    file: &str,
+    lines: &[&str],
+    block: Option<&str>,
+    refusal: Refusal<'_>,
+) -> Result<(), AllocError> {
+    push_refusal(out, file, refusal)?;
+    let is_any = match block {
+        Some(block) => push_statements(alloc, out, file, block, refusal)?,
+        None => push_triples(alloc, out, file, lines, refusal)?,
+    };
+    if is_any {
+        return Ok(());
+    }
+    push_text(out, "none\n")
+}
+
+/// Appends, for each call that the policy refused, the rules of the script that come near: statements of its policy
+/// block, or triples, each with its line. What is refused again is told once. `printed` is the text that a play or a
+/// run printed for the script. After an Err a part of the lines may be there.
+pub fn push_refusals(
+    alloc: Global,
+    out: &mut Vec<u8>,
+    file: &str,
+    input: &[u8],
+    printed: &[u8],
+) -> Result<(), AllocError> {
+    let (Ok(script), Ok(printed)) = (text_of(input), text_of(printed)) else {
+        return Ok(());
+    };
+    let lines = text_lines(alloc, script)?;
+    let block = block_text(alloc, lines.as_slice())?;
+    let block = block.as_ref().map(|text| text.as_str());
+    let mut told: Vec<&str> = Vec::new(alloc);
+    for line in text_lines(alloc, printed)?.as_slice() {
+        if let Some(refusal) = refusal_of(line) {
+            if !told.iter().any(|facts| *facts == refusal.facts) {
+                told.push(refusal.facts)?;
+                push_near(alloc, out, file, lines.as_slice(), block, refusal)?;
+            }
+        }
+    }
+    Ok(())
+}

@@ -1,0 +1,165 @@
+//! Why a script was refused.
+ghost use Rattle.std.specs.Prelude.{OnOk};
+ghost use Rattle.gt_reasons.specs.Reasons.{TellsAt};
+
+use crate::blocks::{block_text, has_policy};
+use crate::limits::{config_reason, mode_reason};
+use crate::reason::Reason;
+use crate::syntax::syntax_reason;
+use crate::texts::push_heading;
+use crate::waits::stuck_reason;
+use gt_advice::{Kind, check};
+use gt_lines::text_lines;
+use gt_script::{BlockFault, ScriptFault, ScriptFaultKind};
+use gt_streams::text_of;
+use gt_texts::{push_number, push_text};
+use gt_types::LONGEST_TEXT;
+use std::alloc::{AllocError, Global};
+use std::io::{self, Write};
+
+// A reason that is about a whole line.
+fn said(alloc: Global, text: &str) -> Result<Reason, AllocError> {
+    let mut message = Vec::new(alloc);
+    push_text(&mut message, text)?;
+    Ok(Reason { column: 1, message })
+}
+
+fn limit_reason(alloc: Global) -> Result<Reason, AllocError> {
+    let mut message = Vec::new(alloc);
+    push_text(&mut message, "a script has at most ")?;
+    push_number(&mut message, LONGEST_TEXT)?;
+    push_text(&mut message, " bytes")?;
+    Ok(Reason { column: 1, message })
+}
+
+// The column of the first byte that is no UTF-8.
+fn utf8_reason(alloc: Global, input: &[u8]) -> Result<Reason, AllocError> {
+    let mut reason = said(alloc, "here stands a byte that is no UTF-8")?;
+    if let Err(error) = str::from_utf8(input) {
+        let front = &input[..error.valid_up_to()];
+        let before = front
+            .iter()
+            .rev()
+            .take_while(|byte| **byte != b'\n')
+            .count();
+        reason.column = before.saturating_add(1);
+    }
+    Ok(reason)
+}
+
+// What a script lacks that comes to its end.
+fn end_reason(alloc: Global, lines: &[&str], kind: ScriptFaultKind) -> Result<Reason, AllocError> {
+    if kind == ScriptFaultKind::Config {
+        return said(alloc, "a script has a line domain, and this one has none");
+    }
+    if has_policy(alloc, lines)? {
+        return said(alloc, "the policy block has no line end");
+    }
+    said(
+        alloc,
+        "a script begins with a policy block or a line triple, and this one has neither",
+    )
+}
+
+// Why the line with this number has a fault of this kind.
+fn line_reason(alloc: Global, lines: &[&str], fault: &ScriptFault) -> Result<Reason, AllocError> {
+    let place = fault.line.saturating_sub(1);
+    if place >= lines.len() {
+        return end_reason(alloc, lines, fault.kind);
+    }
+    let line = lines[place];
+    match fault.kind {
+        ScriptFaultKind::Limit | ScriptFaultKind::Utf8 => limit_reason(alloc),
+        ScriptFaultKind::Syntax => syntax_reason(alloc, line),
+        ScriptFaultKind::Config => {
+            let has_policy = has_policy(alloc, lines)?;
+            config_reason(alloc, &lines[..place], line, has_policy)
+        }
+        ScriptFaultKind::Mode => mode_reason(alloc, line),
+        ScriptFaultKind::Stuck => stuck_reason(alloc, lines, line),
+    }
+}
+
+fn reason_of(alloc: Global, input: &[u8], fault: &ScriptFault) -> Result<Reason, AllocError> {
+    match (fault.kind, text_of(input)) {
+        (ScriptFaultKind::Limit, _) => limit_reason(alloc),
+        (_, Err(_)) => utf8_reason(alloc, input),
+        (_, Ok(text)) => {
+            let lines = text_lines(alloc, text)?;
+            line_reason(alloc, lines.as_slice(), fault)
+        }
+    }
+}
+
+// Appends a reason for a line.
+fn push_reason(
+    out: &mut Vec<u8>,
+    file: &str,
+    line: usize,
+    reason: &Reason,
+) -> Result<(), AllocError>
+    ensures { OnOk result (TellsAt file.now line out.old.items out.new.items) }
+{
+    push_heading(out, file, line, reason.column)?;
+    out.extend_from_slice(reason.message.as_slice())?;
+    push_text(out, "\n")
+}
+
+/// Appends why a script has this fault, which `parse` or `parse_run` gave for these bytes: a line
+/// `FILE:LINE:COLUMN: REASON`, at the line of the fault. After an Err a part of it may be there.
+pub fn push_script_reason(
+    alloc: Global,
+    out: &mut Vec<u8>,
+    file: &str,
+    input: &[u8],
+    fault: &ScriptFault,
+) -> Result<(), AllocError>
+    ensures { OnOk result (TellsAt file.now fault.now.line out.old.items out.new.items) }
+{
+    let reason = reason_of(alloc, input, fault)?;
+    push_reason(out, file, fault.line, &reason)
+}
+
+// What is wrong with the policy block of a script.
+fn block_reason(alloc: Global, input: &[u8]) -> Result<Reason, AllocError> {
+    let Ok(text) = text_of(input) else {
+        return utf8_reason(alloc, input);
+    };
+    let lines = text_lines(alloc, text)?;
+    let Some(block) = block_text(alloc, lines.as_slice())? else {
+        return said(alloc, "the script has no policy block");
+    };
+    let Ok(found) = check(alloc, block.as_str()) else {
+        return Err(AllocError);
+    };
+    for finding in found.as_slice() {
+        if finding.kind == Kind::Fault {
+            return Ok(Reason {
+                column: finding.column as usize,
+                message: Vec::from_slice(alloc, finding.message.as_slice())?,
+            });
+        }
+    }
+    said(alloc, "the policy block has a fault")
+}
+
+/// Appends why the policy block of a script has this fault: a line `FILE:LINE:COLUMN: REASON`, at the line of the
+/// fault. After an Err a part of it may be there.
+pub fn push_block_reason(
+    alloc: Global,
+    out: &mut Vec<u8>,
+    file: &str,
+    input: &[u8],
+    fault: &BlockFault,
+) -> Result<(), AllocError>
+    ensures { OnOk result (TellsAt file.now fault.now.line out.old.items out.new.items) }
+{
+    let reason = block_reason(alloc, input)?;
+    push_reason(out, file, fault.line, &reason)
+}
+
+/// Appends why a file was not read: a line `FILE: REASON`, in the system's words. After an Err a part of it may be
+/// there.
+pub fn push_read_reason(out: &mut Vec<u8>, file: &str, error: &io::Error) -> io::Result<()> {
+    writeln!(out, "{file}: {error}")
+}

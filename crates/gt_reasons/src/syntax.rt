@@ -1,0 +1,129 @@
+//! Why a line can't be read, or stands where it can't.
+ghost use Rattle.std.specs.Prelude.{IfOk, map};
+ghost use Rattle.gt_reasons.specs.Fitting.{IsMisfit};
+
+use crate::columns::column_of;
+use crate::forms::{FORMS, example_of, expected_at};
+use crate::misfit::fitting;
+use crate::reason::Reason;
+use crate::texts::push_word;
+use gt_lines::{Line, is, line_words, read_line};
+use gt_texts::push_text;
+use std::alloc::{AllocError, Global};
+
+// The words of a form, and words that fit them.
+fn examples<'f>(alloc: Global, form: &[&'f [u8]]) -> Result<Vec<&'f [u8]>, AllocError> {
+    let mut words = Vec::new(alloc);
+    for word in form {
+        words.push(example_of(word))?;
+    }
+    Ok(words)
+}
+
+/// The number of the first word, from 0 on, that fits no form of a line; that of the line's words if one is missing.
+pub fn first_misfit(alloc: Global, words: &[&[u8]]) -> Result<usize, AllocError>
+    ensures { IfOk result (IsMisfit (map (λ w. w.now) words.now)) }
+{
+    let mut most = 0;
+    'forms: for form in FORMS {
+        let form = line_words(alloc, form)?;
+        let example = examples(alloc, form.as_slice())?;
+        let count = fitting(alloc, words, example.as_slice())?;
+        if count > most {
+            most = count;
+        }
+    }
+    Ok(most)
+}
+
+// Appends the parts that are expected at this word by the forms that fit up to it, each once.
+fn push_expected(
+    alloc: Global,
+    out: &mut Vec<u8>,
+    words: &[&[u8]],
+    number: usize,
+) -> Result<(), AllocError> {
+    let mut told: Vec<&[u8]> = Vec::new(alloc);
+    for form in FORMS {
+        let form = line_words(alloc, form)?;
+        let example = examples(alloc, form.as_slice())?;
+        if fitting(alloc, words, example.as_slice())? == number {
+            push_next(out, &mut told, form.get(number).copied())?;
+        }
+    }
+    Ok(())
+}
+
+const NOTHING_MORE: &str = "nothing more";
+
+// Appends what is expected by the word of a form, or by its end, if that was not told yet.
+fn push_next<'f>(
+    out: &mut Vec<u8>,
+    told: &mut Vec<&'f [u8]>,
+    word: Option<&'f [u8]>,
+) -> Result<(), AllocError> {
+    let next = word.unwrap_or(NOTHING_MORE.as_bytes());
+    if told.iter().any(|other| *other == next) {
+        return Ok(());
+    }
+    push_text(out, if told.is_empty() { "expected " } else { " or " })?;
+    told.push(next)?;
+    match (word, expected_at(next)) {
+        (Some(word), None) => push_word(out, word),
+        (None, _) => push_text(out, NOTHING_MORE),
+        (Some(_), Some(expected)) => push_text(out, expected),
+    }
+}
+
+// The reason for words that no line has.
+fn misfit_reason(alloc: Global, line: &str, words: &[&[u8]]) -> Result<Reason, AllocError> {
+    let number = first_misfit(alloc, words)?;
+    let mut message = Vec::new(alloc);
+    match words.get(number) {
+        Some(word) => push_word(&mut message, word)?,
+        None => push_text(&mut message, "the line ends too early")?,
+    }
+    push_text(&mut message, ": ")?;
+    push_expected(alloc, &mut message, words, number)?;
+    Ok(Reason {
+        column: column_of(line.as_bytes(), number),
+        message,
+    })
+}
+
+// Where a line may stand, for one that stands elsewhere.
+fn place_of(line: &Line) -> &'static str {
+    match line {
+        Line::Triple(_) =>
+            "a line triple stands before wear and all domains, and not beside a policy block",
+        Line::Wear(_) =>
+            "a line wear stands once, after the policy block or the triples and before all domains",
+        Line::Domain(_) =>
+            "a line domain stands after the policy block or the triples, and before all calls",
+        Line::Body { .. } => "a line of the body stands after a line domain",
+    }
+}
+
+fn place_reason(alloc: Global, text: &str) -> Result<Reason, AllocError> {
+    let mut message = Vec::new(alloc);
+    push_text(&mut message, text)?;
+    Ok(Reason { column: 1, message })
+}
+
+/// Why a line of a script has the fault `syntax`: a word does not fit, or the line is out of its place.
+pub fn syntax_reason(alloc: Global, line: &str) -> Result<Reason, AllocError> {
+    let words = line_words(alloc, line)?;
+    if words
+        .first()
+        .is_some_and(|word| is(word, "policy") || is(word, "end"))
+    {
+        return place_reason(
+            alloc,
+            "a policy block stands before all other lines, from a line policy to a line end",
+        );
+    }
+    match read_line(words.as_slice()) {
+        Some(read) => place_reason(alloc, place_of(&read)),
+        None => misfit_reason(alloc, line, words.as_slice()),
+    }
+}
