@@ -8,7 +8,7 @@ use gt_types::{
     Config, Denial, DomId, DomainConfig, Facts, GrantRef, Memory, Perms, Rule, StartFault, Triple,
     Triples, TypeId,
 };
-use std::alloc::{AllocError, Global};
+use std::alloc::Global;
 
 pub const OWNER: DomId = DomId(1);
 
@@ -199,16 +199,14 @@ const DOMAINS: [DomainConfig; 3] = [
 
 /// Three domains whose labels are numbered as they are.
 pub fn three_domains(alloc: Global) -> Result<Roster, StartFault> {
-    match DOMAINS.to_vec(alloc) {
-        Ok(domains) => Roster::new(
-            alloc,
-            Config {
-                domains,
-                first_gen: 0,
-            },
-        ),
-        Err(AllocError) => Err(StartFault::Memory),
-    }
+    let Ok(domains) = DOMAINS.to_vec(alloc) else {
+        return Err(StartFault::Memory);
+    };
+    let config = Config {
+        domains,
+        first_gen: 0,
+    };
+    Roster::new(alloc, config)
 }
 
 /// The rights to all that is given, of each of these pairs.
