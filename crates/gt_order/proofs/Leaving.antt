@@ -1,5 +1,5 @@
 -- Where the policy allows it, a domain that leaves unmaps each of its mappings.
-use Rattle.std.proofs.Common.{◌≡◌, ℕ, Bool, true, false, cond, List, [], ◌∷◌, Option, Some, None, sym, refl, ap, ◌∙◌, subst}
+use Rattle.std.proofs.Common.{◌≡◌, Bool, true, false, cond, List, [], ◌∷◌, Option, Some, None, sym, refl, ap, ◌∙◌, subst}
 use Rattle.std.proofs.lemmas.Option.{none-some}
 use Rattle.std.specs.Prelude.{is_none}
 use Rattle.gt_types.specs.declared.TypeId.{TypeId}
@@ -11,13 +11,11 @@ use Rattle.gt_types.specs.declared.DomId.{DomId}
 use Rattle.gt_types.specs.declared.denial.Facts.TheVariants.{Policy}
 use Rattle.gt_types.specs.declared.denial.Rule.TheVariants.{N5, N6}
 use Rattle.gt_words.specs.Conditions.{Board, IsSameSeat}
-use Rattle.gt_words.specs.Views.{own_table}
 use Rattle.gt_words.specs.declared.view.View.{View}
 use Rattle.gt_handles.specs.Handles.{HandleMap, same_handle, value_of}
 use Rattle.gt_handles.specs.declared.handles.Handle.{Handle}
-use Rattle.gt_calls.specs.Asking.{begun_of}
 use Rattle.gt_calls.specs.Opening.{IsAllowed}
-use Rattle.gt_calls.specs.Path.{Continuation, ended, makes, path_of, by_mapping, after_beginning}
+use Rattle.gt_calls.specs.Path.{ended, makes, path_of, by_mapping, after_beginning}
 use Rattle.gt_calls.specs.Rules.{CallerKnowledge, denied, first, refused_when, rights_to_unmap, unmap_begun, unmap_denied}
 use Rattle.gt_calls.specs.declared.action.Step.TheVariants.{Unpin}
 use Rattle.gt_calls.specs.declared.action.Verdict.{Verdict}
