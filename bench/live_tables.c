@@ -114,7 +114,7 @@ static bool publish(const struct seat *owner, uint32_t reference, struct row *ro
     struct entry *entry = &domains[owner->position].entries[reference];
     read_lock(&domains[owner->position]);
     lock(entry);
-    bool free = entry->kind == INVALID && entry->generation < LAST_GENERATION;
+    bool free = entry->kind == INVALID && entry->reads == 0 && entry->writes == 0 && entry->generation < LAST_GENERATION;
     if (free) {
         entry->domain = domain;
         entry->frame = frame;
@@ -139,6 +139,20 @@ static bool revoke(const struct seat *owner, uint32_t reference, struct row *row
     unlock(entry);
     read_unlock(&domains[owner->position]);
     return idle;
+}
+
+static bool withdraw(const struct seat *owner, uint32_t reference, struct row *row) {
+    struct entry *entry = &domains[owner->position].entries[reference];
+    read_lock(&domains[owner->position]);
+    lock(entry);
+    bool valid = entry->kind != INVALID;
+    if (valid) {
+        entry->kind = INVALID;
+        row->valid = false;
+    }
+    unlock(entry);
+    read_unlock(&domains[owner->position]);
+    return valid;
 }
 
 // A list of free handles for this thread's domain.

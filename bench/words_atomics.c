@@ -12,6 +12,7 @@
 enum { WORDS_A_DOMAIN = STRIDE * (1 + ENTRIES), PAGE = 1 };
 
 #define READ_PIN 16ull
+#define PINS ((1ull << 28) - READ_PIN) // the two counts
 #define DOMAIN (1ull << 28)
 #define GENERATION (1ull << 44)
 
@@ -52,6 +53,16 @@ static bool revoke(const struct seat *owner, uint32_t reference, struct row *row
     uint64_t expected = word_of(row);
     uint64_t invalid = GENERATION * row->generation;
     if (!atomic_compare_exchange_strong(entry_of(owner->position, reference), &expected, invalid)) return false;
+    row->valid = false;
+    return true;
+}
+
+static bool withdraw(const struct seat *owner, uint32_t reference, struct row *row) {
+    if (!row->valid) return false;
+    _Atomic uint64_t *entry = entry_of(owner->position, reference);
+    uint64_t word = atomic_load(&entry[0]);
+    uint64_t invalid = GENERATION * row->generation + (word & PINS);
+    if (!atomic_compare_exchange_strong(&entry[0], &word, invalid)) return false;
     row->valid = false;
     return true;
 }

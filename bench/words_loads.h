@@ -5,6 +5,7 @@
 // A round makes the tests that one of `gt_bench` makes. To map: the domain named is found, its table has the entry, the
 // entry is a page, it is granted to the domain that maps, and it has room for a pin; the frame is read. To unmap: the
 // domain is found, and the pin goes. To revoke and grant: the owner's own row of the entry, and its place in the table.
+// To withdraw and grant: the same, with as many tries to grant as it takes until no pin is left.
 #include <pthread.h>
 #include <stdbool.h>
 #include <stdint.h>
@@ -12,7 +13,12 @@
 #include <stdlib.h>
 #include <string.h>
 
-enum { DOMAINS = 6, TABLE_FRAMES = 16, ENTRIES = 512 * TABLE_FRAMES, MOST_PINS = 4095, LAST_GENERATION = 1048575, MOST_THREADS = 4 };
+// How many domains there are: the owner, the middle, those of the threads, and others that do nothing (-DRUN_DOMAINS=64).
+#ifndef RUN_DOMAINS
+#define RUN_DOMAINS 6
+#endif
+
+enum { DOMAINS = RUN_DOMAINS, TABLE_FRAMES = 16, ENTRIES = 512 * TABLE_FRAMES, MOST_PINS = 4095, LAST_GENERATION = 1048575, MOST_THREADS = 4 };
 
 // Numbers of domains. The first one that maps a load's own entry has the number FIRST_MAPPER.
 enum { OWNER = 1, MIDDLE = 2, FIRST_MAPPER = 3 };
@@ -73,17 +79,23 @@ static bool publish(const struct seat *owner, uint32_t reference, struct row *ro
 // Revokes an entry of the owner, where it has no pins.
 static bool revoke(const struct seat *owner, uint32_t reference, struct row *row);
 
+// Withdraws an entry of the owner, whatever pins it has. Answers false where other pins came or went meanwhile.
+static bool withdraw(const struct seat *owner, uint32_t reference, struct row *row);
+
 // Tries once to take a read pin of a page that is granted to the domain named.
 static bool map(struct seat *seat, const struct target *target);
 
 // Gives a read pin back.
 static void unmap(struct seat *seat, const struct target *target);
 
+// What a thread does.
+enum part { MAPS, REVOKES, WITHDRAWS };
+
 struct job {
     struct seat seat;
     struct target target;
     struct row row;
-    bool grants;
+    enum part part;
     uint32_t rounds;
     uint32_t done;
 };
@@ -110,16 +122,32 @@ static uint32_t revoke_and_grant(struct seat seat, struct target target, struct 
     return done;
 }
 
+static uint32_t withdraw_and_grant(struct seat seat, struct target target, struct row row, uint32_t rounds) {
+    uint32_t done = 0;
+    while (done < rounds && row.generation < LAST_GENERATION) {
+        uint32_t domain = row.domain;
+        uint64_t frame = row.frame;
+        if (!withdraw(&seat, target.reference, &row)) continue;
+        while (!publish(&seat, target.reference, &row, domain, frame)) continue;
+        done++;
+    }
+    return done;
+}
+
 static void *run_job(void *argument) {
     struct job *job = argument;
-    job->done = job->grants ? revoke_and_grant(job->seat, job->target, job->row, job->rounds)
-                            : map_and_unmap(job->seat, job->target, job->rounds);
+    if (job->part == MAPS) job->done = map_and_unmap(job->seat, job->target, job->rounds);
+    else if (job->part == REVOKES) job->done = revoke_and_grant(job->seat, job->target, job->row, job->rounds);
+    else job->done = withdraw_and_grant(job->seat, job->target, job->row, job->rounds);
     return NULL;
 }
 
 // The jobs of a load, their entries granted. Answers false for a load that there is not.
 static bool make_jobs(const char *load, uint32_t threads, uint32_t rounds, struct job *jobs) {
-    bool grants = strcmp(load, "grants") == 0;
+    enum part first = MAPS;
+    if (strcmp(load, "grants") == 0) first = REVOKES;
+    if (strcmp(load, "withdrawals") == 0) first = WITHDRAWS;
+    bool grants = first != MAPS;
     bool shared = grants || strcmp(load, "one") == 0;
     uint32_t stride = strcmp(load, "apart") == 0 ? APART : ADJACENT;
     if (!shared && stride == ADJACENT && strcmp(load, "adjacent") != 0) return false;
@@ -135,7 +163,7 @@ static bool make_jobs(const char *load, uint32_t threads, uint32_t rounds, struc
         }
         uint32_t mine = grants && i == 0 ? OWNER : FIRST_MAPPER + i;
         struct seat seat = {search(mine), ids[0], 0};
-        jobs[i] = (struct job){seat, target, row, grants && i == 0, rounds, 0};
+        jobs[i] = (struct job){seat, target, row, i == 0 ? first : MAPS, rounds, 0};
     }
     return true;
 }

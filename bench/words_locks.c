@@ -49,7 +49,7 @@ static bool make_entries(void) {
 static bool publish(const struct seat *owner, uint32_t reference, struct row *row, uint32_t domain, uint64_t frame) {
     struct entry *entry = &domains[owner->position].entries[reference];
     lock(entry);
-    bool free = entry->kind == INVALID && entry->generation < LAST_GENERATION;
+    bool free = entry->kind == INVALID && entry->reads == 0 && entry->writes == 0 && entry->generation < LAST_GENERATION;
     if (free) {
         entry->domain = domain;
         entry->frame = frame;
@@ -71,6 +71,18 @@ static bool revoke(const struct seat *owner, uint32_t reference, struct row *row
     }
     unlock(entry);
     return idle;
+}
+
+static bool withdraw(const struct seat *owner, uint32_t reference, struct row *row) {
+    struct entry *entry = &domains[owner->position].entries[reference];
+    lock(entry);
+    bool valid = entry->kind != INVALID;
+    if (valid) {
+        entry->kind = INVALID;
+        row->valid = false;
+    }
+    unlock(entry);
+    return valid;
 }
 
 static bool map(struct seat *seat, const struct target *target) {

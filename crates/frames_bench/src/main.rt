@@ -13,7 +13,7 @@
 ghost use Rattle.std.specs.Prelude.{◌≡◌};
 
 use anyhow::{Result, bail};
-use gt_frames::{Frame, FrameName, Frames, Ground, Pool, Spot, Writ};
+use gt_frames::{Frame, FrameName, Frames, Ground, Pool, Spot, Visits, Writ};
 use gt_handles::Handles;
 use gt_types::{Config, DomId, DomainConfig, FRAME_SIZE, Range, TypeId};
 use std::alloc::Global;
@@ -142,22 +142,25 @@ fn copy_named(frames: &mut Frames, times: u32) -> u32 {
 }
 
 /// Locks a frame and frees it, and answers how often.
-fn lock_all<R: Wait>(rt: &R, pool: &Pool, times: u32) -> u32 {
+fn lock_all<R: Wait>(rt: &R, pool: &Pool, visits: &mut Visits, times: u32) -> u32 {
     for done in 0..times {
-        if pool.lock(rt, far()).is_none() {
-            return done;
+        match pool.lock(rt, far()) {
+            Some(frame) => frame.free(visits),
+            None => return done,
         }
     }
     times
 }
 
 /// Copies one whole frame to another under their locks, and answers how often.
-fn copy_locked<R: Wait>(rt: &R, pool: &Pool, times: u32) -> u32 {
+fn copy_locked<R: Wait>(rt: &R, pool: &Pool, visits: &mut Visits, times: u32) -> u32 {
     for done in 0..times {
         let Some(mut ends) = pool.lock_both(rt, far(), near()) else {
             return done;
         };
-        if ends.copy(&BY_OWNER, 0, 0, FRAME_SIZE).is_err() {
+        let copied = ends.copy(&BY_OWNER, 0, 0, FRAME_SIZE);
+        ends.free(visits);
+        if copied.is_err() {
             return done;
         }
     }
@@ -204,10 +207,13 @@ fn work_on_frames(rt: &HostRuntime, work: &str, count: u32) -> Result<u32> {
 }
 
 fn work_on_pool<R: Wait>(rt: &R, alloc: Global, work: &str, count: u32) -> Result<u32> {
-    let pool = Pool::new(alloc, &config(alloc)?)?;
+    let (pool, mut all_visits) = Pool::new(alloc, &config(alloc)?)?;
+    let Some(mut visits) = all_visits.pop() else {
+        bail!("no domains");
+    };
     match work {
-        "locks" => Ok(lock_all(rt, &pool, count)),
-        _ => Ok(copy_locked(rt, &pool, count)),
+        "locks" => Ok(lock_all(rt, &pool, &mut visits, count)),
+        _ => Ok(copy_locked(rt, &pool, &mut visits, count)),
     }
 }
 

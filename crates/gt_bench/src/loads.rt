@@ -1,14 +1,15 @@
 //! The loads, and the words that they run on.
-ghost use Rattle.std.specs.Prelude.{◌≡◌, ◌≢◌, ◌+◌, ◌<◌, All, IfOk, IfSome};
-ghost use Rattle.gt_words.specs.Rule.{layout_of};
+ghost use Rattle.std.specs.Prelude.{◌≡◌, ◌≢◌, ◌+◌, ◌<◌, All, IfOk, IfSome, length, true};
+ghost use Rattle.gt_words.specs.Rule.{layout_of, position_in};
 ghost use Rattle.gt_words.specs.Views.{last_of};
 ghost use Rattle.gt_words.specs.Conditions.{HasDomain, IsSameSeat, IsSeatOf};
 ghost use Rattle.gt_bench.specs.Mapping.{CanMap, IsUnusedFrom};
 
 use crate::mapper::{Mapper, Target, map_and_unmap, through_via};
-use crate::owner::{Row, page, publish, revoke_and_grant};
+use crate::owner::{Row, page, publish, revoke_and_grant, withdraw_and_grant};
 use anyhow::{Result, bail};
 use gt_entry::Entry;
+use gt_positions::Positions;
 use gt_types::{
     Config, DomId, DomainConfig, GrantRef, MAX_TABLE_FRAMES, StartFault, TABLE_ENTRIES, TypeId,
 };
@@ -27,10 +28,15 @@ pub enum Load {
     One,
     /// The first is the owner of the one entry, who revokes and grants it; the others map it.
     Grants,
+    /// The same with an owner who withdraws the entry, and grants it once it has no pin.
+    Withdrawals,
 }
 
 /// The most threads of a load.
 const MOST: usize = 4;
+
+/// The fewest domains of a run: the owner, the middle and one for each thread.
+pub(crate) const FEWEST: u16 = 6;
 
 /// The domain that grants.
 const OWNER: DomId = DomId(1);
@@ -64,28 +70,42 @@ fn domain(id: u16) -> DomainConfig
     }
 }
 
-// The owner, the middle and a domain for each thread.
-fn six_domains(alloc: Global) -> Result<Config, AllocError>
-    ensures owner { IfOk result (λ c. HasDomain (layout_of c) OWNER) }
-    ensures middle { IfOk result (λ c. HasDomain (layout_of c) MIDDLE) }
-    ensures first { IfOk result (λ c. c.first_gen ≡ 0) }
+// So many domains with the numbers from 1 on: the owner, the middle, those of the threads, and others that do nothing.
+fn run_domains(alloc: Global, count: u16) -> Result<Config, AllocError>
+    ensures { IfOk result (λ c. c.first_gen ≡ 0) }
 {
-    let domains = vec![in alloc;
-        domain(1),
-        domain(2),
-        domain(3),
-        domain(4),
-        domain(5),
-        domain(6),
-    ]?;
+    let mut domains = Vec::new(alloc);
+    'domains: for before in 0..count {
+        domains.push(domain(before + 1))?;
+    }
     Ok(Config {
         domains,
         first_gen: 0,
     })
 }
 
+// A domain with this number is among these.
+fn is_placed(positions: &Positions, dom: DomId) -> bool
+    ensures { result ≡ true → position_in positions.now dom < length positions.now }
+{
+    positions.position(dom).is_some()
+}
+
+// The run has this domain.
+fn has_domain(alloc: Global, config: &Config, dom: DomId) -> Result<bool, StartFault>
+    ensures { IfOk result (λ b. b ≡ true → HasDomain (layout_of config.now) dom) }
+{
+    if let Err(fault) = config.check() {
+        return Err(StartFault::Config(fault));
+    }
+    let Ok(positions) = Positions::new(alloc, config) else {
+        return Err(StartFault::Memory);
+    };
+    Ok(is_placed(&positions, dom))
+}
+
 // The words, the seats of the owner and the middle, and those of the other domains.
-fn start(alloc: Global, config: &Config) -> Result<(Words, Seat, Seat, Vec<Seat>), StartFault>
+fn seats_of(alloc: Global, config: &Config) -> Result<(Words, Seat, Seat, Vec<Seat>), StartFault>
     requires owner { HasDomain (layout_of config.now) OWNER }
     requires middle { HasDomain (layout_of config.now) MIDDLE }
     requires first { config.now.first_gen ≡ 0 }
@@ -97,6 +117,25 @@ fn start(alloc: Global, config: &Config) -> Result<(Words, Seat, Seat, Vec<Seat>
     let (words, mut seats) = Words::new(alloc, config)?;
     let owner = seats.remove(0);
     let middle = seats.remove(0);
+    Ok((words, owner, middle, seats))
+}
+
+// A run of so many domains.
+fn start(alloc: Global, count: u16) -> Result<(Words, Seat, Seat, Vec<Seat>)>
+    ensures domains { IfOk result (λ r. HasDomain r.0.layout OWNER × HasDomain r.0.layout MIDDLE) }
+    ensures owner { IfOk result (λ r. IsSeatOf r.0 r.1 × IsUnusedFrom 0 r.1.view) }
+    ensures own { IfOk result (λ r. OWNER ≡ r.1.dom) }
+    ensures middle { IfOk result (λ r. IsSeatOf r.0 r.2 × IsUnusedFrom 0 r.2.view) }
+    ensures others { IfOk result (λ r. All (λ s. IsSeatOf r.0 s) r.3.items) }
+{
+    let config = run_domains(alloc, count)?;
+    if !has_domain(alloc, &config, OWNER)? || !has_domain(alloc, &config, MIDDLE)? {
+        bail!("no owner, or no middle");
+    }
+    let (words, owner, middle, seats) = seats_of(alloc, &config)?;
+    if owner.dom() != OWNER {
+        bail!("the first domain is not the owner");
+    }
     Ok((words, owner, middle, seats))
 }
 
@@ -218,19 +257,35 @@ fn map_in_threads<R: Threads + Sync>(
     )
 }
 
-/// Runs a load in so many threads, each of which does so many rounds. Answers how many were done in all.
+// Lets the owner of the shared entry do its part of the load. Answers how often it did.
+fn take_back_and_grant(words: &Words, owner: Seat, row: Row, load: Load, rounds: u32) -> u32
+    requires seat { IsSeatOf words.now owner }
+    requires own { (OWNER ≡ owner.dom) × HasDomain words.now.layout OWNER }
+    requires row { last_of SHARED.0 owner.view ≡ record { generation = row.generation; entry = row.entry } }
+{
+    match load {
+        Load::Withdrawals => withdraw_and_grant(words, owner, OWNER, SHARED, row, MIDDLE, rounds),
+        _ => revoke_and_grant(words, owner, SHARED, row, MIDDLE, rounds),
+    }
+}
+
+/// Runs a load in so many threads of a run of so many domains. Each thread does so many rounds. Answers how many were done
+/// in all.
 pub(crate) fn run<R: Threads + Sync>(
     rt: &R,
     alloc: Global,
     load: Load,
     threads: usize,
     rounds: u32,
+    domains: u16,
 ) -> Result<u64> {
     if threads == 0 || threads > MOST {
         bail!("threads: 1 to {MOST}");
     }
-    let config = six_domains(alloc)?;
-    let (words, mut owner, middle, seats) = start(alloc, &config)?;
+    if domains < FEWEST {
+        bail!("domains: {FEWEST} at least");
+    }
+    let (words, mut owner, middle, seats) = start(alloc, domains)?;
     let shared = &words;
     if load == Load::Apart || load == Load::Adjacent {
         let stride = if load == Load::Apart { APART } else { ADJACENT };
@@ -250,8 +305,9 @@ pub(crate) fn run<R: Threads + Sync>(
         rt,
         || -> u32
             requires seat { IsSeatOf shared.now owner }
+            requires own { (OWNER ≡ owner.dom) × HasDomain shared.now.layout OWNER }
             requires row { last_of SHARED.0 owner.view ≡ record { generation = row.generation; entry = row.entry } }
-        { revoke_and_grant(shared, owner, SHARED, row, MIDDLE, rounds) },
+        { take_back_and_grant(shared, owner, row, load, rounds) },
         || -> Result<u64, AllocError>
             requires { All (λ m. CanMap shared.now m.seat m.target) mappers.items }
         { map_in_threads(rt, shared, mappers, rounds) },

@@ -2,7 +2,7 @@
 ghost use Rattle.std.specs.Prelude.{◌≡◌, ◌≢◌, ◌+◌, ◌<◌, ℕ};
 ghost use Rattle.gt_entry.specs.Spelling.{IsSpelled};
 ghost use Rattle.gt_words.specs.Views.{last_of, own_body};
-ghost use Rattle.gt_words.specs.Conditions.{IsSeatOf, IsSameSeat};
+ghost use Rattle.gt_words.specs.Conditions.{HasDomain, IsSeatOf, IsSameSeat};
 
 use gt_entry::{Control, Entry, Half};
 use gt_types::{DomId, GrantRef, LAST_GENERATION, TABLE_ENTRIES};
@@ -82,6 +82,33 @@ pub(crate) fn revoke(words: &Words, seat: &mut Seat, gref: GrantRef, row: &mut R
     true
 }
 
+/// Withdraws the entry by one exchange from the word that it finds, and answers whether it did: not if it is invalid, or
+/// if pins came or went meanwhile.
+pub(crate) fn withdraw(
+    words: &Words,
+    seat: &mut Seat,
+    owner: DomId,
+    gref: GrantRef,
+    row: &mut Row,
+) -> bool
+    requires seat { IsSeatOf words.now seat.old }
+    requires own { (owner ≡ seat.old.dom) × HasDomain words.now.layout owner }
+    requires reference { gref.0 < TABLE_ENTRIES }
+    requires row { last_of gref.0 seat.old.view ≡ record { generation = row.old.generation; entry = row.old.entry } }
+    ensures seat { IsSameSeat seat.old seat.new }
+    ensures row { last_of gref.0 seat.new.view ≡ record { generation = row.new.generation; entry = row.new.entry } }
+{
+    if row.entry.is_invalid() {
+        return false;
+    }
+    let word = words.load_control(seat, owner, gref);
+    if words.withdraw(seat, gref, word).is_err() {
+        return false;
+    }
+    row.entry = Entry::Invalid;
+    true
+}
+
 /// A writable page for the domain.
 pub(crate) fn page(dom: DomId) -> Entry
     ensures { result ≢ Entry.Invalid }
@@ -114,6 +141,36 @@ pub(crate) fn revoke_and_grant(
         }
         if revoke(words, &mut seat, gref, &mut row) {
             publish(words, &mut seat, gref, &mut row, page(named));
+            done += 1;
+        }
+    }
+    done
+}
+
+/// Withdraws the entry, and grants it to the domain again once it has no pin, so many times, each time with as many
+/// tries as it takes. Answers how often: less if the entry is worn.
+pub(crate) fn withdraw_and_grant(
+    words: &Words,
+    mut seat: Seat,
+    owner: DomId,
+    gref: GrantRef,
+    mut row: Row,
+    named: DomId,
+    rounds: u32,
+) -> u32
+    requires seat { IsSeatOf words.now seat }
+    requires own { (owner ≡ seat.dom) × HasDomain words.now.layout owner }
+    requires reference { gref.0 < TABLE_ENTRIES }
+    requires row { last_of gref.0 seat.view ≡ record { generation = row.generation; entry = row.entry } }
+{
+    let mut done = 0;
+    for _ in 0..u64::MAX {
+        if done >= rounds || row.generation >= LAST_GENERATION {
+            break;
+        }
+        if !row.entry.is_invalid() {
+            withdraw(words, &mut seat, owner, gref, &mut row);
+        } else if publish(words, &mut seat, gref, &mut row, page(named)) {
             done += 1;
         }
     }

@@ -199,8 +199,11 @@ const DOMAINS: [DomainConfig; 3] = [
 
 /// Three domains whose labels are numbered as they are.
 pub fn three_domains(alloc: Global) -> Result<Roster, StartFault> {
+    let Ok(domains) = DOMAINS.to_vec(alloc) else {
+        return Err(StartFault::Memory);
+    };
     let config = Config {
-        domains: DOMAINS.to_vec(alloc)?,
+        domains,
         first_gen: 0,
     };
     Roster::new(alloc, config)

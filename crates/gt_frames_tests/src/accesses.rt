@@ -5,7 +5,7 @@ ghost use Rattle.gt_words.specs.Conditions.{IsSeatOf};
 use crate::places::{BYTES, config, text};
 use gt_access::{Run, copy_by, read_by, write_by};
 use gt_calls::{Pins, Route};
-use gt_frames::{FrameName, Pool, Read, Spot};
+use gt_frames::{FrameName, Pool, Read, Spot, Visits};
 use gt_positions::Roster;
 use gt_types::{Allows, Config, Perms, Range, StartFault, TypeId};
 use gt_words::{Seat, Words};
@@ -40,14 +40,20 @@ fn start(rt: &impl Abort, alloc: Global, config: &Config) -> Result<(Words, Seat
 }
 
 // Writes four bytes to a frame of its own.
-fn wrote<R: Wait>(rt: &R, run: &Run<'_, Everything>, seat: &Seat, number: u64) -> bool
+fn wrote<R: Wait>(
+    rt: &R,
+    run: &Run<'_, Everything>,
+    seat: &Seat,
+    visits: &mut Visits,
+    number: u64,
+) -> bool
     requires { IsSeatOf run.now.words.now seat.now }
 {
     let name = FrameName {
         owner: seat.dom(),
         number,
     };
-    write_by(rt, run, seat, Route::Own, name, 0, &BYTES).is_ok()
+    write_by(rt, run, seat, visits, Route::Own, name, 0, &BYTES).is_ok()
 }
 
 // The place with this number and offset in a frame of its own.
@@ -68,6 +74,7 @@ fn copied<R: Wait>(
     rt: &R,
     run: &Run<'_, Everything>,
     seat: &Seat,
+    visits: &mut Visits,
     from: (u64, u16),
     to: (u64, u16),
 ) -> bool
@@ -80,7 +87,7 @@ fn copied<R: Wait>(
     };
     source.off <= 4092
         && dest.off <= 4092
-        && copy_by(rt, run, seat, routes, source, dest, 4).is_ok()
+        && copy_by(rt, run, seat, visits, routes, source, dest, 4).is_ok()
 }
 
 // The first six bytes of a frame of its own.
@@ -89,6 +96,7 @@ fn first_bytes<R: Wait>(
     alloc: Global,
     run: &Run<'_, Everything>,
     seat: &Seat,
+    visits: &mut Visits,
     number: u64,
 ) -> Result<Option<Read>, AllocError>
     requires { IsSeatOf run.now.words.now seat.now }
@@ -99,7 +107,8 @@ fn first_bytes<R: Wait>(
         number,
     };
     let range = Range { off: 0, len: 6 };
-    Ok(read_by(rt, run, seat, Route::Own, name, range, room))
+    let route = Route::Own;
+    Ok(read_by(rt, run, seat, visits, route, name, range, room))
 }
 
 // If a copy of four bytes begins and ends, frame and offset, whether it is made, and the first bytes of the frame
@@ -117,7 +126,10 @@ fn own_frames_are_written_copied_and_read(rt: HostRuntime) -> Result<(), Fail> {
     let alloc = rt.alloc();
     let config = config(alloc)?;
     let (words, seat) = start(&rt, alloc, &config)?;
-    let pool = Pool::new(alloc, &config)?;
+    let (pool, mut all_visits) = Pool::new(alloc, &config)?;
+    let Some(mut visits) = all_visits.pop() else {
+        panic!(rt; "no domains");
+    };
     let roster = Roster::new(alloc, config)?;
     let run = Run {
         words: &words,
@@ -125,10 +137,13 @@ fn own_frames_are_written_copied_and_read(rt: HostRuntime) -> Result<(), Fail> {
         rights: &Everything,
         pool: &pool,
     };
-    let begun = wrote(&rt, &run, &seat, 0);
+    let begun = wrote(&rt, &run, &seat, &mut visits, 0);
     for (from, to, done, bytes) in COPIES {
-        let answer = copied(&rt, &run, &seat, from, to);
-        let text = text(alloc, first_bytes(&rt, alloc, &run, &seat, to.0)?)?;
+        let answer = copied(&rt, &run, &seat, &mut visits, from, to);
+        let text = text(
+            alloc,
+            first_bytes(&rt, alloc, &run, &seat, &mut visits, to.0)?,
+        )?;
         assert_eq!(rt; (begun, answer, text.as_str()), (true, done, bytes));
     }
     Ok(())

@@ -1,8 +1,9 @@
 //! Frames under locks, in threads.
 use crate::places::{BYTES, config, spot, text};
-use gt_frames::{FrameName, Ground, Pool, Read, Spot, Writ};
+use gt_frames::{FrameName, Ground, Pool, Read, Spot, Visits, Writ};
 use gt_types::DomId;
 use std::alloc::{AllocError, Global};
+use std::process::Abort;
 use std::sync::Wait;
 use std::test::Fail;
 use std::thread;
@@ -13,38 +14,51 @@ fn first_bytes<R: Wait>(
     rt: &R,
     alloc: Global,
     pool: &Pool,
+    visits: &mut Visits,
     frame: FrameName,
 ) -> Result<Option<Read>, AllocError> {
-    let out = vec![in alloc; 7u8; 6]?;
+    let room = Vec::with_capacity(alloc, 6)?;
     match pool.lock(rt, frame) {
-        Some(locked) => Ok(Some(locked.read(0, out))),
+        Some(locked) => {
+            let read = locked.read_to(0, 6, room);
+            locked.free(visits);
+            Ok(Some(read))
+        }
         None => Ok(None),
     }
 }
 
 // Writes these bytes as the owner, if there is such a frame.
-fn wrote<R: Wait>(rt: &R, pool: &Pool, to: FrameName, bytes: &[u8]) -> bool {
+fn wrote<R: Wait>(rt: &R, pool: &Pool, visits: &mut Visits, to: FrameName, bytes: &[u8]) -> bool {
     let writ = Writ {
         writer: to.owner,
         basis: Ground::Owned,
     };
     match pool.lock(rt, to) {
         Some(mut frame) => {
-            bytes.len() <= 4096 && frame.owner() == to.owner && frame.write(&writ, 0, bytes).is_ok()
+            let done = bytes.len() <= 4096
+                && frame.name() == to
+                && frame.write(&writ, 0, bytes).is_ok();
+            frame.free(visits);
+            done
         }
         None => false,
     }
 }
 
 // Copies four bytes as the owner of the second frame, if there are such frames.
-fn copied<R: Wait>(rt: &R, pool: &Pool, from: Spot, to: Spot) -> bool {
+fn copied<R: Wait>(rt: &R, pool: &Pool, visits: &mut Visits, from: Spot, to: Spot) -> bool {
     let writ = Writ {
         writer: to.frame.owner,
         basis: Ground::Owned,
     };
     match pool.lock_both(rt, from.frame, to.frame) {
         Some(mut ends) => {
-            from.off <= 4092 && to.off <= 4092 && ends.copy(&writ, from.off, to.off, 4).is_ok()
+            let done = from.off <= 4092
+                && to.off <= 4092
+                && ends.copy(&writ, from.off, to.off, 4).is_ok();
+            ends.free(visits);
+            done
         }
         None => false,
     }
@@ -63,14 +77,26 @@ const COPIES: [(Spot, Spot, bool, &str); 7] = [
     (spot!(3, 0, 0), spot!(1, 0, 0), false, "[2, 3, 4, 0, 4, 0]"),
 ];
 
+// The visits of the two domains.
+fn two_of(rt: &impl Abort, mut all_visits: Vec<Visits>) -> (Visits, Visits) {
+    match (all_visits.pop(), all_visits.pop()) {
+        (Some(one), Some(other)) => (one, other),
+        _ => panic!(rt; "no domains"),
+    }
+}
+
 #[test]
 fn frames_are_copied_under_locks(rt: HostRuntime) -> Result<(), Fail> {
     let alloc = rt.alloc();
-    let pool = Pool::new(alloc, &config(alloc)?)?;
-    let begun = wrote(&rt, &pool, HERE.frame, &BYTES);
+    let (pool, all_visits) = Pool::new(alloc, &config(alloc)?)?;
+    let (mut visits, _) = two_of(&rt, all_visits);
+    let begun = wrote(&rt, &pool, &mut visits, HERE.frame, &BYTES);
     for (from, to, done, bytes) in COPIES {
-        let answer = copied(&rt, &pool, from, to);
-        let text = text(alloc, first_bytes(&rt, alloc, &pool, to.frame)?)?;
+        let answer = copied(&rt, &pool, &mut visits, from, to);
+        let text = text(
+            alloc,
+            first_bytes(&rt, alloc, &pool, &mut visits, to.frame)?,
+        )?;
         assert_eq!(rt; (begun, answer, text.as_str()), (true, done, bytes));
     }
     Ok(())
@@ -81,21 +107,26 @@ const HERE: Spot = spot!(1, 0, 0);
 const THERE: Spot = spot!(2, 1, 0);
 
 // Copies a thousand times, and counts the copies that were made.
-fn copies<R: Wait>(rt: &R, pool: &Pool, from: Spot, to: Spot) -> usize {
+fn copies<R: Wait>(rt: &R, pool: &Pool, visits: &mut Visits, from: Spot, to: Spot) -> usize {
     let mut done: usize = 0;
     for _ in 0..1000u32 {
-        if copied(rt, pool, from, to) {
+        if copied(rt, pool, visits, from, to) {
             done = done.wrapping_add(1);
         }
     }
     done
 }
 
-fn forth_and_back<R: Threads + Wait + Sync>(rt: &R, pool: &Pool) -> (usize, usize) {
+fn forth_and_back<R: Threads + Wait + Sync>(
+    rt: &R,
+    pool: &Pool,
+    one: &mut Visits,
+    other: &mut Visits,
+) -> (usize, usize) {
     thread::join(
         rt,
-        || copies(rt, pool, HERE, THERE),
-        || copies(rt, pool, THERE, HERE),
+        || copies(rt, pool, one, HERE, THERE),
+        || copies(rt, pool, other, THERE, HERE),
     )
 }
 
@@ -103,10 +134,15 @@ fn forth_and_back<R: Threads + Wait + Sync>(rt: &R, pool: &Pool) -> (usize, usiz
 #[test]
 fn two_threads_copy_forth_and_back(rt: HostRuntime) -> Result<(), Fail> {
     let alloc = rt.alloc();
-    let pool = Pool::new(alloc, &config(alloc)?)?;
-    let begun = wrote(&rt, &pool, HERE.frame, &BYTES) && wrote(&rt, &pool, THERE.frame, &BYTES);
-    let counts = forth_and_back(&rt, &pool);
-    let text = text(alloc, first_bytes(&rt, alloc, &pool, THERE.frame)?)?;
+    let (pool, all_visits) = Pool::new(alloc, &config(alloc)?)?;
+    let (mut one, mut other) = two_of(&rt, all_visits);
+    let begun = wrote(&rt, &pool, &mut one, HERE.frame, &BYTES)
+        && wrote(&rt, &pool, &mut one, THERE.frame, &BYTES);
+    let counts = forth_and_back(&rt, &pool, &mut one, &mut other);
+    let text = text(
+        alloc,
+        first_bytes(&rt, alloc, &pool, &mut one, THERE.frame)?,
+    )?;
     assert_eq!(rt;
         (begun, counts, text.as_str()),
         (true, (1000, 1000), "[1, 2, 3, 4, 0, 0]")

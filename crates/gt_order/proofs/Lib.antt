@@ -14,3 +14,4 @@ pub mod Going
 pub mod Ending
 pub mod Order
 pub mod Called
+pub mod Leaving

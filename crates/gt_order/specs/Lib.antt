@@ -1,5 +1,6 @@
 pub mod Runs
 pub mod Calling
+pub mod Leaving
 pub mod Agreeing
 pub mod Ordering
 pub mod Laws

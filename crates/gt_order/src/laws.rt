@@ -1,5 +1,6 @@
 //! What the definitions of this crate come to. Each law is a function that does nothing, whose contract is the law.
 ghost use Rattle.gt_order.specs.Calling.{MapsAreMade, PlainCallsAreMade, UnmapsAreMade};
+ghost use Rattle.gt_order.specs.Leaving.{LeavingIsUnmapping};
 ghost use Rattle.gt_order.specs.Laws.{CoreSeesTheWords, RunsHaveLegalOrders, StepsKeepAgreement};
 
 use gt_live::Monitor;
@@ -30,4 +31,10 @@ pub fn calls_of_domains_are_made<P: Allows>(monitor: &Monitor<P>)
 /// interleaving of the core's events, in which each call is answered as its domain answered it.
 pub fn every_run_has_a_legal_order()
     ensures { RunsHaveLegalOrders }
+{}
+
+/// A law: where the policy allows a domain to give each of its mappings up, leaving is that many unmaps, each answered
+/// Ok. So a run goes on past a domain that leaves.
+pub fn leaving_is_unmapping()
+    ensures { LeavingIsUnmapping }
 {}

@@ -17,5 +17,5 @@ mod laws;
 
 pub use laws::{
     calls_of_domains_are_made, core_sees_the_words, every_run_has_a_legal_order,
-    steps_keep_agreement,
+    leaving_is_unmapping, steps_keep_agreement,
 };

@@ -1,0 +1,37 @@
+-- A domain that leaves: it gives its mappings up.
+use Rattle.std.specs.Prelude.{◌≡◌, List, [], ◌∷◌, Some}
+use Rattle.gt_types.specs.declared.config.Config.{Config}
+use Rattle.gt_words.specs.Conditions.{Board}
+use Rattle.gt_handles.specs.Handles.{value_of}
+use Rattle.gt_handles.specs.declared.handles.Handle.{Handle}
+use Rattle.gt_calls.specs.Opening.{IsAllowed}
+use Rattle.gt_calls.specs.Rules.{rights_to_unmap}
+use Rattle.gt_calls.specs.declared.action.Verdict.TheVariants.{Granted}
+use Rattle.gt_calls.specs.declared.held.Held.{Held}
+use Rattle.gt_calls.specs.declared.request.Request.TheVariants as requests
+use Rattle.gt_live.specs.Domains.{AllowRelation, HasLeft, IsDomainOf, knowledge}
+use Rattle.gt_live.specs.declared.domain.Domain.{Domain}
+use Rattle.gt_live.specs.declared.domain.Left.{Left}
+use Rattle.gt_order.specs.Runs.{AreCalls, CallMade, domain_after}
+use Rattle.gt_order.specs.Runs.Outcome.{Told}
+
+-- the policy allows the domain to give each of its mappings up
+abbrev pub MayUnmapAll : Config → AllowRelation → Domain → Type 0
+MayUnmapAll c may d =
+    (h : Handle) (m : Held) → value_of d.mappings h ≡ Some m
+    → IsAllowed may (rights_to_unmap (knowledge c may d) d.seat.dom m.dom)
+
+-- each of these calls is an unmap that was answered Ok
+abbrev pub AreUnmaps : List CallMade → Type 0
+AreUnmaps [] = Unit {0}
+AreUnmaps (m ∷ ms) =
+    ((handle : Handle) × (m.request ≡ requests.Unmap handle) × (m.outcome ≡ Told Granted)) × AreUnmaps ms
+
+-- Where the policy allows a domain to give each of its mappings up, leaving is that: the steps are those of unmaps,
+-- one after another, each answered Ok. So a run goes on past a domain that leaves
+abbrev pub LeavingIsUnmapping : Type 0
+LeavingIsUnmapping =
+    (b : Board) (c : Config) (may : AllowRelation) (d : Domain) (l : Left) → IsDomainOf b c may d
+    → HasLeft b.layout d l → MayUnmapAll c may d
+    → (calls : List CallMade) × AreCalls b c may d calls × AreUnmaps calls
+    × ((domain_after d calls).seat.view ≡ l.seat.view)
