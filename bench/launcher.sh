@@ -14,7 +14,7 @@ tried=0 failed=0
 # A copy of what the launcher reads, and of what it installs.
 checkout="$work/checkout"
 mkdir -p "$checkout/crates/gthost/src" "$checkout/crates/gthost_trials" "$work/bin" "$work/other"
-cp -r "$top/gthost" "$top/crates.txt" "$checkout/"
+cp -r "$top/gthost" "$top/crates.txt" "$top/gthost.1" "$top/contrib" "$checkout/"
 cp "$top/crates/gthost_trials/stdout" "$checkout/crates/gthost_trials/"
 cp "$top/crates/gthost/src/main.rt" "$checkout/crates/gthost/src/"
 out="$checkout/crates/gthost/out"
@@ -211,7 +211,8 @@ unbuilt 'an unproved run'
 
 # Installing.
 try 'an installation' 0 install "$work/prefix"; has 'an installation' err "installed $work/prefix/bin/gthost"
-for file in bin/gthost; do
+for file in bin/gthost share/man/man1/gthost.1 share/bash-completion/completions/gthost share/zsh/site-functions/_gthost \
+  share/fish/vendor_completions.d/gthost.fish; do
   [ -s "$work/prefix/$file" ] || wrong "an installation: no $file"
 done
 cmp -s "$out/gthost" "$work/prefix/bin/gthost" || wrong 'an installation: another program'

@@ -1,5 +1,1 @@
-pub mod Audited
-pub mod Bare
-pub mod Line
 pub mod Obeyed
-pub mod Words

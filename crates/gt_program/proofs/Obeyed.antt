@@ -1,6 +1,5 @@
 -- From the plan of a command line, or its refusal, to what the line comes to.
-use Rattle.std.specs.Borrow.{Bor}
-use Rattle.std.proofs.Common.{◌≡◌, ◌⊎◌, ◌∙◌, ℕ, ◌≤◌, Bool, List, Option, None, Some, option_map, Result, Ok, Err, IfSome, refl, sym, subst, ap, inl, inr, arith}
+use Rattle.std.proofs.Common.{◌≡◌, ◌∙◌, ℕ, Bool, List, Option, None, Some, Result, Err, IfSome, refl, sym, subst, inl, inr, arith}
 use Rattle.std.specs.Io.KnownBytes.{Keeps}
 use Rattle.gt_streams.specs.Laws.{keeps_same, of_any_input}
 use Rattle.gt_streams.specs.Streams.{OfInput}
@@ -8,50 +7,31 @@ use Rattle.clap.specs.Kinds.{HasKind}
 use Rattle.clap.specs.Words.{kind_of}
 use Rattle.clap.specs.declared.error.Error.{Error}
 use Rattle.clap.specs.declared.error.kind.ErrorKind.{ErrorKind}
-use Rattle.clap.specs.declared.error.kind.ErrorKind.TheVariants.{ArgumentConflict, DisplayHelp, DisplayVersion, OutOfMemory, InvalidSubcommand, MissingSubcommand, TooManyValues, UnknownArgument}
+use Rattle.clap.specs.declared.error.kind.ErrorKind.TheVariants.{ArgumentConflict, DisplayHelp, DisplayVersion, OutOfMemory, InvalidSubcommand, InvalidValue, MissingRequiredArgument, MissingSubcommand, TooManyValues, UnknownArgument}
+use Rattle.gt_advice.specs.declared.asking.Question.{Question}
+use Rattle.gt_commands.specs.Commands.{Request, to_play, to_run, to_list, to_tell_rules, to_check, to_explain, to_tell_entries, for_help, for_version, nothing, asked_by_plan, refusals}
+use Rattle.gt_commands.specs.declared.invocation.Invocation.{Invocation}
+use Rattle.gt_dump.specs.declared.asked.Asked.{Asked}
 use Rattle.gt_script.specs.RunScripts.{RunTells}
 use Rattle.gt_run.specs.Runs.{Ran}
 use Rattle.gt_run.specs.declared.fault.RunFault.{RunFault}
-use Rattle.gt_program.specs.CommandLine.{Request, to_do, for_help, for_version, nothing, asked_by_plan, refusals, IsPlanFor}
-use Rattle.gt_program.specs.Obeying.{FitsKind, Obeys, PerformsRun, Runs, RunsDomains, Works, WorksRun, known_text, status_of}
-use Rattle.gt_program.specs.declared.failure.Failure.{Failure}
-use Rattle.gt_program.specs.declared.failure.Failure.TheVariants as failures
-use Rattle.gt_program.specs.declared.plan.Invocation.{Invocation}
-use Rattle.gt_program.specs.declared.plan.Mode.{Mode}
-use Rattle.gt_program.specs.declared.plan.Mode.TheVariants as modes
+use Rattle.gt_program.specs.Obeying.{Answers, Checks, Does, Doing, Ending, Explains, FitsKind, IsAsked, IsQuestion, Lists, Obeys, Performs, Plays, RunsDomains, TellsDump, TellsEntries, Works, known_text, shown_name, status_of}
 use Rattle.gt_program.specs.declared.obeying.Work.{Work}
-use Rattle.gt_program.specs.declared.obeying.Work.TheVariants.{Play, List as ListPolicy}
+use Rattle.gt_program.specs.declared.failure.Failure.TheVariants as failures
 
-runs : (known old new : Option (List ℕ)) (work : Work) (r : Result (Unit {0}) Failure) (status : ℕ) → IfSome known (λ bytes. Runs work bytes old new r) → status ≡ status_of r
-    → Works work known old new status
-runs None old new work r status ran is = tt
-runs (Some bytes) old new work r status ran is = (r, is, inl ran)
+-- it was done
+pub worked : (P : Doing) (known old new : Option (List ℕ)) (r : Ending) (status : ℕ) → IfSome known (λ bytes. Does P bytes old new r) → status ≡ status_of r → Works P known old new status
+worked P None old new r status does is = tt
+worked P (Some bytes) old new r status does is = (r, is, inl does)
 
-no_memory : (known old new : Option (List ℕ)) (work : Work) (status : ℕ) → status ≡ 1 → Keeps old new → Works work known old new status
-no_memory None old new work status is kept = tt
-no_memory (Some bytes) old new work status is kept = (Err failures.Memory, is, inr (refl, kept))
+pub no_memory : (P : Doing) (known old new : Option (List ℕ)) (status : ℕ) → status ≡ 1 → Keeps old new → Works P known old new status
+no_memory P None old new status is kept = tt
+no_memory P (Some bytes) old new status is kept = (Err failures.Memory, is, inr (refl, kept))
 
--- the work on the text that is named was done
-pub worked : (name : Option (Bor (List ℕ))) (file : List ℕ → Option (List ℕ)) (input old new : Option (List ℕ)) (work : Work) (r : Result (Unit {0}) Failure) (status : ℕ)
-    → IfSome (known_text file input (option_map (λ f. f.now) name)) (λ bytes. Runs work bytes old new r) → status ≡ status_of r
-    → Works work (known_text file input (option_map (λ f. f.now) name)) old new status
-worked name file input old new work r status ran is = runs (known_text file input (option_map (λ f. f.now) name)) old new work r status ran is
-
-ran : (audited : Bool) (known old new : Option (List ℕ)) (r : Result (Unit {0}) Failure) (status : ℕ) → IfSome known (λ bytes. RunsDomains audited bytes old new r) → status ≡ status_of r
-    → WorksRun audited known old new status
-ran audited None old new r status run is = tt
-ran audited (Some bytes) old new r status run is = (r, is, inl run)
-
-no_memory_run : (audited : Bool) (known old new : Option (List ℕ)) (status : ℕ) → status ≡ 1 → Keeps old new → WorksRun audited known old new status
-no_memory_run audited None old new status is kept = tt
-no_memory_run audited (Some bytes) old new status is kept = (Err failures.Memory, is, inr (refl, kept))
-
--- the domains of the text that is named were run, as the plan asks
-pub ran_plan : (p : Invocation) (file : List ℕ → Option (List ℕ)) (input old new : Option (List ℕ)) (r : Result (Unit {0}) Failure) (status : ℕ) → p.mode ≡ modes.Run
-    → IfSome (known_text file input (option_map (λ f. f.now) p.file)) (λ bytes. RunsDomains p.audit bytes old new r) → status ≡ status_of r → Obeys (asked_by_plan p) file input old new status
-ran_plan p file input old new r status mode run is =
-    subst (λ (m : Mode). Obeys (to_do m p.audit (option_map (λ f. f.now) p.file)) file input old new status) (sym mode)
-    (ran p.audit (known_text file input (option_map (λ f. f.now) p.file)) old new r status run is)
+-- what a plan asks for is done
+pub as_planned : (p same : Invocation) (file : List ℕ → Option (List ℕ)) (input old new : Option (List ℕ)) (status : ℕ) → p ≡ same → Obeys (asked_by_plan same) file input old new status
+    → Obeys (asked_by_plan p) file input old new status
+as_planned p same file input old new status is obeys = subst (λ (q : Invocation). Obeys (asked_by_plan q) file input old new status) (sym is) obeys
 
 -- a run with a log or without, as was asked for
 pub ran_as_asked : (logged audited : Bool) (known old new : Option (List ℕ)) (r : Result (Unit {0}) RunFault) → audited ≡ logged → OfInput known (λ input. Ran logged (RunTells input) old new r)
@@ -59,20 +39,13 @@ pub ran_as_asked : (logged audited : Bool) (known old new : Option (List ℕ)) (
 ran_as_asked logged audited known old new r is ran = subst (λ (b : Bool). OfInput known (λ input. Ran b (RunTells input) old new r)) (sym is) ran
 
 -- no memory was there before the text was read
-pub unread_run : (audited : Bool) (known old : Option (List ℕ)) → OfInput known (λ input. PerformsRun audited input old old (Err failures.Memory))
-unread_run audited known old = of_any_input known (λ (input : List ℕ). PerformsRun audited input old old (Err failures.Memory)) (λ (input : List ℕ). keeps_same old)
-
-same_request : (mode other : Mode) (audited also : Bool) (name same : Option (List ℕ)) → mode ≡ other → audited ≡ also → name ≡ same → to_do mode audited name ≡ to_do other also same
-same_request mode other audited also name same m a n = cc (m, a, n)
+pub unread_run : (audited : Bool) (known old : Option (List ℕ)) → OfInput known (λ input. RunsDomains audited input old old (Err failures.Memory))
+unread_run audited known old = of_any_input known (λ (input : List ℕ). RunsDomains audited input old old (Err failures.Memory)) (λ (input : List ℕ). keeps_same old)
 
 -- what was asked for was done
-pub done : (request : Request) (file : List ℕ → Option (List ℕ)) (input old new : Option (List ℕ)) (p : Invocation) (status : ℕ) → IsPlanFor request p
+pub done : (request : Request) (file : List ℕ → Option (List ℕ)) (input old new : Option (List ℕ)) (p : Invocation) (status : ℕ) → asked_by_plan p ≡ request
     → Obeys (asked_by_plan p) file input old new status → Obeys request file input old new status
-done (to_do mode audited name) file input old new p status plan obeys =
-    subst (λ (r : Request). Obeys r file input old new status) (same_request p.mode mode p.audit audited (option_map (λ f. f.now) p.file) name plan.0 plan.2 plan.1) obeys
-done for_help file input old new p status plan obeys = absurd plan
-done for_version file input old new p status plan obeys = absurd plan
-done nothing file input old new p status plan obeys = absurd plan
+done request file input old new p status plan obeys = subst (λ (r : Request). Obeys r file input old new status) plan obeys
 
 silent : (kind other : ErrorKind) (old new : Option (List ℕ)) (status : ℕ) → FitsKind kind old new status → kind ≡ other → (other ≡ DisplayHelp → ⊥) → (other ≡ DisplayVersion → ⊥) → Keeps old new
 silent kind other old new status fits is help version = fits.silent (λ (e : kind ≡ DisplayHelp). help (sym is ∙ e)) (λ (e : kind ≡ DisplayVersion). version (sym is ∙ e))
@@ -82,28 +55,91 @@ wrong kind other old new status fits is memory help version =
     fits.wrong (λ (e : kind ≡ OutOfMemory). memory (sym is ∙ e)) (λ (e : kind ≡ DisplayHelp). help (sym is ∙ e)) (λ (e : kind ≡ DisplayVersion). version (sym is ∙ e))
 
 -- memory was refused
-out_of_memory : (mode : Mode) (audited : Bool) (name : Option (List ℕ)) (file : List ℕ → Option (List ℕ)) (input old new : Option (List ℕ)) (status : ℕ) → status ≡ 1 → Keeps old new
-    → Obeys (to_do mode audited name) file input old new status
-out_of_memory modes.Play audited name file input old new status is kept = no_memory (known_text file input name) old new (Play audited) status is kept
-out_of_memory modes.Policy audited name file input old new status is kept = no_memory (known_text file input name) old new ListPolicy status is kept
-out_of_memory modes.Run audited name file input old new status is kept = no_memory_run audited (known_text file input name) old new status is kept
-out_of_memory modes.Rules audited name file input old new status is kept = omega arith
+out_of_memory : (request : Request) (file : List ℕ → Option (List ℕ)) (input old new : Option (List ℕ)) (status : ℕ) → status ≡ 1 → Keeps old new → Obeys request file input old new status
+out_of_memory (to_play audited name) file input old new status is kept = no_memory (Plays audited) (known_text file input name) old new status is kept
+out_of_memory (to_run audited name) file input old new status is kept = no_memory (RunsDomains audited) (known_text file input name) old new status is kept
+out_of_memory (to_list name) file input old new status is kept = no_memory Lists (known_text file input name) old new status is kept
+out_of_memory (to_tell_rules name) file input old new status is kept = omega arith
+out_of_memory (to_check format name) file input old new status is kept = no_memory Checks (known_text file input name) old new status is kept
+out_of_memory (to_explain source target permission name) file input old new status is kept =
+    no_memory (Answers (shown_name name) source target permission) (known_text file input name) old new status is kept
+out_of_memory (to_tell_entries version hex every script name) file input old new status is kept =
+    no_memory (TellsDump version hex every script) (known_text file input name) old new status is kept
+out_of_memory for_help file input old new status is kept = omega arith
+out_of_memory for_version file input old new status is kept = omega arith
+out_of_memory nothing file input old new status is kept = (inr is, kept)
+
+-- a command is refused only where memory is
+by_memory : (request : Request) (file : List ℕ → Option (List ℕ)) (input old new : Option (List ℕ)) (error : Error) (status : ℕ) → kind_of error ≡ OutOfMemory → FitsKind (kind_of error) old new status
+    → Obeys request file input old new status
+by_memory request file input old new error status memory fits =
+    out_of_memory request file input old new status (fits.memory memory) (silent _ OutOfMemory old new status fits memory (λ q. cc) (λ q. cc))
+
+wrong_line : (other : ErrorKind) (file : List ℕ → Option (List ℕ)) (input old new : Option (List ℕ)) (error : Error) (status : ℕ) → kind_of error ≡ other → (other ≡ OutOfMemory → ⊥) → (other ≡ DisplayHelp → ⊥) → (other ≡ DisplayVersion → ⊥)
+    → FitsKind (kind_of error) old new status → Obeys nothing file input old new status
+wrong_line other file input old new error status is memory help version fits =
+    (inl (wrong _ other old new status fits is memory help version), silent _ other old new status fits is help version)
 
 -- it was refused
 pub refused : (request : Request) (file : List ℕ → Option (List ℕ)) (input old new : Option (List ℕ)) (error : Error) (status : ℕ) → HasKind (refusals request) error → FitsKind (kind_of error) old new status
     → Obeys request file input old new status
-refused (to_do mode audited name) file input old new error status (inl memory) fits = out_of_memory mode audited name file input old new status (fits.memory memory) (silent _ OutOfMemory old new status fits memory (λ q. cc) (λ q. cc))
-refused (to_do mode audited name) file input old new error status (inr none) fits = absurd none
+refused (to_play audited name) file input old new error status (inl memory) fits = by_memory (to_play audited name) file input old new error status memory fits
+refused (to_play audited name) file input old new error status (inr none) fits = absurd none
+refused (to_run audited name) file input old new error status (inl memory) fits = by_memory (to_run audited name) file input old new error status memory fits
+refused (to_run audited name) file input old new error status (inr none) fits = absurd none
+refused (to_list name) file input old new error status (inl memory) fits = by_memory (to_list name) file input old new error status memory fits
+refused (to_list name) file input old new error status (inr none) fits = absurd none
+refused (to_tell_rules name) file input old new error status (inl memory) fits = by_memory (to_tell_rules name) file input old new error status memory fits
+refused (to_tell_rules name) file input old new error status (inr none) fits = absurd none
+refused (to_check format name) file input old new error status (inl memory) fits = by_memory (to_check format name) file input old new error status memory fits
+refused (to_check format name) file input old new error status (inr none) fits = absurd none
+refused (to_explain source target permission name) file input old new error status (inl memory) fits = by_memory (to_explain source target permission name) file input old new error status memory fits
+refused (to_explain source target permission name) file input old new error status (inr none) fits = absurd none
+refused (to_tell_entries version hex every script name) file input old new error status (inl memory) fits = by_memory (to_tell_entries version hex every script name) file input old new error status memory fits
+refused (to_tell_entries version hex every script name) file input old new error status (inr none) fits = absurd none
 refused for_help file input old new error status (inl memory) fits = let e = fits.memory memory in omega arith
 refused for_help file input old new error status (inr (inl help)) fits = fits.help help
 refused for_help file input old new error status (inr (inr none)) fits = absurd none
 refused for_version file input old new error status (inl memory) fits = let e = fits.memory memory in omega arith
 refused for_version file input old new error status (inr (inl version)) fits = fits.version version
 refused for_version file input old new error status (inr (inr none)) fits = absurd none
-refused nothing file input old new error status (inl memory) fits = (inr (fits.memory memory), silent _ OutOfMemory old new status fits memory (λ q. cc) (λ q. cc))
-refused nothing file input old new error status (inr (inl e)) fits = (inl (wrong _ UnknownArgument old new status fits e (λ q. cc) (λ q. cc) (λ q. cc)), silent _ UnknownArgument old new status fits e (λ q. cc) (λ q. cc))
-refused nothing file input old new error status (inr (inr (inl e))) fits = (inl (wrong _ InvalidSubcommand old new status fits e (λ q. cc) (λ q. cc) (λ q. cc)), silent _ InvalidSubcommand old new status fits e (λ q. cc) (λ q. cc))
-refused nothing file input old new error status (inr (inr (inr (inl e)))) fits = (inl (wrong _ MissingSubcommand old new status fits e (λ q. cc) (λ q. cc) (λ q. cc)), silent _ MissingSubcommand old new status fits e (λ q. cc) (λ q. cc))
-refused nothing file input old new error status (inr (inr (inr (inr (inl e))))) fits = (inl (wrong _ TooManyValues old new status fits e (λ q. cc) (λ q. cc) (λ q. cc)), silent _ TooManyValues old new status fits e (λ q. cc) (λ q. cc))
-refused nothing file input old new error status (inr (inr (inr (inr (inr (inl e)))))) fits = (inl (wrong _ ArgumentConflict old new status fits e (λ q. cc) (λ q. cc) (λ q. cc)), silent _ ArgumentConflict old new status fits e (λ q. cc) (λ q. cc))
-refused nothing file input old new error status (inr (inr (inr (inr (inr (inr none)))))) fits = absurd none
+refused nothing file input old new error status (inl memory) fits = by_memory nothing file input old new error status memory fits
+refused nothing file input old new error status (inr (inl e)) fits = wrong_line UnknownArgument file input old new error status e (λ q. cc) (λ q. cc) (λ q. cc) fits
+refused nothing file input old new error status (inr (inr (inl e))) fits = wrong_line InvalidSubcommand file input old new error status e (λ q. cc) (λ q. cc) (λ q. cc) fits
+refused nothing file input old new error status (inr (inr (inr (inl e)))) fits = wrong_line MissingSubcommand file input old new error status e (λ q. cc) (λ q. cc) (λ q. cc) fits
+refused nothing file input old new error status (inr (inr (inr (inr (inl e))))) fits = wrong_line TooManyValues file input old new error status e (λ q. cc) (λ q. cc) (λ q. cc) fits
+refused nothing file input old new error status (inr (inr (inr (inr (inr (inl e)))))) fits = wrong_line ArgumentConflict file input old new error status e (λ q. cc) (λ q. cc) (λ q. cc) fits
+refused nothing file input old new error status (inr (inr (inr (inr (inr (inr (inl e))))))) fits = wrong_line InvalidValue file input old new error status e (λ q. cc) (λ q. cc) (λ q. cc) fits
+refused nothing file input old new error status (inr (inr (inr (inr (inr (inr (inr (inl e)))))))) fits = wrong_line MissingRequiredArgument file input old new error status e (λ q. cc) (λ q. cc) (λ q. cc) fits
+refused nothing file input old new error status (inr (inr (inr (inr (inr (inr (inr (inr none)))))))) fits = absurd none
+
+-- a question of these names was answered
+explains_names : (file : List ℕ) (q : Question) (source target : Option (List ℕ)) (permission input : List ℕ) (old new : Option (List ℕ)) (r : Ending) → IsQuestion source target permission q
+    → Does (Explains file q) input old new r → Does (Answers file source target permission) input old new r
+explains_names file q source target permission input old new r is (inl does) = inl (q, is, does)
+explains_names file q source target permission input old new r is (inr unopened) = inr unopened
+
+answered_by : (file : List ℕ) (q : Question) (source target : Option (List ℕ)) (permission : List ℕ) (known old new : Option (List ℕ)) (r : Ending) (status : ℕ) → IsQuestion source target permission q
+    → IfSome known (λ bytes. Does (Explains file q) bytes old new r) → status ≡ status_of r → Works (Answers file source target permission) known old new status
+answered_by file q source target permission None old new r status asks does is = tt
+answered_by file q source target permission (Some bytes) old new r status asks does is = (r, is, inl (explains_names file q source target permission bytes old new r asks does))
+
+pub answered : (file same : List ℕ) (q : Question) (source target : Option (List ℕ)) (permission : List ℕ) (known old new : Option (List ℕ)) (r : Ending) (status : ℕ) → file ≡ same → IsQuestion source target permission q
+    → IfSome known (λ bytes. Does (Explains file q) bytes old new r) → status ≡ status_of r → Works (Answers same source target permission) known old new status
+answered file same q source target permission known old new r status shown asks does is =
+    subst (λ (f : List ℕ). Works (Answers f source target permission) known old new status) shown (answered_by file q source target permission known old new r status asks does is)
+
+-- a dump was told as it was asked
+tells_asked : (asked : Asked) (version : ℕ) (hex every : Bool) (script : Option ℕ) (input : List ℕ) (old new : Option (List ℕ)) (r : Ending) → IsAsked version hex every script asked
+    → Does (TellsEntries asked) input old new r → Does (TellsDump version hex every script) input old new r
+tells_asked asked version hex every script input old new r is (inl does) = inl (asked, is, does)
+tells_asked asked version hex every script input old new r is (inr unopened) = inr unopened
+
+pub told : (asked : Asked) (version : ℕ) (hex every : Bool) (script : Option ℕ) (known old new : Option (List ℕ)) (r : Ending) (status : ℕ) → IsAsked version hex every script asked
+    → IfSome known (λ bytes. Does (TellsEntries asked) bytes old new r) → status ≡ status_of r → Works (TellsDump version hex every script) known old new status
+told asked version hex every script None old new r status asks does is = tt
+told asked version hex every script (Some bytes) old new r status asks does is = (r, is, inl (tells_asked asked version hex every script bytes old new r asks does))
+
+-- the work is the one that was asked for
+pub for_work : (known old new : Option (List ℕ)) (work other : Work) (r : Ending) → work ≡ other → OfInput known (λ input. Performs other input old new r) → OfInput known (λ input. Performs work input old new r)
+for_work known old new work other r is does = subst (λ (w : Work). OfInput known (λ input. Performs w input old new r)) (sym is) does

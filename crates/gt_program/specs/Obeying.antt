@@ -1,8 +1,19 @@
 -- What a command line comes to: what is written, and the exit status.
-use Rattle.std.specs.Prelude.{◌≡◌, ◌⊎◌, ℕ, ◌≤◌, ◌++◌, Bool, false, List, Option, Some, None, Result, Ok, Err, IfSome, codes}
+use Rattle.std.specs.Prelude.{◌≡◌, ◌⊎◌, ℕ, ◌≤◌, ◌++◌, Bool, true, false, List, Option, Some, None, Result, Ok, Err, IfSome, codes}
 use Rattle.std.specs.Io.KnownBytes.{Keeps}
+use Rattle.std.specs.Option.{option_map}
 use Rattle.clap.specs.declared.error.kind.ErrorKind.{ErrorKind}
 use Rattle.clap.specs.declared.error.kind.ErrorKind.TheVariants.{DisplayHelp, DisplayVersion, OutOfMemory}
+use Rattle.gt_advice.specs.Why.{source_asked, target_asked}
+use Rattle.gt_advice.specs.declared.asking.Question.{Question}
+use Rattle.gt_advising.specs.Checking.{Checked}
+use Rattle.gt_advising.specs.Explaining.{Explained}
+use Rattle.gt_advising.specs.Faults.{why_fault_text}
+use Rattle.gt_commands.specs.Commands.{Request, to_play, to_run, to_list, to_tell_rules, to_check, to_explain}
+use Rattle.gt_commands.specs.Commands.{to_tell_entries, for_help, for_version, nothing}
+use Rattle.gt_dump.specs.Dumps.{Told}
+use Rattle.gt_dump.specs.Faults.{dump_fault_text}
+use Rattle.gt_dump.specs.declared.asked.Asked.{Asked}
 use Rattle.gt_script.specs.RunScripts.{RunTells}
 use Rattle.gt_script.specs.Script.{Tells}
 use Rattle.gt_streams.specs.Texts.{read_word}
@@ -12,80 +23,103 @@ use Rattle.gt_run.specs.Faults.{run_fault_text}
 use Rattle.gt_run.specs.Runs.{Ran}
 use Rattle.gt_listing.specs.Faults.{listing_fault_text}
 use Rattle.gt_listing.specs.Writing.{Listed}
-use Rattle.gt_program.specs.CommandLine.{Request, to_do, for_help, for_version, nothing}
 use Rattle.gt_program.specs.declared.failure.Failure.{Failure}
 use Rattle.gt_program.specs.declared.failure.Failure.TheVariants as failures
-use Rattle.gt_program.specs.declared.plan.Mode.TheVariants as modes
 use Rattle.gt_program.specs.declared.obeying.Work.{Work}
-use Rattle.gt_program.specs.declared.obeying.Work.TheVariants.{Play, List as ListPolicy}
+use Rattle.gt_program.specs.declared.obeying.Work.TheVariants as works
 
--- the line for a failure
+-- the line for a failure (own)
 abbrev pub failure_text : Failure → List ℕ
 failure_text (failures.Play fault) = codes "gthost: " ++ play_fault_text fault
 failure_text (failures.Run fault) = codes "gthost: " ++ run_fault_text fault
 failure_text (failures.List fault) = codes "gthost: " ++ listing_fault_text fault
+failure_text (failures.Why fault) = codes "gthost: " ++ why_fault_text fault
+failure_text (failures.Dump fault) = codes "gthost: " ++ dump_fault_text fault
 failure_text (failures.File fault) = codes "gthost: " ++ read_word fault
 failure_text (failures.Help fault) = codes "gthost: write"
 failure_text failures.Memory = codes "gthost: memory"
 
--- the exit status: 0 for success, 1 for a failure
-abbrev pub status_of : Result (Unit {0}) Failure → ℕ
-status_of (Ok done) = 0
+-- how a command ended: done, with a good answer or not, or with a failure (own)
+abbrev pub Ending : Type 0
+Ending = Result Bool Failure
+
+-- the exit status: 0 for a good answer, 1 for another and for a failure (own)
+abbrev pub status_of : Ending → ℕ
+status_of (Ok true) = 0
+status_of (Ok false) = 1
 status_of (Err failure) = 1
 
--- what a command wrote that ended so, if these are the bytes of its text
-abbrev pub Performs : Work → List ℕ → Option (List ℕ) → Option (List ℕ) → Result (Unit {0}) Failure → Type 0
-Performs (Play audited) input old new (Ok done) = Played (Tells input) audited old new (Ok done)
-Performs (Play audited) input old new (Err (failures.Play fault)) = Played (Tells input) audited old new (Err fault)
-Performs (Play audited) input old new (Err (failures.Run fault)) = ⊥
-Performs (Play audited) input old new (Err (failures.List fault)) = ⊥
-Performs (Play audited) input old new (Err (failures.File fault)) = ⊥
-Performs (Play audited) input old new (Err (failures.Help fault)) = ⊥
-Performs (Play audited) input old new (Err failures.Memory) = ⊥
-Performs ListPolicy input old new (Ok done) = Listed input old new (Ok done)
-Performs ListPolicy input old new (Err (failures.List fault)) = Listed input old new (Err fault)
-Performs ListPolicy input old new (Err (failures.Play fault)) = ⊥
-Performs ListPolicy input old new (Err (failures.Run fault)) = ⊥
-Performs ListPolicy input old new (Err (failures.File fault)) = ⊥
-Performs ListPolicy input old new (Err (failures.Help fault)) = ⊥
-Performs ListPolicy input old new (Err failures.Memory) = ⊥
+-- what a command wrote that ended so, where these are the bytes of its text (own)
+abbrev pub Doing : Type 1
+Doing = List ℕ → Option (List ℕ) → Option (List ℕ) → Ending → Type 0
 
--- a file that was not opened: nothing was written
-abbrev pub IsUnopened : Option (List ℕ) → Option (List ℕ) → Result (Unit {0}) Failure → Type 0
-IsUnopened old new (Ok done) = ⊥
-IsUnopened old new (Err (failures.Play fault)) = ⊥
-IsUnopened old new (Err (failures.Run fault)) = ⊥
-IsUnopened old new (Err (failures.List fault)) = ⊥
+abbrev pub Plays : Bool → Doing
+Plays audited input old new (Ok true) = Played (Tells input) audited old new (Ok tt)
+Plays audited input old new (Ok false) = ⊥
+Plays audited input old new (Err (failures.Play fault)) = Played (Tells input) audited old new (Err fault)
+Plays audited input old new (Err failure) = ⊥
+
+-- nothing was written where memory was refused before the text was read (own)
+abbrev pub RunsDomains : Bool → Doing
+RunsDomains audited input old new (Ok true) = Ran audited (RunTells input) old new (Ok tt)
+RunsDomains audited input old new (Ok false) = ⊥
+RunsDomains audited input old new (Err (failures.Run fault)) = Ran audited (RunTells input) old new (Err fault)
+RunsDomains audited input old new (Err failures.Memory) = Keeps old new
+RunsDomains audited input old new (Err failure) = ⊥
+
+abbrev pub Lists : Doing
+Lists input old new (Ok true) = Listed input old new (Ok tt)
+Lists input old new (Ok false) = ⊥
+Lists input old new (Err (failures.List fault)) = Listed input old new (Err fault)
+Lists input old new (Err failure) = ⊥
+
+-- a good answer is that the text is a policy (own)
+abbrev pub Checks : Doing
+Checks input old new (Ok answer) = Checked input old new (Ok answer)
+Checks input old new (Err (failures.List fault)) = Checked input old new (Err fault)
+Checks input old new (Err failure) = ⊥
+
+-- a good answer is that it is allowed (own)
+abbrev pub Explains : List ℕ → Question → Doing
+Explains file q input old new (Ok answer) = Explained file q input old new (Ok answer)
+Explains file q input old new (Err (failures.Why fault)) = Explained file q input old new (Err fault)
+Explains file q input old new (Err failure) = ⊥
+
+abbrev pub TellsEntries : Asked → Doing
+TellsEntries asked input old new (Ok true) = Told asked input old new (Ok tt)
+TellsEntries asked input old new (Ok false) = ⊥
+TellsEntries asked input old new (Err (failures.Dump fault)) = Told asked input old new (Err fault)
+TellsEntries asked input old new (Err failure) = ⊥
+
+-- what is done with a text (own)
+abbrev pub Performs : Work → Doing
+Performs (works.Play audited) = Plays audited
+Performs works.List = Lists
+Performs (works.Check file json) = Checks
+Performs (works.Why file question) = Explains file.now question
+Performs (works.Entries asked) = TellsEntries asked
+
+-- a file that was not opened: nothing was written (own)
+abbrev pub IsUnopened : Option (List ℕ) → Option (List ℕ) → Ending → Type 0
 IsUnopened old new (Err (failures.File fault)) = Keeps old new
-IsUnopened old new (Err (failures.Help fault)) = ⊥
-IsUnopened old new (Err failures.Memory) = ⊥
+IsUnopened old new r = ⊥
 
--- the command did its work on these bytes, or could not open the file
-abbrev pub Runs : Work → List ℕ → Option (List ℕ) → Option (List ℕ) → Result (Unit {0}) Failure → Type 0
-Runs work input old new r = Performs work input old new r ⊎ IsUnopened old new r
+-- it was done to these bytes, or the file could not be opened (own)
+abbrev pub Does : Doing → Doing
+Does P input old new r = P input old new r ⊎ IsUnopened old new r
 
--- what `run` wrote that ended so, with audit lines or without, if these are the bytes
--- of its text; nothing if memory was refused before it read them
-abbrev pub PerformsRun : Bool → List ℕ → Option (List ℕ) → Option (List ℕ) → Result (Unit {0}) Failure → Type 0
-PerformsRun audited input old new (Ok done) = Ran audited (RunTells input) old new (Ok done)
-PerformsRun audited input old new (Err (failures.Run fault)) = Ran audited (RunTells input) old new (Err fault)
-PerformsRun audited input old new (Err failures.Memory) = Keeps old new
-PerformsRun audited input old new (Err (failures.Play fault)) = ⊥
-PerformsRun audited input old new (Err (failures.List fault)) = ⊥
-PerformsRun audited input old new (Err (failures.File fault)) = ⊥
-PerformsRun audited input old new (Err (failures.Help fault)) = ⊥
-
--- the domains of the script that these bytes say were run, or its file could not be opened
-abbrev pub RunsDomains : Bool → List ℕ → Option (List ℕ) → Option (List ℕ) → Result (Unit {0}) Failure → Type 0
-RunsDomains audited input old new r = PerformsRun audited input old new r ⊎ IsUnopened old new r
-
--- the bytes that are known of the file that is named, or of the standard input if none is
+-- the bytes that are known of the file that is named, or of the standard input where none is (own)
 abbrev pub known_text : (List ℕ → Option (List ℕ)) → Option (List ℕ) → Option (List ℕ) → Option (List ℕ)
 known_text file input None = input
 known_text file input (Some name) = file name
 
--- a command line that is not obeyed: the exit status is 1 if memory is refused, 0 or 1 for help and the version,
--- as they were written or not, and else 2; nothing is written but help and the version
+-- the name that lines begin with (own)
+abbrev pub shown_name : Option (List ℕ) → List ℕ
+shown_name None = codes "<stdin>"
+shown_name (Some name) = name
+
+-- a command line that is not obeyed: the exit status is 1 where memory is refused, 0 or 1 for help and the version,
+-- as they were written or not, and else 2; nothing is written but help and the version (own)
 pub record FitsKind (kind : ErrorKind) (old new : Option (List ℕ)) (status : ℕ) : Type 0 where
   pub memory : kind ≡ OutOfMemory → status ≡ 1
   pub help : kind ≡ DisplayHelp → status ≤ 1
@@ -93,36 +127,52 @@ pub record FitsKind (kind : ErrorKind) (old new : Option (List ℕ)) (status : �
   pub wrong : (kind ≡ OutOfMemory → ⊥) → (kind ≡ DisplayHelp → ⊥) → (kind ≡ DisplayVersion → ⊥) → status ≡ 2
   pub silent : (kind ≡ DisplayHelp → ⊥) → (kind ≡ DisplayVersion → ⊥) → Keeps old new
 
--- the exit status fits what the work did on the text that is named, if its bytes are
--- known; if memory is refused it is 1, and nothing was written
-abbrev pub Works : Work → Option (List ℕ) → Option (List ℕ) → Option (List ℕ) → ℕ → Type 0
-Works work known old new status =
+-- the exit status fits what was done with the text that is named, where its bytes are
+-- known; where memory is refused it is 1, and nothing was written (own)
+abbrev pub Works : Doing → Option (List ℕ) → Option (List ℕ) → Option (List ℕ) → ℕ → Type 0
+Works P known old new status =
     IfSome known
-    (λ bytes. (r : Result (Unit {0}) Failure) × (status ≡ status_of r)
-    × (Runs work bytes old new r ⊎ ((r ≡ Err failures.Memory) × Keeps old new)))
+    (λ bytes. (r : Ending) × (status ≡ status_of r)
+    × (Does P bytes old new r ⊎ ((r ≡ Err failures.Memory) × Keeps old new)))
 
--- the exit status fits what the run of the text's domains wrote, with audit lines or
--- without, if its bytes are known; if memory is refused it is 1, and nothing was written
-abbrev pub WorksRun : Bool → Option (List ℕ) → Option (List ℕ) → Option (List ℕ) → ℕ → Type 0
-WorksRun audited known old new status =
-    IfSome known
-    (λ bytes. (r : Result (Unit {0}) Failure) × (status ≡ status_of r)
-    × (RunsDomains audited bytes old new r ⊎ ((r ≡ Err failures.Memory) × Keeps old new)))
+-- the question asks for these names (own)
+abbrev pub IsQuestion : Option (List ℕ) → Option (List ℕ) → List ℕ → Question → Type 0
+IsQuestion source target permission q =
+    (source_asked q ≡ source) × (target_asked q ≡ target) × (q.perm.now ≡ permission)
 
--- The exit status fits what was asked for, and what was written does: work that was done,
--- the domains of a script that were run, the rules, if the status is 2
+-- what is asked of a dump (own)
+abbrev pub IsAsked : ℕ → Bool → Bool → Option ℕ → Asked → Type 0
+IsAsked version hex every script asked =
+    (asked.version ≡ version) × (asked.hex ≡ hex) × (asked.all ≡ every)
+    × (option_map (λ d. d.0) asked.script ≡ script)
+
+-- a question of these names is answered (own)
+abbrev pub Answers : List ℕ → Option (List ℕ) → Option (List ℕ) → List ℕ → Doing
+Answers file source target permission input old new r =
+    (q : Question) × IsQuestion source target permission q × Explains file q input old new r
+
+-- a dump is told as it is asked (own)
+abbrev pub TellsDump : ℕ → Bool → Bool → Option ℕ → Doing
+TellsDump version hex every script input old new r =
+    (asked : Asked) × IsAsked version hex every script asked × TellsEntries asked input old new r
+
+-- The exit status fits what was asked for, and what was written does: a script that was played or run, a policy that
+-- was listed or checked, a question that was answered, a dump that was told, the rules, where the status is 2
 -- for the name of none, help, the version, or nothing for words that ask for nothing,
--- whose status is 2 and for which nothing is written. If memory is
--- refused, the status is 1 for all of them.
+-- whose status is 2 and for which nothing is written. Where memory is
+-- refused, the status is 1 for all of them. (own)
 abbrev pub Obeys : Request → (List ℕ → Option (List ℕ)) → Option (List ℕ) → Option (List ℕ) → Option (List ℕ) → ℕ
     → Type 0
-Obeys (to_do modes.Play audited name) file input old new status =
-    Works (Play audited) (known_text file input name) old new status
-Obeys (to_do modes.Run audited name) file input old new status =
-    WorksRun audited (known_text file input name) old new status
-Obeys (to_do modes.Policy audited name) file input old new status =
-    Works ListPolicy (known_text file input name) old new status
-Obeys (to_do modes.Rules audited name) file input old new status = status ≤ 2
+Obeys (to_play audited name) file input old new status = Works (Plays audited) (known_text file input name) old new status
+Obeys (to_run audited name) file input old new status =
+    Works (RunsDomains audited) (known_text file input name) old new status
+Obeys (to_list name) file input old new status = Works Lists (known_text file input name) old new status
+Obeys (to_tell_rules name) file input old new status = status ≤ 2
+Obeys (to_check format name) file input old new status = Works Checks (known_text file input name) old new status
+Obeys (to_explain source target permission name) file input old new status =
+    Works (Answers (shown_name name) source target permission) (known_text file input name) old new status
+Obeys (to_tell_entries version hex every script name) file input old new status =
+    Works (TellsDump version hex every script) (known_text file input name) old new status
 Obeys for_help file input old new status = status ≤ 1
 Obeys for_version file input old new status = status ≤ 1
 Obeys nothing file input old new status = ((status ≡ 2) ⊎ (status ≡ 1)) × Keeps old new

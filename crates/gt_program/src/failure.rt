@@ -2,6 +2,8 @@
 ghost use Rattle.std.specs.Prelude.{◌≡◌};
 ghost use Rattle.gt_program.specs.Obeying.{status_of};
 
+use gt_advising::WhyFault;
+use gt_dump::DumpFault;
 use gt_host::PlayFault;
 use gt_listing::ListingFault;
 use gt_run::RunFault;
@@ -16,8 +18,12 @@ pub enum Failure {
     Play(PlayFault),
     /// The domains of a script were not run to their end.
     Run(RunFault),
-    /// A policy was not listed to its end.
+    /// A policy was not listed or checked to its end.
     List(ListingFault),
+    /// A question was not answered.
+    Why(WhyFault),
+    /// A dump was not told to its end.
+    Dump(DumpFault),
     /// The file can't be opened. Nothing was written.
     File(ReadFault),
     /// The help was not written whole.
@@ -37,6 +43,8 @@ impl fmt::Display for Failure {
             Failure::Play(fault) => write!(f, "gthost: {fault}"),
             Failure::Run(fault) => write!(f, "gthost: {fault}"),
             Failure::List(fault) => write!(f, "gthost: {fault}"),
+            Failure::Why(fault) => write!(f, "gthost: {fault}"),
+            Failure::Dump(fault) => write!(f, "gthost: {fault}"),
             Failure::File(fault) => write!(f, "gthost: {fault}"),
             Failure::Help(fault) => write!(f, "gthost: {fault}"),
             Failure::Memory => f.write_str("gthost: memory"),
@@ -46,12 +54,13 @@ impl fmt::Display for Failure {
 
 impl Error for Failure {}
 
-/// The exit status of a command that ended so: 0 for success, and 1 for a failure.
-pub fn exit_status(outcome: &Result<(), Failure>) -> u8
-    ensures { result ≡ status_of outcome.now }
+/// The exit status of a command that ended so: 0 for a good answer, and 1 for another and for a failure.
+pub fn exit_status(ending: &Result<bool, Failure>) -> u8
+    ensures { result ≡ status_of ending.now }
 {
-    match outcome {
-        Ok(()) => 0,
+    match ending {
+        Ok(true) => 0,
+        Ok(false) => 1,
         Err(_) => 1,
     }
 }

@@ -1,11 +1,11 @@
 //! What the program `gthost` does with a command line: the words, what they ask for, and the exit
 //! status.
 //!
-//! `plan` answers what the words of a command line ask for. `obey` does that: it plays or runs a
-//! script, lists a policy, from a file or the standard input, or lists the rules. It answers the exit
-//! status: 0 for success (of help too), 1 for a fault of script, policy, file, memory or thread, and 2
-//! for a wrong command line. A fault goes to the standard error in one line that begins with
-//! `gthost: `.
+//! `obey` does what the words of a command line ask for (`plan` of `gt_commands`): it plays or runs a
+//! script, lists or checks a policy, says why a policy allows something, tells the entries of a dump,
+//! or lists the rules. It answers the exit status: 0 for success (of help too), 1 for a fault, for a
+//! policy with an error and for a denied question, and 2 for a wrong command line. A fault goes to the
+//! standard error in one line that begins with `gthost: `.
 //!
 //! Texts come by a trait, `Texts`, and go to any writer. So the contracts say, for texts and a writer
 //! that promise their bytes, what is written for which words and with which status. Tests, and the runs
@@ -14,7 +14,6 @@
 
 mod failure;
 mod obeying;
-pub mod plan;
 mod rules;
 mod system;
 mod texts;

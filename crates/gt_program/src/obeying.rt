@@ -1,24 +1,29 @@
 //! What a command line asks for, done.
-ghost use Rattle.std.specs.Prelude.{◌≡◌, ◌≤◌, ℕ, List, IfSome, OnOk, drop, map, string_bytes};
+ghost use Rattle.std.specs.Prelude.{◌≡◌, ◌≤◌, ℕ, List, IfSome, OnOk, true, drop, map, string_bytes};
 ghost use Rattle.std.specs.Option.{option_map};
+ghost use Rattle.clap.specs.Kinds.{HasKind};
 ghost use Rattle.clap.specs.Words.{kind_of};
+ghost use Rattle.gt_commands.specs.Commands.{asked, asked_by_plan};
 ghost use Rattle.gt_script.specs.RunScripts.{RunTells};
 ghost use Rattle.gt_streams.specs.Streams.{OfInput};
 ghost use Rattle.gt_run.specs.Runs.{Ran};
-ghost use Rattle.gt_program.specs.CommandLine.{asked, asked_by_plan};
-ghost use Rattle.gt_program.specs.Obeying.{status_of, known_text, FitsKind, Obeys, Performs, PerformsRun, Runs};
+ghost use Rattle.gt_program.specs.Obeying.{status_of, known_text, shown_name, Does, FitsKind, Obeys, Performs};
 ghost use Rattle.gt_program.specs.Obeying.{RunsDomains};
 
 use crate::failure::{Failure, exit_status};
-use crate::plan::{Invocation, Mode, plan};
 use crate::rules::tell_rules;
 use crate::texts::Texts;
 use clap::Error;
 use clap::error::ErrorKind;
+use gt_advice::Question;
+use gt_advising::{check, why};
 use gt_audit::SharedLog;
+use gt_commands::{Format, Invocation, plan};
+use gt_dump::{Asked, entries};
 use gt_listing::policy;
 use gt_run::{Flags, Gate, RunFault, run};
 use gt_streams::WriteFault;
+use gt_types::DomId;
 use std::alloc::Global;
 use std::io::{Read, Write};
 use std::sync::Wait;
@@ -26,29 +31,60 @@ use std::thread::Threads;
 
 /// What is done with a text.
 #[derive(Clone, Copy)]
-pub enum Work {
+pub enum Work<'w> {
     /// The script is run on the core, with its audit lines or without.
-    Play { audit: bool },
+    Play {
+        audit: bool,
+    },
     /// What the policy allows is listed.
     List,
+    /// What is wrong or useless in the policy is told. The lines begin with the name.
+    Check {
+        file: &'w str,
+        json: bool,
+    },
+    /// The question about the policy is answered. The lines begin with the name.
+    Why {
+        file: &'w str,
+        question: Question<'w>,
+    },
+    /// The entries of the dump are told.
+    Entries {
+        asked: Asked,
+    },
 }
 
-// Plays the script of a reader, or lists its policy.
+// Does this with the text of a reader, and answers whether the answer is a good one.
 fn perform<R: Read, W: Write>(
     alloc: Global,
     work: Work,
     reader: &mut R,
     out: &mut W,
-) -> Result<(), Failure>
+) -> Result<bool, Failure>
     ensures { OfInput (R.remaining reader.old) (λ input.
-        Performs work input (W.contents out.old) (W.contents out.new) result) }
+        Performs work.entry input (W.contents out.old) (W.contents out.new) result) }
 {
     match work {
         Work::Play { audit } => match gt_host::play(alloc, reader, out, audit) {
-            Ok(()) => Ok(()),
+            Ok(()) => Ok(true),
             Err(fault) => Err(Failure::Play(fault)),
         },
-        Work::List => policy(alloc, reader, out).map_err(Failure::List),
+        Work::List => match policy(alloc, reader, out) {
+            Ok(()) => Ok(true),
+            Err(fault) => Err(Failure::List(fault)),
+        },
+        Work::Check { file, json } => match check(alloc, file, json, reader, out) {
+            Ok(clean) => Ok(clean),
+            Err(fault) => Err(Failure::List(fault)),
+        },
+        Work::Why { file, question } => match why(alloc, file, &question, reader, out) {
+            Ok(allowed) => Ok(allowed),
+            Err(fault) => Err(Failure::Why(fault)),
+        },
+        Work::Entries { asked } => match entries(alloc, asked, reader, out) {
+            Ok(()) => Ok(true),
+            Err(fault) => Err(Failure::Dump(fault)),
+        },
     }
 }
 
@@ -59,9 +95,9 @@ fn perform_on<T: Texts, W: Write>(
     work: Work,
     name: Option<&str>,
     out: &mut W,
-) -> Result<(), Failure>
+) -> Result<bool, Failure>
     ensures { IfSome (known_text (T.file texts.now) (T.input texts.now) (option_map (λ f. f.now) name.entry))
-        (λ input. Runs work input (W.contents out.old) (W.contents out.new) result) }
+        (λ input. Does (Performs work.entry) input (W.contents out.old) (W.contents out.new) result) }
 {
     let Some(name) = name else {
         return perform(alloc, work, &mut texts.input(), out);
@@ -73,11 +109,11 @@ fn perform_on<T: Texts, W: Write>(
 }
 
 // Reports why a command did not end well, if it did not. A failed write of that is not reported.
-pub(crate) fn report<E: Eprint>(err: &E, outcome: Result<(), Failure>) -> u8
-    ensures { result ≡ status_of outcome }
+pub(crate) fn report<E: Eprint>(err: &E, ending: Result<bool, Failure>) -> u8
+    ensures { result ≡ status_of ending }
 {
-    let status = exit_status(&outcome);
-    if let Err(failure) = outcome {
+    let status = exit_status(&ending);
+    if let Err(failure) = ending {
         let _ = err.eprintln(failure);
     }
     status
@@ -88,7 +124,10 @@ fn show_help<W: Write, E: Eprint>(out: &mut W, err: &E, help: &Error) -> u8
     ensures { result ≤ 1 }
 {
     match write!(out, "{help}") {
-        Ok(()) => report(err, out.flush().map_err(|_| Failure::Help(WriteFault))),
+        Ok(()) => match out.flush() {
+            Ok(()) => 0,
+            Err(_) => report(err, Err(Failure::Help(WriteFault))),
+        },
         Err(_) => report(err, Err(Failure::Help(WriteFault))),
     }
 }
@@ -135,9 +174,9 @@ fn run_script<R: Threads + Wait + Sync, I: Read, W: Write>(
     audit: bool,
     reader: &mut I,
     out: &mut W,
-) -> Result<(), Failure>
+) -> Result<bool, Failure>
     ensures { OfInput (I.remaining reader.old) (λ input.
-        PerformsRun audit input (W.contents out.old) (W.contents out.new) result) }
+        RunsDomains audit input (W.contents out.old) (W.contents out.new) result) }
 {
     let Ok(gate) = Flags::new(rt, alloc) else {
         return Err(Failure::Memory);
@@ -146,7 +185,7 @@ fn run_script<R: Threads + Wait + Sync, I: Read, W: Write>(
         return Err(Failure::Memory);
     };
     match run_logged(rt, alloc, audit, reader, out, &log, &gate) {
-        Ok(()) => Ok(()),
+        Ok(()) => Ok(true),
         Err(fault) => Err(Failure::Run(fault)),
     }
 }
@@ -156,14 +195,14 @@ fn run_on<R: Threads + Wait + Sync, T: Texts, W: Write>(
     rt: &R,
     alloc: Global,
     texts: &T,
-    invocation: &Invocation,
+    audit: bool,
+    name: Option<&str>,
     out: &mut W,
-) -> Result<(), Failure>
-    ensures { IfSome (known_text (T.file texts.now) (T.input texts.now) (option_map (λ f. f.now) invocation.now.file))
-        (λ input. RunsDomains invocation.now.audit input (W.contents out.old) (W.contents out.new) result) }
+) -> Result<bool, Failure>
+    ensures { IfSome (known_text (T.file texts.now) (T.input texts.now) (option_map (λ f. f.now) name.entry))
+        (λ input. Does (RunsDomains audit) input (W.contents out.old) (W.contents out.new) result) }
 {
-    let audit = invocation.audit;
-    let Some(name) = invocation.file else {
+    let Some(name) = name else {
         return run_script(rt, alloc, audit, &mut texts.input(), out);
     };
     match texts.open(name) {
@@ -172,34 +211,100 @@ fn run_on<R: Threads + Wait + Sync, T: Texts, W: Write>(
     }
 }
 
+// The name that lines begin with.
+fn shown_name<'a>(name: Option<&'a str>) -> &'a str
+    ensures { result.now ≡ shown_name (option_map (λ f. f.now) name.entry) }
+{
+    match name {
+        Some(name) => name,
+        None => "<stdin>",
+    }
+}
+
+// The domain of this number.
+fn domain(number: Option<u16>) -> Option<DomId>
+    ensures { option_map (λ d. d.0) result ≡ number }
+{
+    match number {
+        Some(number) => Some(DomId(number)),
+        None => None,
+    }
+}
+
 // Does what the plan says.
-#[tactic(auto, using(crate::proofs::Obeyed::ran_plan))]
 fn follow<R: Threads + Wait + Sync, T: Texts, W: Write, E: Eprint>(
     rt: &R,
     alloc: Global,
     texts: &T,
-    invocation: &Invocation,
+    invocation: Invocation,
     out: &mut W,
     err: &E,
 ) -> u8
-    ensures { Obeys (asked_by_plan invocation.now) (T.file texts.now) (T.input texts.now)
+    ensures { Obeys (asked_by_plan invocation.entry) (T.file texts.now) (T.input texts.now)
         (W.contents out.old) (W.contents out.new) result }
 {
-    let audit = invocation.audit;
-    let work = match invocation.mode {
-        Mode::Play => Work::Play { audit },
-        Mode::Policy => Work::List,
-        Mode::Run => return report(err, run_on(rt, alloc, texts, invocation, out)),
-        Mode::Rules => return tell_rules(out, err, invocation.file),
-    };
-    report(err, perform_on(alloc, texts, work, invocation.file, out))
+    match invocation {
+        Invocation::Play { audit, file } => {
+            report(
+                err,
+                perform_on(alloc, texts, Work::Play { audit }, file, out),
+            )
+        }
+        Invocation::Run { audit, file } => report(err, run_on(rt, alloc, texts, audit, file, out)),
+        Invocation::Policy { file } => report(err, perform_on(alloc, texts, Work::List, file, out)),
+        Invocation::Rules { rule } => tell_rules(out, err, rule),
+        Invocation::Check { format, file } => {
+            let json = matches!(format, Format::Json);
+            let work = Work::Check {
+                file: shown_name(file),
+                json,
+            };
+            report(err, perform_on(alloc, texts, work, file, out))
+        }
+        Invocation::Why {
+            source,
+            target,
+            permission,
+            file,
+        } => {
+            let question = Question {
+                source,
+                target,
+                perm: permission,
+            };
+            let work = Work::Why {
+                file: shown_name(file),
+                question,
+            };
+            report(err, perform_on(alloc, texts, work, file, out))
+        }
+        Invocation::Entries {
+            version,
+            hex,
+            all,
+            script,
+            file,
+        } => {
+            let asked = Asked {
+                version,
+                hex,
+                all,
+                script: domain(script),
+            };
+            report(
+                err,
+                perform_on(alloc, texts, Work::Entries { asked }, file, out),
+            )
+        }
+    }
 }
 
 /// Does what the words of a command line ask for, the program's name first, and answers the exit
 /// status. Texts, rules, help and version go to `out`; a fault goes to `err`, in one line.
 ///
-/// The status is 0 for success, 1 for a fault of script, policy, file, memory or thread or for a text that was not
-/// written, and 2 if the words ask for nothing that the program does.
+/// The status is 0 for success, 1 for a fault of script, policy, dump, file, memory or thread, for a text that was not
+/// written, for a policy with an error and for a denied question, and 2 if the words ask for nothing that the program
+/// does.
 pub fn obey<R: Threads + Wait + Sync, T: Texts, W: Write, E: Eprint>(
     rt: &R,
     alloc: Global,
@@ -212,7 +317,7 @@ pub fn obey<R: Threads + Wait + Sync, T: Texts, W: Write, E: Eprint>(
         (W.contents out.old) (W.contents out.new) result }
 {
     match plan(alloc, words) {
-        Ok(invocation) => follow(rt, alloc, texts, &invocation, out, err),
+        Ok(invocation) => follow(rt, alloc, texts, invocation, out, err),
         Err(error) => refuse(out, err, &error),
     }
 }

@@ -1,7 +1,6 @@
-//! Tests of `gt_program`, over what it makes public.
+//! Tests of `gt_commands`, over what it makes public.
 //!
-//! They say what no contract says: that a command line is answered if there is memory, and what a
-//! failure prints.
+//! They say what no contract says: that a command line is answered if there is memory.
 #![tactic(auto)]
 
 #[cfg(test)]

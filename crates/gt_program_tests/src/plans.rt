@@ -1,102 +1,241 @@
 //! Command lines, and the plans made of them.
-use gt_program::plan::{Mode, plan};
+use gt_commands::{Format, Invocation, plan};
 use std::alloc::{AllocError, Global};
 use std::test::Fail;
 
 // The words of a command line.
-fn words_of(alloc: Global, line: &[&str]) -> Result<Vec<String>, AllocError> {
+fn words_of(alloc: Global, line: &str) -> Result<Vec<String>, AllocError> {
     let mut words = Vec::new(alloc);
-    for word in line {
+    for word in line.split(' ') {
         words.push(String::from_str(alloc, word)?)?;
     }
     Ok(words)
 }
 
+const PLANS: [(&str, Invocation<'static>); 23] = [
+    (
+        "gthost play",
+        Invocation::Play {
+            audit: false,
+            file: None,
+        },
+    ),
+    (
+        "gthost play first.gt",
+        Invocation::Play {
+            audit: false,
+            file: Some("first.gt"),
+        },
+    ),
+    (
+        "gthost play -",
+        Invocation::Play {
+            audit: false,
+            file: Some("-"),
+        },
+    ),
+    (
+        "gthost play -- --help",
+        Invocation::Play {
+            audit: false,
+            file: Some("--help"),
+        },
+    ),
+    (
+        "gthost play first.gt --",
+        Invocation::Play {
+            audit: false,
+            file: Some("first.gt"),
+        },
+    ),
+    ("gthost policy", Invocation::Policy { file: None }),
+    (
+        "gthost policy play",
+        Invocation::Policy { file: Some("play") },
+    ),
+    (
+        "gthost play policy",
+        Invocation::Play {
+            audit: false,
+            file: Some("policy"),
+        },
+    ),
+    (
+        "gthost play --audit",
+        Invocation::Play {
+            audit: true,
+            file: None,
+        },
+    ),
+    (
+        "gthost play --audit a.gt",
+        Invocation::Play {
+            audit: true,
+            file: Some("a.gt"),
+        },
+    ),
+    (
+        "gthost play a.gt --audit",
+        Invocation::Play {
+            audit: true,
+            file: Some("a.gt"),
+        },
+    ),
+    (
+        "gthost run a.gt",
+        Invocation::Run {
+            audit: false,
+            file: Some("a.gt"),
+        },
+    ),
+    ("gthost rules N19", Invocation::Rules { rule: Some("N19") }),
+    (
+        "gthost check",
+        Invocation::Check {
+            format: Format::Text,
+            file: None,
+        },
+    ),
+    (
+        "gthost check --format json a.te",
+        Invocation::Check {
+            format: Format::Json,
+            file: Some("a.te"),
+        },
+    ),
+    (
+        "gthost check a.te --format=text",
+        Invocation::Check {
+            format: Format::Text,
+            file: Some("a.te"),
+        },
+    ),
+    (
+        "gthost why driver_t - map_read",
+        Invocation::Why {
+            source: Some("driver_t"),
+            target: None,
+            permission: "map_read",
+            file: None,
+        },
+    ),
+    (
+        "gthost why - guest_t copy a.te",
+        Invocation::Why {
+            source: None,
+            target: Some("guest_t"),
+            permission: "copy",
+            file: Some("a.te"),
+        },
+    ),
+    (
+        "gthost entries --version 1",
+        Invocation::Entries {
+            version: 1,
+            hex: false,
+            all: false,
+            script: None,
+            file: None,
+        },
+    ),
+    (
+        "gthost entries --hex --version=2 a.hex --all",
+        Invocation::Entries {
+            version: 2,
+            hex: true,
+            all: true,
+            script: None,
+            file: Some("a.hex"),
+        },
+    ),
+    (
+        "gthost entries --script 7 --version 1 -- --all",
+        Invocation::Entries {
+            version: 1,
+            hex: false,
+            all: false,
+            script: Some(7),
+            file: Some("--all"),
+        },
+    ),
+    (
+        "gthost entries --version 1 --script 65535",
+        Invocation::Entries {
+            version: 1,
+            hex: false,
+            all: false,
+            script: Some(65_535),
+            file: None,
+        },
+    ),
+    (
+        "gthost entries --version 1 --script=0 -",
+        Invocation::Entries {
+            version: 1,
+            hex: false,
+            all: false,
+            script: Some(0),
+            file: Some("-"),
+        },
+    ),
+];
+
 #[test]
-fn a_command_takes_its_file_from_the_line(rt: HostRuntime) -> Result<(), Fail> {
+fn a_line_is_planned_as_it_asks(rt: HostRuntime) -> Result<(), Fail> {
     let alloc = rt.alloc();
-    let lines: [(&[&str], Mode, bool, Option<&str>); 13] = [
-        (&["gthost", "play"], Mode::Play, false, None),
-        (
-            &["gthost", "play", "first.gt"],
-            Mode::Play,
-            false,
-            Some("first.gt"),
-        ),
-        (&["gthost", "play", "-"], Mode::Play, false, Some("-")),
-        (
-            &["gthost", "play", "--", "--help"],
-            Mode::Play,
-            false,
-            Some("--help"),
-        ),
-        (
-            &["gthost", "play", "first.gt", "--"],
-            Mode::Play,
-            false,
-            Some("first.gt"),
-        ),
-        (&["gthost", "policy"], Mode::Policy, false, None),
-        (
-            &["gthost", "policy", "play"],
-            Mode::Policy,
-            false,
-            Some("play"),
-        ),
-        (
-            &["gthost", "play", "policy"],
-            Mode::Play,
-            false,
-            Some("policy"),
-        ),
-        (&["gthost", "play", "--audit"], Mode::Play, true, None),
-        (
-            &["gthost", "play", "--audit", "a.gt"],
-            Mode::Play,
-            true,
-            Some("a.gt"),
-        ),
-        (
-            &["gthost", "play", "a.gt", "--audit"],
-            Mode::Play,
-            true,
-            Some("a.gt"),
-        ),
-        (&["gthost", "run", "a.gt"], Mode::Run, false, Some("a.gt")),
-        (&["gthost", "rules", "N19"], Mode::Rules, false, Some("N19")),
-    ];
-    for (line, mode, audit, file) in lines {
+    for (line, wanted) in PLANS {
         let words = words_of(alloc, line)?;
         match plan(alloc, words.as_slice()) {
-            Ok(invocation) => {
-                let asked = (invocation.mode, invocation.audit, invocation.file);
-                assert_eq!(rt; asked, (mode, audit, file));
-            }
+            Ok(invocation) => assert!(rt; invocation == wanted),
             Err(_) => assert!(rt; false),
         }
     }
     Ok(())
 }
 
+// Lines that are no plan, and whether they are faults.
+const REFUSED: [(&str, bool); 35] = [
+    ("gthost --help", false),
+    ("gthost --version", false),
+    ("gthost -h", false),
+    ("gthost -V", false),
+    ("gthost play --version", true),
+    ("gthost play -h", false),
+    ("gthost policy --help", false),
+    ("gthost policy a.te b.te", true),
+    ("gthost policy --audit", true),
+    ("gthost", true),
+    ("gthost help", true),
+    ("gthost play first.gt second.gt", true),
+    ("gthost play --audit --audit", true),
+    ("gthost play --audit=yes", true),
+    ("gthost -- play", true),
+    ("gthost check --format", true),
+    ("gthost check --format xml", true),
+    ("gthost check --format text --format text", true),
+    ("gthost check --format xml --help", false),
+    ("gthost check --format --help", true),
+    ("gthost check --format -- a.te", true),
+    ("gthost why driver_t guest_t", true),
+    ("gthost why driver_t guest_t copy a.te b.te", true),
+    ("gthost why --help", false),
+    ("gthost entries", true),
+    ("gthost entries --version", true),
+    ("gthost entries --version 3", true),
+    ("gthost entries --version 01", true),
+    ("gthost entries --version 1 --version 2", true),
+    ("gthost entries --version 1 --hex --hex", true),
+    ("gthost entries --version 1 --script self", true),
+    ("gthost entries --version 1 --script 65536", true),
+    ("gthost entries --version 1 --script=-1", true),
+    ("gthost entries --version 1 -V", true),
+    ("gthost entries -h", false),
+];
+
 #[test]
 fn help_is_no_fault(rt: HostRuntime) -> Result<(), Fail> {
     let alloc = rt.alloc();
-    let lines: [(&[&str], bool); 13] = [
-        (&["gthost", "--help"], false),
-        (&["gthost", "--version"], false),
-        (&["gthost", "play", "--version"], true),
-        (&["gthost", "play", "-h"], false),
-        (&["gthost", "policy", "--help"], false),
-        (&["gthost", "policy", "a.te", "b.te"], true),
-        (&["gthost", "policy", "--audit"], true),
-        (&["gthost"], true),
-        (&["gthost", "help"], true),
-        (&["gthost", "play", "first.gt", "second.gt"], true),
-        (&["gthost", "play", "--audit", "--audit"], true),
-        (&["gthost", "play", "--audit=yes"], true),
-        (&["gthost", "--", "play"], true),
-    ];
-    for (line, is_fault) in lines {
+    for (line, is_fault) in REFUSED {
         let words = words_of(alloc, line)?;
         match plan(alloc, words.as_slice()) {
             Ok(_) => assert!(rt; false),

@@ -1,12 +1,20 @@
-use Rattle.std.proofs.Common.{◌≡◌, ℕ, List, Option, Result, sym, subst}
-use Rattle.gt_streams.specs.Streams.{OfInput}
-use Rattle.gt_program.specs.Obeying.{Performs}
-use Rattle.gt_program.specs.declared.failure.Failure.{Failure}
-use Rattle.gt_program.specs.declared.obeying.Work.{Work}
+use Rattle.gt_program.proofs.Obeyed.{for_work}
 use Rattle.gt_program.proofs.obeying.perform.Goals as goal
-
-for_work : (known old new : Option (List ℕ)) (work other : Work) (r : Result (Unit {0}) Failure) → work ≡ other → OfInput known (λ input. Performs other input old new r) → OfInput known (λ input. Performs work input old new r)
-for_work known old new work other r is does = subst (λ (w : Work). OfInput known (λ input. Performs w input old new r)) (sym is) does
 
 pub returns-in-Ok : goal.returns-in-Ok
 returns-in-Ok g c = for_work _ _ _ _ _ _ c.in-Play.is c.in-Ok.ensures.text
+
+pub returns-in-Ok-policy : goal.returns-in-Ok-policy
+returns-in-Ok-policy g c = for_work _ _ _ _ _ _ c.in-List.is c.in-Ok-policy.ensures.text
+
+pub returns-in-Ok-why : goal.returns-in-Ok-why
+returns-in-Ok-why g c = for_work _ _ _ _ _ _ c.in-Why.is c.in-Ok-why.ensures
+
+pub returns-in-Err-why : goal.returns-in-Err-why
+returns-in-Err-why g c = for_work _ _ _ _ _ _ c.in-Why.is c.in-Err-why.ensures
+
+pub returns-in-Ok-entries : goal.returns-in-Ok-entries
+returns-in-Ok-entries g c = for_work _ _ _ _ _ _ c.in-Entries.is c.in-Ok-entries.ensures.text
+
+pub returns-in-Err-entries : goal.returns-in-Err-entries
+returns-in-Err-entries g c = for_work _ _ _ _ _ _ c.in-Entries.is c.in-Err-entries.ensures.text

@@ -1,0 +1,13 @@
+use Rattle.std.proofs.Common.{refl}
+use Rattle.gt_program.proofs.Obeyed.{answered, as_planned, told}
+use Rattle.gt_program.proofs.obeying.follow.Goals as goal
+
+pub returns-in-Why : goal.returns-in-Why
+returns-in-Why g c =
+    as_planned _ _ _ _ _ _ _ c.in-Why.is
+    (answered c.shown_name-in-Why.result.now _ _ _ _ _ _ _ _ c.perform_on-in-Why.result _ c.shown_name-in-Why.ensures (refl, refl, refl) c.perform_on-in-Why.ensures c.report-in-Why.ensures)
+
+pub returns-in-Entries : goal.returns-in-Entries
+returns-in-Entries g c =
+    as_planned _ _ _ _ _ _ _ c.in-Entries.is
+    (told _ _ _ _ _ _ _ _ c.perform_on-in-Entries.result _ (refl, refl, refl, c.domain.ensures) c.perform_on-in-Entries.ensures c.report-in-Entries.ensures)
