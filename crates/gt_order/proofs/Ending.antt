@@ -1,0 +1,340 @@
+-- What the items make of a domain by its own next item: a call begins, goes on, or ends.
+use Rattle.std.proofs.Common.{◌≡◌, ◌≢◌, ℕ, ◌<◌, Bool, true, false, cond, ◌==◌, List, [], ◌∷◌, ◌++◌, Option, Some, None, sym, refl, ap, ◌∙◌, subst, eq-eqb, append_assoc}
+use Rattle.std.proofs.lemmas.List.{map-append}
+use Rattle.std.proofs.lemmas.Option.{none-some}
+use Rattle.gt_types.specs.Config.{IsWithinLimits}
+use Rattle.std.specs.Prelude.{is_none, nat_le, not, ◌||◌}
+use Rattle.gt_types.specs.declared.limits.TheConstants.{MAX_MAPPINGS}
+use Rattle.gt_core.proofs.Words.{END_OF_SERIALS}
+use Rattle.gt_types.specs.Names.{domain_of, resolved}
+use Rattle.gt_types.specs.declared.DomId.{DomId}
+use Rattle.gt_types.specs.declared.TypeId.{TypeId}
+use Rattle.gt_types.specs.declared.perms.Perms.{Perms}
+use Rattle.gt_types.specs.declared.rights.Triple.{Triple}
+use Rattle.gt_types.specs.Denial.{denial_of}
+use Rattle.gt_types.specs.declared.GrantRef.{GrantRef}
+use Rattle.gt_types.specs.declared.denial.Facts.TheVariants.{Policy}
+use Rattle.gt_types.specs.declared.denial.Rule.{Rule}
+use Rattle.gt_types.specs.declared.denial.Rule.TheVariants.{N1, N2, N5, N6, N8}
+use Rattle.gt_types.specs.declared.config.Config.{Config}
+use Rattle.gt_entry.specs.Words.{header_of, header_word}
+use Rattle.gt_handles.specs.Handles.{HandleMap}
+use Rattle.gt_handles.specs.declared.handles.Handle.{Handle}
+use Rattle.gt_words.specs.Conditions.{Board, SeatOf}
+use Rattle.gt_words.specs.History.{History, Layout, Moment, part_of, word_after}
+use Rattle.gt_words.specs.Rule.{header_place, layout_of}
+use Rattle.gt_words.specs.Steps.{StoodWith}
+use Rattle.gt_words.specs.Views.{own_header, own_table}
+use Rattle.gt_words.specs.declared.view.View.{View}
+use Rattle.gt_calls.proofs.Advancing.{opens as starts-open}
+use Rattle.gt_calls.proofs.Saying.{plain-asked, plain-begun}
+use Rattle.gt_calls.specs.Asking.{IsSaid, asked, asked_by, begun_of, bytes_of, given_by, judged_as, plainly_asked}
+use Rattle.gt_calls.specs.Following.{MakesStep as MakesFirst}
+use Rattle.gt_calls.specs.Path.{FitsStep, after_beginning, path, path_of, steps_of}
+use Rattle.gt_calls.specs.Rules.{CallerKnowledge, begun, denied, first, knowledge_of, map_begun, map_dir, refused_when, rights_to_map, rights_to_unmap, unmap_begun, unmap_denied}
+use Rattle.gt_calls.specs.declared.action.Action.TheVariants.{Step as Makes, Done}
+use Rattle.gt_calls.specs.declared.action.Seen.{Seen}
+use Rattle.gt_calls.specs.declared.action.Step.{Step}
+use Rattle.gt_calls.specs.declared.action.Verdict.{Verdict}
+use Rattle.gt_calls.specs.declared.action.Verdict.TheVariants.{Mapped as KeptPin, Refused}
+use Rattle.gt_calls.specs.declared.held.Held.{Held}
+use Rattle.gt_calls.specs.declared.request.Asked.{Asked}
+use Rattle.gt_calls.specs.declared.request.Asked.TheVariants.{Map, Unmap}
+use Rattle.gt_calls.specs.declared.request.Request.{Request}
+use Rattle.gt_core.proofs.Beginning.{plain-unmapped}
+use Rattle.gt_core.proofs.Keeping.{open_call-own}
+use Rattle.gt_core.proofs.Mappings.{mappings-same}
+use Rattle.gt_core.proofs.Steps.Observers.{kept-table, stepped}
+use Rattle.gt_core.proofs.Steps.See.{table-fits}
+use Rattle.gt_core.specs.Effects.{Adds}
+use Rattle.gt_core.specs.GoingOn.{IsReached}
+use Rattle.gt_core.specs.History.{History as Items, Setting, Underway, known_at, maps_answered_at, mappings_at, one_if_mapped, open_call, seen_by, table_at, underway_after, values}
+use Rattle.gt_core.specs.Standing.{MappingsAgree, answer_of, setting_of}
+use Rattle.gt_core.specs.declared.trace.Answer.{Answer}
+use Rattle.gt_core.specs.declared.trace.Answer.TheVariants.{Mapped}
+use Rattle.gt_core.specs.declared.trace.Happened.TheVariants.{Stepped}
+use Rattle.gt_core.specs.declared.trace.Item.{Item}
+use Rattle.gt_live.specs.Domains.{AllowRelation, IsDomainOf, knowledge}
+use Rattle.gt_live.specs.Ending.{IsMap, WaitsForNobody}
+use Rattle.gt_live.specs.Mappings.{Adds as KeepsOneMore, KeepsMappings}
+use Rattle.gt_live.specs.Walks.{shown, shown_by, shown_in}
+use Rattle.gt_live.specs.declared.domain.Domain.{Domain}
+use Rattle.gt_order.proofs.Ends.{KeepsOwn, clean-steps, handles-kept, keeps-own, kept-maps, last-leaves, leaves-known, maps-quiet, stands-open, told-maps}
+use Rattle.gt_order.proofs.Going.{GoesSo, same-way}
+use Rattle.gt_order.proofs.Making.{header-is}
+use Rattle.gt_order.proofs.Resting.{rest-known}
+use Rattle.gt_order.proofs.Stages.{SeatNow}
+use Rattle.gt_order.proofs.Stages.Stage.{Going, Resting}
+use Rattle.gt_order.proofs.Stepping.{state-there}
+use Rattle.gt_order.specs.Agreeing.{Agree, dom_at}
+use Rattle.gt_order.specs.Ordering.{item_of, item_of_beginning, items_by, items_by_outcome, items_of_call, items_of_calls, items_of_steps, step_in, way_of}
+use Rattle.gt_order.specs.Runs.{CallMade, IsAtRest, IsCall, LeavesMappings, domain_after}
+use Rattle.gt_order.specs.Runs.Outcome.{Told, Kept, Starved}
+
+-- what answers a call at its beginning
+
+-- the verdict, if it is one, is a refusal
+abbrev pub Refuses : Option Verdict → Type 0
+Refuses None = Unit {0}
+Refuses (Some (Refused denial)) = Unit {0}
+Refuses (Some verdict) = ⊥
+
+refused-when : (b : Bool) (rule : Rule) → Refuses (refused_when b rule)
+refused-when true rule = tt
+refused-when false rule = tt
+
+denied-refuses : (may : TypeId → TypeId → Perms → Bool) (ts : List Triple) → Refuses (denied may ts)
+denied-refuses may [] = tt
+denied-refuses may (t ∷ ts) = by (may t.source t.target t.perm) (denied-refuses may ts)
+  where
+    by : (z : Bool) → Refuses (denied may ts) → Refuses (cond z (denied may ts) (Some (Refused (denial_of N5 (Policy t.source t.target t.perm)))))
+    by true r = r
+    by false r = tt
+
+first-of : (a b : Option Verdict) (more : List (Option Verdict)) → Refuses a → Refuses (first (b ∷ more)) → Refuses (first (a ∷ b ∷ more))
+first-of None b more r q = q
+first-of (Some (Refused denial)) b more r q = tt
+first-of (Some verdict) b more r q = absurd r
+
+last-of-all : (a : Option Verdict) → Refuses a → Refuses (first (a ∷ []))
+last-of-all None r = tt
+last-of-all (Some (Refused denial)) r = tt
+last-of-all (Some verdict) r = absurd r
+
+unmap-refuses : (k : CallerKnowledge) (d : DomId) (handle : Handle) → Refuses (unmap_begun k d handle)
+unmap-refuses k d handle = first-of (refused_when (is_none (k.mapping handle)) N6) (unmap_denied k d (k.mapping handle)) [] (refused-when (is_none (k.mapping handle)) N6) (last-of-all (unmap_denied k d (k.mapping handle)) (by (k.mapping handle)))
+  where
+    by : (o : Option Held) → Refuses (unmap_denied k d o)
+    by None = tt
+    by (Some m) = denied-refuses k.may (rights_to_unmap k d m.dom)
+
+map-list : (a b e : Bool) (o : Option Verdict) → Refuses o → Refuses (first (refused_when a N1 ∷ refused_when b N2 ∷ o ∷ refused_when e N8 ∷ []))
+map-list a b e o r = first-of (refused_when a N1) (refused_when b N2) (o ∷ refused_when e N8 ∷ []) (refused-when a N1)
+    (first-of (refused_when b N2) o (refused_when e N8 ∷ []) (refused-when b N2) (first-of o (refused_when e N8) [] r (last-of-all (refused_when e N8) (refused-when e N8))))
+
+map-refuses : (k : CallerKnowledge) (d dom : DomId) (flags : ℕ) → Refuses (map_begun k d dom flags)
+map-refuses k d dom flags = map-list (is_none (domain_of k.domains (resolved d dom))) (not ((flags == 2) || (flags == 6))) (nat_le MAX_MAPPINGS k.in_use || nat_le END_OF_SERIALS k.maps_answered)
+    (denied k.may (rights_to_map k d (resolved d dom) (map_dir flags))) (denied-refuses k.may (rights_to_map k d (resolved d dom) (map_dir flags)))
+
+-- by what a request asks
+abbrev pub RefusesOnly : Asked → Option Verdict → Type 0
+RefusesOnly (Unmap handle) o = Refuses o
+RefusesOnly (Map dom gref flags) o = Refuses o
+RefusesOnly request o = Unit {0}
+
+begun-refuses : (k : CallerKnowledge) (d : DomId) (r : Asked) → RefusesOnly r (begun k d r)
+begun-refuses k d (Unmap handle) = unmap-refuses k d handle
+begun-refuses k d (Map dom gref flags) = map-refuses k d dom flags
+begun-refuses k d r = tt
+
+pub asked-refuses : (k : CallerKnowledge) (d : DomId) (request : Request) → RefusesOnly (asked request) (begun_of k d request)
+asked-refuses k d request = by (bytes_of request) refl
+  where
+    by : (o : Option (GrantRef × List ℕ)) → bytes_of request ≡ o → RefusesOnly (asked request) (begun_of k d request)
+    by None e = subst (λ (z : Option Verdict). RefusesOnly (asked request) z) (sym (plain-begun k d request e))
+        (subst (λ (z : Asked). RefusesOnly z (begun k d (plainly_asked request))) (plain-asked k.header request e).0 (begun-refuses k d (plainly_asked request)))
+    by (Some bs) e = subst (λ (z : Asked). RefusesOnly z (begun_of k d request)) (sym (ap (asked_by request) e)) tt
+
+-- a call that no rule answers makes a step
+first-step : (k : CallerKnowledge) (d : DomId) (request : Request) (v : Verdict) → begun_of k d request ≡ None → (begun_of k d request ≡ None → IsSaid k.header request) → path_of k d request [] ≡ Some (Done v) → ⊥
+first-step k d request v none said e =
+    let starts = starts-open k d request (asked request) said (sym (ap (judged_as (asked request)) none)) in
+    let f : path k d (asked request) [] ≡ Some (Done v) = same-way k d request none said [] ∙ e in
+    subst MakesFirst f starts.6
+
+-- so a call without a step was answered at its beginning
+pub answered-at-once : (k : CallerKnowledge) (d : DomId) (request : Request) (v : Verdict) → (begun_of k d request ≡ None → IsSaid k.header request) → path_of k d request [] ≡ Some (Done v) → begun_of k d request ≡ Some v
+answered-at-once k d request v said e = by (begun_of k d request) refl
+  where
+    by : (o : Option Verdict) → begun_of k d request ≡ o → begun_of k d request ≡ Some v
+    by None f = absurd (first-step k d request v f said e)
+    by (Some u) f =
+        let g : Some (Done u) ≡ Some (Done v) = sym (ap (λ (o : Option Verdict). after_beginning o (steps_of k d (asked request)) []) f) ∙ e in
+        let same : u ≡ v = cc in f ∙ ap (λ (z : Verdict). Some z) same
+
+pub keeps-at-once : (request : Asked) (v : Verdict) (old new : HandleMap Held) → RefusesOnly request (Some v) → LeavesMappings request v old new → KeepsMappings old new
+keeps-at-once (Unmap handle) (Refused denial) old new r l = l
+keeps-at-once (Unmap handle) v old new r l = absurd r
+keeps-at-once request v old new r l = l
+
+pub no-pin-at-once : (request : Asked) (p : Held) → IsMap request → RefusesOnly request (Some (KeptPin p)) → ⊥
+no-pin-at-once (Map dom gref flags) p m r = r
+no-pin-at-once request p m r = absurd m
+
+module _ (b : Board) (c : Config) (may : AllowRelation) (limits : IsWithinLimits c) (is : b.layout ≡ layout_of c) (i : ℕ) (inside : i < b.layout.domains) (first : Domain) (named : domain_of c.domains.items (dom_at b.layout i) ≢ None) where
+  abbrev k : Layout
+  k = b.layout
+
+  abbrev s : Setting
+  s = setting_of c may
+
+  abbrev d : DomId
+  d = dom_at k i
+
+  own-items : (item : Item) (g : Items) → item.actor ≡ d → items_by d (item ∷ g) ≡ item ∷ items_by d g
+  own-items item g e = ap (λ (z : Bool). cond z (item ∷ items_by d g) (items_by d g)) (eq-eqb item.actor.0 d.0 (ap (λ (z : DomId). z.0) e))
+
+  -- two states of a domain that differ in its records alone
+  pub known-alike : (D E : Domain) → IsAtRest D E → knowledge c may E ≡ knowledge c may D
+  known-alike D E r = λ j. knowledge_of c.domains.items c.first_gen may (r.own j).items (own_table (r.seat j).view) (r.mappings j)
+
+  -- the step goes on
+  pub going-on : (g : Items) (ms : List CallMade) (m : CallMade) (xs : List Moment) (x : Moment) (v w : View) (call : IsCall b c may m) (seat : SeatNow c may g d first (Going ms m xs))
+      → (r : GoesSo c may k g i seat.call.0 (shown xs) (way_of c may m) x v w None) → SeatNow c may (stepped d r.step (shown_in x.1) None ∷ g) d first (Going ms m (x ∷ xs))
+  going-on g ms m xs x v w call seat r = record {
+    items = own-items item g refl ∙ (λ j. same j ∷ seat.items j);
+    maps = mappings-same m.old.mappings _ _ _ _ (sym keeps.mappings) (sym keeps.answered) seat.maps;
+    known = keeps.known ∙ seat.known;
+    call = (then, open-then, seat.call.2, map-append (λ (p : Step × Seen). p.1) cl.steps ((r.step, shown_in x.1) ∷ []) ∙ ap (λ (z : List Seen). z ++ shown_by x ∷ []) seat.call.3);
+  }
+    where
+      cl : Underway
+      cl = seat.call.0
+
+      item : Item
+      item = stepped d r.step (shown_in x.1) None
+
+      then : Underway
+      then = record { request = cl.request; given = cl.given; steps = cl.steps ++ (r.step, shown_in x.1) ∷ [] }
+
+      open-then : open_call (item ∷ g) d.0 ≡ Some then
+      open-then = open_call-own item g ∙ ap (underway_after item) seat.call.1
+
+      keeps : KeepsOwn s g d item
+      keeps = let o = stands-open s (item ∷ g) d then r.reached named open-then in
+          leaves-known s g d r.step (shown_in x.1) (last-leaves cl.steps (r.step, shown_in x.1) (clean-steps s (item ∷ g) d then o.0 o.1 (subst WaitsForNobody (sym seat.call.2) call.waits)))
+
+      same : item ≡ item_of d (way_of c may m) (shown xs) x None
+      same = λ j. record { actor = d; happened = Stepped (step_in (sym r.next j)) (shown_by x); answer = None }
+
+  -- what a domain knows after its call's last step
+
+  ends-known : (g : Items) (m : CallMade) (x : Moment) (v w : View) (item : Item) → IsCall b c may m → IsReached s (item ∷ g) → Agree s k (item ∷ g) ((i, x.1) ∷ x.0) → StoodWith (Unit {0}) k ((v.position, x.1) ∷ x.0) w → v.position ≡ i → w.position ≡ i → m.new.seat.view ≡ w
+      → m.new.seat.view.steps ≡ part_of i ((i, x.1) ∷ x.0) → MappingsAgree m.new.mappings (mappings_at (item ∷ g) d.0) (maps_answered_at (item ∷ g) d.0) → known_at s (item ∷ g) d ≡ knowledge c may m.new
+  ends-known g m x v w item call reached agree stands at-v at-w view steps maps =
+      let st : StoodWith (Unit {0}) k ((i, x.1) ∷ x.0) w = subst (λ (n : ℕ). StoodWith (Unit {0}) k ((n, x.1) ∷ x.0) w) at-v stands in
+      let seats = st.1.seats w.position w st.2 in
+      let first-is : m.new.seat.view.first ≡ k.first = ap (λ (z : View). z.first) view ∙ seats.1 in
+      let at : m.new.seat.view.position ≡ i = ap (λ (z : View). z.position) view ∙ at-w in
+      let t = state-there s (item ∷ g) reached.0.domains d reached.1.domains named in
+      let below : w.position < k.domains = subst (λ (n : ℕ). n < k.domains) (sym at-w) inside in
+      let word : header_word (table_at s (item ∷ g) d) ≡ own_header w = agree.headers i inside ∙ (ap (λ (n : ℕ). word_after k ((i, x.1) ∷ x.0) (header_place n)) (sym at-w) ∙ header-is k ((i, x.1) ∷ x.0) w st below) in
+      let head : table_at s (item ∷ g) d ≡ own_table m.new.seat.view = sym (table-fits _ (reached.1.domains.tables d)).1 ∙ (ap header_of word ∙ ap (λ (z : View). own_table z) (sym view)) in
+      rest-known b c may k (item ∷ g) ((i, x.1) ∷ x.0) i m.new agree inside call.afterwards at first-is steps t.0 t.3 t.2 head maps
+
+  closed : (g : Items) (item : Item) (answer : Answer) → item.actor ≡ d → item.answer ≡ Some answer → open_call (item ∷ g) d.0 ≡ None
+  closed g item answer own e = ap (λ (z : DomId). open_call (item ∷ g) z.0) (sym own) ∙ (open_call-own item g ∙ by item.answer e)
+    where
+      by : (a : Option Answer) → a ≡ Some answer → underway_after (record item { answer = a }) (open_call g item.actor.0) ≡ None
+      by None f = absurd (none-some answer f)
+      by (Some y) f = refl
+
+  -- its items with those of the call
+
+  one-call : (ms : List CallMade) (m : CallMade) (xs : List Moment) (x : Moment) (a : Option Answer) (rest : List Item)
+      → item_of d (way_of c may m) (shown xs) x a ∷ (items_of_steps d (way_of c may m) None xs ++ item_of_beginning d m.request None ∷ rest) ≡ items_of_call d (way_of c may m) m.request a (x ∷ xs) ++ rest
+  one-call ms m xs x a rest = ap (λ (z : List Item). item_of d (way_of c may m) (shown xs) x a ∷ z) (sym (append_assoc (items_of_steps d (way_of c may m) None xs) (item_of_beginning d m.request None ∷ []) rest))
+
+  item-same : (m : CallMade) (xs : List Moment) (x : Moment) (step : Step) (a : Option Answer) → way_of c may m (shown xs) ≡ Some (Makes step) → stepped d step (shown_in x.1) a ≡ item_of d (way_of c may m) (shown xs) x a
+  item-same m xs x step a e = λ j. record { actor = d; happened = Stepped (step_in (sym e j)) (shown_by x); answer = a }
+
+  -- the step ends the call
+
+  pub ends-told : (g : Items) (ms : List CallMade) (m : CallMade) (xs : List Moment) (x : Moment) (v w : View) (verdict : Verdict) (call : IsCall b c may m) (seat : SeatNow c may g d first (Going ms m xs))
+      → (r : GoesSo c may k g i seat.call.0 (shown xs) (way_of c may m) x v w (Some (answer_of verdict))) → m.steps ≡ x ∷ xs → m.outcome ≡ Told verdict → LeavesMappings (asked m.request) verdict m.old.mappings m.new.mappings
+      → v.position ≡ i → w.position ≡ i → m.new.seat.view ≡ w → m.new.seat.view.steps ≡ part_of i ((i, x.1) ∷ x.0) → SeatNow c may (stepped d r.step (shown_in x.1) (Some (answer_of verdict)) ∷ g) d first (Resting (m ∷ ms))
+  ends-told g ms m xs x v w verdict call seat r made out leaves at-v at-w view steps = record {
+    items = own-items item g refl ∙ ((λ j. item-same m xs x r.step (Some (answer_of verdict)) r.next j ∷ seat.items j) ∙ (one-call ms m xs x (Some (answer_of verdict)) (items_of_calls c may d ms)
+        ∙ (λ j. items_by_outcome d (way_of c may m) m.request (sym out j) (sym made j) ++ items_of_calls c may d ms)));
+    maps = maps;
+    known = ends-known g m x v w item call r.reached r.agree r.stands at-v at-w view steps maps;
+    call = closed g item (answer_of verdict) refl refl;
+  }
+    where
+      cl : Underway
+      cl = seat.call.0
+
+      item : Item
+      item = stepped d r.step (shown_in x.1) (Some (answer_of verdict))
+
+      maps : MappingsAgree m.new.mappings (mappings_at (item ∷ g) d.0) (maps_answered_at (item ∷ g) d.0)
+      maps = told-maps s g d cl (values cl) (shown_in x.1) verdict m.old.mappings m.new.mappings (subst WaitsForNobody (sym seat.call.2) call.waits) seat.call.1 seat.maps
+          (subst (λ (z : Asked). LeavesMappings z verdict m.old.mappings m.new.mappings) (sym seat.call.2) leaves) r.here.core.domains r.here.phase r.step r.here.here r.quiet r.on_path r.right
+
+  pub core-adds : (old new : HandleMap Held) (handle : Handle) (p : Held) → KeepsOneMore old new handle p → Adds old new handle p
+  core-adds old new handle p a = record { serial = a.serial; fresh = a.inserted.fresh; given = a.inserted.given; updates = a.inserted.updates; count = a.inserted.count }
+
+  pub ends-kept : (g : Items) (ms : List CallMade) (m : CallMade) (xs : List Moment) (x : Moment) (v w : View) (handle : Handle) (p : Held) (call : IsCall b c may m) (seat : SeatNow c may g d first (Going ms m xs))
+      → (r : GoesSo c may k g i seat.call.0 (shown xs) (way_of c may m) x v w (Some (Mapped handle))) → path (known_at s g d) d seat.call.0.request (values seat.call.0 ++ seen_by s g d r.step ∷ []) ≡ Some (Done (KeptPin p)) → m.steps ≡ x ∷ xs → m.outcome ≡ Kept handle p
+      → KeepsOneMore m.old.mappings m.new.mappings handle p
+      → v.position ≡ i → w.position ≡ i → m.new.seat.view ≡ w → m.new.seat.view.steps ≡ part_of i ((i, x.1) ∷ x.0) → SeatNow c may (stepped d r.step (shown_in x.1) (Some (Mapped handle)) ∷ g) d first (Resting (m ∷ ms))
+  ends-kept g ms m xs x v w handle p call seat r last made out adds at-v at-w view steps = record {
+    items = own-items item g refl ∙ ((λ j. item-same m xs x r.step (Some (Mapped handle)) r.next j ∷ seat.items j) ∙ (one-call ms m xs x (Some (Mapped handle)) (items_of_calls c may d ms)
+        ∙ (λ j. items_by_outcome d (way_of c may m) m.request (sym out j) (sym made j) ++ items_of_calls c may d ms)));
+    maps = maps;
+    known = ends-known g m x v w item call r.reached r.agree r.stands at-v at-w view steps maps;
+    call = closed g item (Mapped handle) refl refl;
+  }
+    where
+      cl : Underway
+      cl = seat.call.0
+
+      item : Item
+      item = stepped d r.step (shown_in x.1) (Some (Mapped handle))
+
+      maps : MappingsAgree m.new.mappings (mappings_at (item ∷ g) d.0) (maps_answered_at (item ∷ g) d.0)
+      maps = subst (λ (z : Seen). let it = stepped d r.step z (Some (Mapped handle)) in MappingsAgree m.new.mappings (mappings_at (it ∷ g) d.0) (maps_answered_at (it ∷ g) d.0)) r.sees
+          (kept-maps s g d cl r.step p handle m.old.mappings m.new.mappings r.here (subst (FitsStep r.step) (sym r.sees) r.fits) r.on_path last (core-adds m.old.mappings m.new.mappings handle p adds) seat.maps)
+
+  -- a beginning
+
+  began-keeps : (g : Items) (request : Request) (a : Option Answer) → one_if_mapped a ≡ 0 → KeepsOwn s g d (item_of_beginning d request a)
+  began-keeps g request a e = keeps-own s g d (item_of_beginning d request a) (λ r. refl) refl e (maps-quiet g d _ (record { changes = λ z. refl; pins = λ before ps. refl; unpins = λ ps. refl }))
+
+  pub begins : (g : Items) (ms : List CallMade) (m : CallMade) → IsAtRest (domain_after first ms) m.old → SeatNow c may g d first (Resting ms) → SeatNow c may (item_of_beginning d m.request None ∷ g) d first (Going ms m [])
+  begins g ms m rest seat =
+      let keeps = began-keeps g m.request None refl in record {
+        items = own-items (item_of_beginning d m.request None) g refl ∙ ap (λ (z : List Item). item_of_beginning d m.request None ∷ z) seat.items;
+        maps = subst (λ (z : HandleMap Held). MappingsAgree z (mappings_at (item_of_beginning d m.request None ∷ g) d.0) (maps_answered_at (item_of_beginning d m.request None ∷ g) d.0)) (sym rest.mappings)
+            (mappings-same _ _ _ _ _ (sym keeps.mappings) (sym keeps.answered) seat.maps);
+        known = keeps.known ∙ (seat.known ∙ sym (known-alike (domain_after first ms) m.old rest));
+        call = (record { request = asked m.request; given = given_by m.request; steps = [] }, open_call-own (item_of_beginning d m.request None) g, refl, refl);
+      }
+
+  -- a call without a step
+
+  -- what the domain knows after it, where it has the view that it had
+  stays-known : (g new : Items) (h : History) (D E : Domain) → IsReached s new → Agree s k new h → IsDomainOf b c may E → E.seat.view ≡ D.seat.view → D.seat.view.position ≡ i → D.seat.view.first ≡ k.first → D.seat.view.steps ≡ part_of i h
+      → known_at s g d ≡ knowledge c may D → table_at s new d ≡ table_at s g d → MappingsAgree E.mappings (mappings_at new d.0) (maps_answered_at new d.0) → known_at s new d ≡ knowledge c may E
+  stays-known g new h D E reached agree of-run view at first-is steps known table maps =
+      let t = state-there s new reached.0.domains d reached.1.domains named in
+      rest-known b c may k new h i E agree inside of-run (ap (λ (z : View). z.position) view ∙ at) (ap (λ (z : View). z.first) view ∙ first-is) (ap (λ (z : View). z.steps) view ∙ steps) t.0 t.3 t.2
+      (table ∙ (ap (λ (z : CallerKnowledge). z.header) known ∙ ap (λ (z : View). own_table z) (sym view))) maps
+
+  -- it was refused for want of memory, and is no item
+  pub starves : (g : Items) (h : History) (ms : List CallMade) (m : CallMade) → IsReached s g → Agree s k g h → IsCall b c may m → IsAtRest (domain_after first ms) m.old → m.outcome ≡ Starved → m.new.seat.view ≡ m.old.seat.view → KeepsMappings m.old.mappings m.new.mappings
+      → (domain_after first ms).seat.view.position ≡ i → (domain_after first ms).seat.view.first ≡ k.first → (domain_after first ms).seat.view.steps ≡ part_of i h → SeatNow c may g d first (Resting ms) → SeatNow c may g d first (Resting (m ∷ ms))
+  starves g h ms m reached agree call rest out view keeps at first-is steps seat =
+      let D = domain_after first ms in
+      let maps = handles-kept m.old.mappings m.new.mappings _ _ keeps (subst (λ (z : HandleMap Held). MappingsAgree z (mappings_at g d.0) (maps_answered_at g d.0)) (sym rest.mappings) seat.maps) in record {
+        items = seat.items ∙ (λ j. items_by_outcome d (way_of c may m) m.request (sym out j) m.steps ++ items_of_calls c may d ms);
+        maps = maps;
+        known = stays-known g g h D m.new reached agree call.afterwards (view ∙ ap (λ (z : SeatOf). z.view) rest.seat) at first-is steps seat.known refl maps;
+        call = seat.call;
+      }
+
+  -- it was answered at its beginning
+  pub answers : (g : Items) (h : History) (ms : List CallMade) (m : CallMade) (verdict : Verdict) → IsReached s (item_of_beginning d m.request (Some (answer_of verdict)) ∷ g) → Agree s k (item_of_beginning d m.request (Some (answer_of verdict)) ∷ g) h
+      → IsCall b c may m → IsAtRest (domain_after first ms) m.old → m.outcome ≡ Told verdict → m.steps ≡ [] → m.new.seat.view ≡ m.old.seat.view → KeepsMappings m.old.mappings m.new.mappings
+      → (domain_after first ms).seat.view.position ≡ i → (domain_after first ms).seat.view.first ≡ k.first → (domain_after first ms).seat.view.steps ≡ part_of i h → SeatNow c may g d first (Resting ms)
+      → SeatNow c may (item_of_beginning d m.request (Some (answer_of verdict)) ∷ g) d first (Resting (m ∷ ms))
+  answers g h ms m verdict reached agree call rest out none view keeps at first-is steps seat =
+      let D = domain_after first ms in let item = item_of_beginning d m.request (Some (answer_of verdict)) in
+      let own = began-keeps g m.request (Some (answer_of verdict)) (plain-unmapped verdict) in
+      let maps = handles-kept m.old.mappings m.new.mappings _ _ keeps (subst (λ (z : HandleMap Held). MappingsAgree z (mappings_at (item ∷ g) d.0) (maps_answered_at (item ∷ g) d.0)) (sym rest.mappings)
+      (mappings-same _ _ _ _ _ (sym own.mappings) (sym own.answered) seat.maps)) in record {
+        items = own-items item g refl ∙ (ap (λ (z : List Item). item ∷ z) seat.items ∙ (λ j. items_by_outcome d (way_of c may m) m.request (sym out j) (sym none j) ++ items_of_calls c may d ms));
+        maps = maps;
+        known = stays-known g (item ∷ g) h D m.new reached agree call.afterwards (view ∙ ap (λ (z : SeatOf). z.view) rest.seat) at first-is steps seat.known (kept-table s item g d refl) maps;
+        call = closed g item (answer_of verdict) refl refl;
+      }

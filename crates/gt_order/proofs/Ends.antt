@@ -1,0 +1,255 @@
+-- What a domain knows after a step of its call: the same where the call goes on, and where it ends the mappings that the
+-- domain then has.
+use Rattle.std.proofs.Common.{zero, suc, slice_index_or, slice_set, is_some, count_by}
+use Rattle.std.proofs.lemmas.List.Elements.{All-pop}
+use Rattle.std.proofs.lemmas.List.Sums.{sum_by-cons}
+use Rattle.gt_core.proofs.Words.{◌≡◌, ◌≢◌, ◌+◌, inl, inr, ℕ, refl, Bool, true, false, cond, ◌==◌, List, [], ◌∷◌, ◌++◌, Option, Some, None, sym, ap, ◌∙◌, subst, reverse, same_Some, none-some, arith, eqb-true, fun_ext, All, DomId, domain_of, Held, Handle, HandleMap, ByMapping, ByLeg, value_of, count_of, Asked, Unmap, Seen, Nothing, Word, Taken, Missed, Step, LookHeader, LookControl, LookBody, PinStep, Unpin, StoreBody, StoreHeader, Exchange, ReadBytes, WriteBytes, CopyBytes, Verdict, Granted, Given, KeptPin, Refused, Makes, Done, Phase, Ending, path, known_at, action_at, Setting, Underway, values, open_call, CallAgrees, IsClean, IsRight, StepsRightIn, LeavesAll, Rests, pins_at, PhaseStands, next_to_give, mapping_of, mappings_at, maps_answered_at, MappingsAgree, one_if_mapped, header_stored, change_at, taken, gather, by_mapping, seen_by, word_at, answer_of, FitsStep, Slot, after_beginning, same_handle, Denial, holder_after, FitsNext, eq-eqb, State}
+use Rattle.gt_calls.specs.declared.action.Value.TheVariants.{Frames, Size as SizeTold, Version as VersionTold}
+use Rattle.gt_calls.specs.declared.action.Action.{Action}
+use Rattle.gt_calls.specs.Rules.{begun}
+use Rattle.gt_calls.specs.Path.{by_mapping as by_handle}
+use Rattle.gt_calls.proofs.Advancing.{leads-here, stands-on}
+use Rattle.gt_core.proofs.Beginning.{plain-unmapped}
+use Rattle.gt_core.proofs.Mappings.{mappings-same}
+use Rattle.gt_core.proofs.Phases.{IsHere, next_of}
+use Rattle.gt_core.proofs.Steps.Observers.{answered-stays, exchanged-live, kept-entry, kept-raises, kept-table, known-as, pins, stepped}
+use Rattle.gt_core.proofs.Steps.Pin.{can-pin, leg-maps, map-agrees}
+use Rattle.gt_core.proofs.Steps.Unpin.{leg-mappings, mapping-agrees}
+use Rattle.gt_core.proofs.Values.{MapEnds, call-ends}
+use Rattle.gt_core.specs.Effects.{Adds}
+use Rattle.gt_core.specs.GoingOn.{IsOnWords, IsReached}
+use Rattle.gt_core.specs.History.{History as Items}
+use Rattle.gt_core.specs.declared.trace.Answer.TheVariants.{Denied, Mapped}
+use Rattle.gt_core.specs.declared.trace.Item.{Item}
+use Rattle.gt_handles.specs.Handles.{under}
+use Rattle.gt_live.specs.Ending.{WaitsForNobody}
+use Rattle.gt_live.specs.Mappings.{KeepsMappings, Removes}
+use Rattle.gt_order.proofs.Kept.{KeepsWords, live-kept}
+use Rattle.gt_order.proofs.Stepping.{StandsHere, no-leg, open-there, state-there}
+use Rattle.gt_order.specs.Runs.{LeavesMappings}
+
+-- where the core stands at an open call
+
+pub stands-open : (s : Setting) (g : Items) (d : DomId) (c : Underway) → IsReached s g → domain_of s.domains d ≢ None → open_call g d.0 ≡ Some c → (step : Step) × StandsHere s g d c step
+stands-open s g d c (core, st) named call =
+    let t = state-there s g core.domains d st.domains named in
+    let o = open-there s g d t.0.underway (open_call g d.0) c (subst (λ (z : DomId). CallAgrees s g z t.0.underway (open_call g z.0)) t.2 t.3.call) call in (
+      o.0.step,
+      record {
+        core = core;
+        st = st;
+        phase = o.1.phase;
+        here = record {
+          legal = st.legal;
+          st = st.domains;
+          own = λ e. none-some t.0 (sym e ∙ t.1);
+          at = o.1.at;
+          acts = o.1.acts;
+          place = o.1.place;
+          held = o.1.held;
+          rests = o.1.rests;
+          fits = o.1.fits;
+        };
+        clean = o.1.clean;
+      },
+    )
+
+-- an open call without accesses has left all as it was
+pub clean-steps : (s : Setting) (g : Items) (d : DomId) (c : Underway) (step : Step) → StandsHere s g d c step → WaitsForNobody c.request → All LeavesAll c.steps
+clean-steps s g d c step here waits = by here.phase here.here.acts here.here.place here.clean
+  where
+    by : (p : Phase) → action_at d p ≡ Makes step → PhaseStands s g d c.request (reverse c.steps) p → IsClean p c.steps → All LeavesAll c.steps
+    by (Ending pins verdict) e (inl none) a = let f : Done verdict ≡ Makes step = sym (ap (λ (l : List Held). next_to_give l verdict) none) ∙ e in absurd (cc)
+    by (Ending pins verdict) e (inr copy) a = absurd (subst WaitsForNobody copy.1 waits)
+    by p e b a = a
+
+pub last-leaves : (xs : List (Step × Seen)) (x : Step × Seen) → All LeavesAll (xs ++ x ∷ []) → LeavesAll x
+last-leaves xs x a = (All-pop LeavesAll (xs ++ x ∷ []) xs (Some x) refl a).1
+
+-- what stays of what a domain knows, after an item of its own
+
+pub record KeepsOwn (s : Setting) (g : Items) (d : DomId) (item : Item) : Type 0 where
+  pub known : known_at s (item ∷ g) d ≡ known_at s g d
+  pub mappings : mappings_at (item ∷ g) d.0 ≡ mappings_at g d.0
+  pub answered : maps_answered_at (item ∷ g) d.0 ≡ maps_answered_at g d.0
+
+pub keeps-own : (s : Setting) (g : Items) (d : DomId) (item : Item) → ((r : ℕ) → change_at item.happened r ≡ None) → header_stored item.happened ≡ None → one_if_mapped item.answer ≡ 0 → mappings_at (item ∷ g) d.0 ≡ mappings_at g d.0 → KeepsOwn s g d item
+keeps-own s g d item changes head maps same = let n = answered-stays g item d.0 maps in record {
+  known = known-as s g (item ∷ g) d (λ r. kept-entry item g d.0 r changes) (λ r. kept-raises item g d.0 r changes) (kept-table s item g d head) same n;
+  mappings = same;
+  answered = n;
+}
+
+pub maps-quiet : (g : Items) (d : DomId) (item : Item) → KeepsWords item → mappings_at (item ∷ g) d.0 ≡ mappings_at g d.0
+maps-quiet g d item q = ap (gather by_mapping d.0) (live-kept item g q)
+
+-- a step that leaves all as it is, of a call that goes on
+pub leaves-known : (s : Setting) (g : Items) (d : DomId) (step : Step) (seen : Seen) → LeavesAll (step, seen) → KeepsOwn s g d (stepped d step seen None)
+leaves-known s g d (LookHeader dom) seen l = keeps-own s g d _ (λ r. refl) refl refl (maps-quiet g d _ (record { changes = λ z. refl; pins = λ before ps. refl; unpins = λ ps. refl }))
+leaves-known s g d (LookControl dom gref) seen l = keeps-own s g d _ (λ r. refl) refl refl (maps-quiet g d _ (record { changes = λ z. refl; pins = λ before ps. refl; unpins = λ ps. refl }))
+leaves-known s g d (LookBody dom gref half) seen l = keeps-own s g d _ (λ r. refl) refl refl (maps-quiet g d _ (record { changes = λ z. refl; pins = λ before ps. refl; unpins = λ ps. refl }))
+leaves-known s g d (PinStep p) Taken l = keeps-own s g d _ (λ r. refl) refl refl (leg-maps g d p None refl)
+leaves-known s g d (PinStep p) seen l = keeps-own s g d _ (λ r. refl) refl refl (maps-quiet g d _ (record { changes = λ z. refl; pins = λ before ps. refl; unpins = λ ps. refl }))
+leaves-known s g d (Unpin p (ByMapping handle)) seen l = absurd l
+leaves-known s g d (Unpin p (ByLeg n)) seen l = keeps-own s g d _ (λ r. refl) refl refl (leg-mappings g d p n seen None)
+leaves-known s g d (StoreBody gref half word) seen l = keeps-own s g d _ (λ r. refl) refl refl (maps-quiet g d _ (record { changes = λ z. refl; pins = λ before ps. refl; unpins = λ ps. refl }))
+leaves-known s g d (StoreHeader version frames) seen l = absurd l
+leaves-known s g d (Exchange gref looked change) Taken l = absurd l
+leaves-known s g d (Exchange gref looked change) seen l = keeps-own s g d _ (λ r. refl) refl refl (maps-quiet g d _ (record { changes = λ z. refl; pins = λ before ps. refl; unpins = λ ps. refl }))
+leaves-known s g d (ReadBytes dom frame off len) seen l = keeps-own s g d _ (λ r. refl) refl refl (maps-quiet g d _ (record { changes = λ z. refl; pins = λ before ps. refl; unpins = λ ps. refl }))
+leaves-known s g d (WriteBytes dom frame off len) seen l = absurd l
+leaves-known s g d (CopyBytes from to len) seen l = absurd l
+
+-- the handles after a call
+
+-- they are kept
+pub handles-kept : (old new : HandleMap Held) (ms : List (Handle × Held)) (n : ℕ) → KeepsMappings old new → MappingsAgree old ms n → MappingsAgree new ms n
+handles-kept old new ms n keeps a = record {
+  named = fun_ext (λ handle. ap (λ (slots : List (Option (Slot Held))). under handle.serial (slice_index_or slots handle.key None)) keeps.slots ∙ ap (λ (f : Handle → Option Held). f handle) a.named);
+  count = ap (count_by is_some) keeps.slots ∙ a.count;
+  given = keeps.given ∙ a.given;
+  apart = a.apart;
+}
+
+-- one is given up
+
+set-none : (slots : List (Option (Slot Held))) (key at : ℕ) → slice_index_or (slice_set slots key None) at None ≡ cond (at == key) None (slice_index_or slots at None)
+set-none [] key at = grind arith
+set-none (x ∷ xs) zero zero = refl
+set-none (x ∷ xs) zero (suc at) = grind arith
+set-none (x ∷ xs) (suc key) zero = grind arith
+set-none (x ∷ xs) (suc key) (suc at) = grind (arith, set-none xs key at)
+
+taken-of : (kept : HandleMap Held) (handle other : Handle) (m : Held) → value_of kept handle ≡ Some m → value_of (taken handle kept) other ≡ cond (same_handle other handle) None (value_of kept other)
+taken-of kept handle other m has = grind (arith, set-none, eqb-true)
+
+count-set : (slots : List (Option (Slot Held))) (key : ℕ) (slot : Slot Held) → slice_index_or slots key None ≡ Some slot → count_by is_some (slice_set slots key None) + 1 ≡ count_by is_some slots
+count-set (Some x ∷ os) zero slot e =
+    omega (arith, sum_by-cons (λ (o : Option (Slot Held)). cond (is_some o) 1 0) (Some x) os, sum_by-cons (λ (o : Option (Slot Held)). cond (is_some o) 1 0) None os)
+count-set (o ∷ os) (suc key) slot e =
+    omega (arith, count-set os key slot e, sum_by-cons (λ (o : Option (Slot Held)). cond (is_some o) 1 0) o os, sum_by-cons (λ (o : Option (Slot Held)). cond (is_some o) 1 0) o (slice_set os key None))
+count-set slots key slot e = absurd (none-some slot e)
+
+count-taken : (kept : HandleMap Held) (handle : Handle) (m : Held) → value_of kept handle ≡ Some m → count_of (taken handle kept) + 1 ≡ count_of kept
+count-taken kept handle m has = grind (arith, count-set)
+
+given-taken : (kept : HandleMap Held) (handle : Handle) → (taken handle kept).given ≡ kept.given
+given-taken kept handle = by (is_some (value_of kept handle)) where
+  by : (b : Bool) → (cond b (record kept { slots = slice_set kept.slots handle.key None }) kept).given ≡ kept.given
+  by true = refl
+  by false = refl
+
+handles-less : (old new : HandleMap Held) (handle : Handle) (p q : Held) (ms : List (Handle × Held)) (n : ℕ) → Removes old new handle q → value_of old handle ≡ Some p → MappingsAgree (taken handle old) ms n → MappingsAgree new ms n
+handles-less old new handle p q ms n removes has a = let t = removes.taken in record {
+  named = fun_ext (λ other. t.updates other ∙ (sym (taken-of old handle other p has) ∙ ap (λ (f : Handle → Option Held). f other) a.named));
+  count = (let z = count-taken old handle p has in let y = t.count in let w : count_of new ≡ count_of (taken handle old) = omega arith in w) ∙ a.count;
+  given = t.given ∙ (sym (given-taken old handle) ∙ a.given);
+  apart = a.apart;
+}
+
+-- the last step of a call that keeps no pin
+
+unmaps-by : (o : Option Verdict) (mapping : Option Held) (handle : Handle) (vs : List Seen) (step : Step) → after_beginning o (by_handle mapping (λ m. Unpin m (ByMapping handle))) vs ≡ Some (Makes step) → (m : Held) × (step ≡ Unpin m (ByMapping handle))
+unmaps-by (Some v) mapping handle [] step e = absurd (cc)
+unmaps-by (Some v) mapping handle (x ∷ vs) step e = absurd (cc)
+unmaps-by None None handle [] step e = absurd (cc)
+unmaps-by None None handle (x ∷ vs) step e = absurd (cc)
+unmaps-by None (Some m) handle [] step e = (m, (cc))
+unmaps-by None (Some m) handle (Nothing ∷ []) step e = absurd (cc)
+unmaps-by None (Some m) handle (Nothing ∷ x ∷ vs) step e = absurd (cc)
+unmaps-by None (Some m) handle (Word w ∷ vs) step e = absurd (cc)
+unmaps-by None (Some m) handle (Taken ∷ vs) step e = absurd (cc)
+unmaps-by None (Some m) handle (Missed w ∷ vs) step e = absurd (cc)
+
+-- no unmap
+abbrev IsOther : Asked → Type 0
+IsOther (Unmap handle) = ⊥
+IsOther request = Unit {0}
+
+keeps-others : (request : Asked) (verdict : Verdict) (old new : HandleMap Held) → IsOther request → LeavesMappings request verdict old new → KeepsMappings old new
+keeps-others (Unmap handle) verdict old new o l = absurd o
+keeps-others request verdict old new o l = l
+
+module _ (s : Setting) (g : Items) (d : DomId) (cl : Underway) (vs : List Seen) (seen : Seen) (verdict : Verdict) (old new : HandleMap Held) (waits : WaitsForNobody cl.request) (call : open_call g d.0 ≡ Some cl)
+    (a : MappingsAgree old (mappings_at g d.0) (maps_answered_at g d.0)) (leaves : LeavesMappings cl.request verdict old new) where
+  abbrev item : Step → Item
+  item step = stepped d step seen (Some (answer_of verdict))
+
+  -- the mappings are the same, and the call was no unmap
+  as-it-was : (step : Step) → path (known_at s g d) d cl.request vs ≡ Some (Makes step) → ((p : Held) (handle : Handle) → step ≡ Unpin p (ByMapping handle) → ⊥) → mappings_at (item step ∷ g) d.0 ≡ mappings_at g d.0
+      → MappingsAgree new (mappings_at (item step ∷ g) d.0) (maps_answered_at (item step ∷ g) d.0)
+  as-it-was step next not same =
+      mappings-same new _ _ _ _ (sym same) (sym (answered-stays g (item step) d.0 (plain-unmapped verdict))) (handles-kept old new _ _ (keeps-others cl.request verdict old new (other cl.request next) leaves) a)
+    where
+      other : (request : Asked) → path (known_at s g d) d request vs ≡ Some (Makes step) → IsOther request
+      other (Unmap handle) e = let u = unmaps-by (begun (known_at s g d) d (Unmap handle)) (mapping_of (mappings_at g d.0) handle) handle vs step e in absurd (not u.0 handle u.1)
+      other request e = tt
+
+  gone : (p : Held) (handle : Handle) → cl.request ≡ Unmap handle → mapping_of (mappings_at g d.0) handle ≡ Some p → IsRight s g (item (Unpin p (ByMapping handle)))
+      → MappingsAgree new (mappings_at (item (Unpin p (ByMapping handle)) ∷ g) d.0) (maps_answered_at (item (Unpin p (ByMapping handle)) ∷ g) d.0)
+  gone p handle is found right = by verdict (subst (λ (z : Asked). LeavesMappings z verdict old new) is leaves) right
+      (mapping-agrees g d p handle seen (Some (answer_of verdict)) old (plain-unmapped verdict) found a)
+    where
+      has : value_of old handle ≡ Some p
+      has = ap (λ (f : Handle → Option Held). f handle) a.named ∙ found
+
+      refused : (denial : Denial) → IsRight s g (stepped d (Unpin p (ByMapping handle)) seen (Some (Denied denial))) → ⊥
+      refused denial ok = let r : StepsRightIn s g (stepped d (Unpin p (ByMapping handle)) seen (Some (Denied denial))) (Unpin p (ByMapping handle)) seen (Some cl) = subst (StepsRightIn s g (stepped d (Unpin p (ByMapping handle)) seen (Some (Denied denial))) (Unpin p (ByMapping handle)) seen) call ok in
+          last-leaves cl.steps (Unpin p (ByMapping handle), seen) (r.left (λ e. none-some denial (sym e))).0
+
+      by : (v : Verdict) → LeavesMappings (Unmap handle) v old new → IsRight s g (stepped d (Unpin p (ByMapping handle)) seen (Some (answer_of v)))
+          → MappingsAgree (taken handle old) (mappings_at (stepped d (Unpin p (ByMapping handle)) seen (Some (answer_of v)) ∷ g) d.0) (maps_answered_at (stepped d (Unpin p (ByMapping handle)) seen (Some (answer_of v)) ∷ g) d.0)
+          → MappingsAgree new (mappings_at (stepped d (Unpin p (ByMapping handle)) seen (Some (answer_of v)) ∷ g) d.0) (maps_answered_at (stepped d (Unpin p (ByMapping handle)) seen (Some (answer_of v)) ∷ g) d.0)
+      by (Refused denial) l ok t = absurd (refused denial ok)
+      by v l ok t = handles-less old new handle p l.0 _ _ l.1 has t
+
+  pub told-maps : (xs : List State) (phase : Phase) (step : Step) → IsHere s g xs d cl.request (values cl) (reverse cl.steps) phase step → IsOnWords step → path (known_at s g d) d cl.request vs ≡ Some (Makes step) → IsRight s g (item step)
+      → MappingsAgree new (mappings_at (item step ∷ g) d.0) (maps_answered_at (item step ∷ g) d.0)
+  told-maps xs phase step here quiet next right = by step refl here.rests next right
+    where
+      by : (z : Step) → step ≡ z → Rests (known_at s g d) d cl.request (pins_at phase) (values cl) (Makes z) → path (known_at s g d) d cl.request vs ≡ Some (Makes z) → IsRight s g (item z)
+          → MappingsAgree new (mappings_at (item z ∷ g) d.0) (maps_answered_at (item z ∷ g) d.0)
+      by (LookHeader dom) e r n ok = as-it-was _ n (λ p handle f. cc) (maps-quiet g d _ (record { changes = λ z. refl; pins = λ before ps. refl; unpins = λ ps. refl }))
+      by (LookControl dom gref) e r n ok = as-it-was _ n (λ p handle f. cc) (maps-quiet g d _ (record { changes = λ z. refl; pins = λ before ps. refl; unpins = λ ps. refl }))
+      by (LookBody dom gref half) e r n ok = as-it-was _ n (λ p handle f. cc) (maps-quiet g d _ (record { changes = λ z. refl; pins = λ before ps. refl; unpins = λ ps. refl }))
+      by (PinStep p) e r n ok = as-it-was _ n (λ p handle f. cc) (pinned seen)
+        where
+          leg : (v : Verdict) (m : ℕ) → holder_after (Some (answer_of v)) m ≡ ByLeg m
+          leg Granted m = refl
+          leg (Given (Frames n)) m = refl
+          leg (Given (SizeTold n)) m = refl
+          leg (Given (VersionTold n)) m = refl
+          leg (KeptPin q) m = refl
+          leg (Refused denial) m = refl
+
+          pinned : (v : Seen) → mappings_at (stepped d (PinStep p) v (Some (answer_of verdict)) ∷ g) d.0 ≡ mappings_at g d.0
+          pinned Taken = leg-maps g d p (Some (answer_of verdict)) (leg verdict _)
+          pinned v = maps-quiet g d _ (record { changes = λ z. refl; pins = λ before ps. refl; unpins = λ ps. refl })
+      by (Unpin p (ByMapping handle)) e r n ok = gone p handle r.1.0 r.1.1 ok
+      by (Unpin p (ByLeg m)) e r n ok = absurd (no-leg s g xs d cl.request (values cl) (reverse cl.steps) phase step here waits p m e)
+      by (StoreBody gref half word) e r n ok = as-it-was _ n (λ p handle f. cc) (maps-quiet g d _ (record { changes = λ z. refl; pins = λ before ps. refl; unpins = λ ps. refl }))
+      by (StoreHeader version frames) e r n ok = as-it-was _ n (λ p handle f. cc) (maps-quiet g d _ (record { changes = λ z. refl; pins = λ before ps. refl; unpins = λ ps. refl }))
+      by (Exchange gref looked change) e r n ok = as-it-was _ n (λ p handle f. cc) (turned seen)
+        where
+          turned : (v : Seen) → mappings_at (stepped d (Exchange gref looked change) v (Some (answer_of verdict)) ∷ g) d.0 ≡ mappings_at g d.0
+          turned Taken = ap (gather by_mapping d.0) (exchanged-live g d gref looked change (Some (answer_of verdict)))
+          turned v = maps-quiet g d _ (record { changes = λ z. refl; pins = λ before ps. refl; unpins = λ ps. refl })
+      by (ReadBytes dom frame off len) e r n ok = absurd (subst IsOnWords e quiet)
+      by (WriteBytes dom frame off len) e r n ok = absurd (subst IsOnWords e quiet)
+      by (CopyBytes from to len) e r n ok = absurd (subst IsOnWords e quiet)
+
+-- the last step of a map that keeps its pin
+pub kept-maps : (s : Setting) (g : Items) (d : DomId) (cl : Underway) (step : Step) (p : Held) (handle : Handle) (old new : HandleMap Held) (here : StandsHere s g d cl step) → FitsStep step (seen_by s g d step)
+    → path (known_at s g d) d cl.request (values cl) ≡ Some (Makes step) → path (known_at s g d) d cl.request (values cl ++ seen_by s g d step ∷ []) ≡ Some (Done (KeptPin p)) → Adds old new handle p
+    → MappingsAgree old (mappings_at g d.0) (maps_answered_at g d.0)
+    → let item = stepped d step (seen_by s g d step) (Some (Mapped handle)) in MappingsAgree new (mappings_at (item ∷ g) d.0) (maps_answered_at (item ∷ g) d.0)
+kept-maps s g d cl step p handle old new here fits next last adds a =
+    let k = known_at s g d in let seen = seen_by s g d step in
+    let on = stands-on k d cl.request (values cl) here.phase seen here.here.at (subst (λ (o : Option Action). FitsNext o seen) (sym next) fits) in
+    let acts : action_at d (next_of s g d here.phase step) ≡ Done (KeptPin p) = same_Some _ _ (sym (leads-here k d cl.request (values cl ++ seen ∷ []) (next_of s g d here.phase step) on) ∙ last) in
+    let ends : MapEnds s g d cl.request here.phase step p = call-ends s g here.core.domains d cl.request (values cl) (reverse cl.steps) here.phase step here.here (KeptPin p) acts in
+    let sees : seen_by s g d (PinStep p) ≡ Taken = ap (λ (b : Bool). cond b Taken (Missed (word_at s g p.dom.0 p.gref.0))) (eq-eqb (word_at s g p.dom.0 p.gref.0) p.word ends.taken) in
+    let can = can-pin s g here.core.domains d cl.request (values cl) (reverse cl.steps) here.phase p (subst (IsHere s g here.core.domains d cl.request (values cl) (reverse cl.steps) here.phase) ends.is here.here) ends.taken in
+    let m = map-agrees g d p handle old new (subst (Adds old new handle) (sym can.is) adds) a in
+    subst (λ (z : Step × Seen). let item = stepped d z.0 z.1 (Some (Mapped handle)) in MappingsAgree new (mappings_at (item ∷ g) d.0) (maps_answered_at (item ∷ g) d.0))
+    (sym (let e : ◌≡◌ {A = Step × Seen} (step, seen_by s g d step) (PinStep p, Taken) = (λ j. (ends.is j, seen_by s g d (ends.is j))) ∙ (λ j. (PinStep p, sees j)) in e)) m

@@ -1,0 +1,13 @@
+pub mod Places
+pub mod Seeing
+pub mod Kept
+pub mod Counting
+pub mod Stepping
+pub mod Making
+pub mod Ends
+pub mod Resting
+pub mod Stages
+pub mod Start
+pub mod Going
+pub mod Ending
+pub mod Order

@@ -1,0 +1,467 @@
+-- Each run of the monitor has a legal order: by its history, from the newest step back.
+use Rattle.std.proofs.Common.{◌≡◌, ◌≢◌, ℕ, zero, suc, ◌<◌, ◌≤◌, Bool, cond, ◌==◌, List, [], ◌∷◌, ◌++◌, length, Option, Some, None, sym, refl, ap, ◌∙◌, subst, arith, ◌⊎◌, inl, inr, eq-eqb, ne_eqb}
+use Rattle.std.proofs.lemmas.Bool.{cases_eq, cases_lt}
+use Rattle.std.specs.Prelude.{IsSome}
+use Rattle.gt_types.specs.Config.{IsWithinLimits}
+use Rattle.gt_types.specs.Names.{domain_of}
+use Rattle.gt_types.specs.declared.DomId.{DomId}
+use Rattle.gt_types.specs.declared.config.Config.{Config}
+use Rattle.gt_types.specs.declared.config.DomainConfig.{DomainConfig}
+use Rattle.gt_words.proofs.Order.{part_else, part_here, up_else}
+use Rattle.gt_words.specs.Conditions.{Board, HasDomain, SeatOf}
+use Rattle.gt_words.specs.History.{History, Layout, Moment, part_of, up_to}
+use Rattle.gt_words.specs.Laws.{domain_of_run, seat_at}
+use Rattle.gt_words.specs.Rule.{layout_of, position_in}
+use Rattle.gt_words.specs.Views.{with_step}
+use Rattle.gt_words.specs.declared.view.SeatStep.{SeatStep}
+use Rattle.gt_words.specs.declared.view.View.{View}
+use Rattle.gt_calls.specs.Asking.{IsSaid, asked, begun_of}
+use Rattle.gt_calls.specs.Path.{path, steps_of}
+use Rattle.gt_calls.specs.Rules.{CallerKnowledge}
+use Rattle.gt_calls.specs.declared.action.Action.{Action}
+use Rattle.gt_calls.specs.declared.action.Action.TheVariants.{Step as Makes, Done}
+use Rattle.gt_calls.specs.declared.action.Verdict.{Verdict}
+use Rattle.gt_calls.specs.declared.action.Verdict.TheVariants.{Granted, Given, Mapped as KeptPin, Refused}
+use Rattle.gt_calls.specs.declared.request.Request.{Request}
+use Rattle.gt_core.proofs.GoingOn.{calls-can-begin}
+use Rattle.gt_core.proofs.Steps.Observers.{stepped}
+use Rattle.gt_core.specs.GoingOn.{AnsweredSo, IsReached, MayBeGiven, begin_answer, beginning}
+use Rattle.gt_core.specs.History.{History as Items, Setting, known_at, seen_by, table_at, values}
+use Rattle.gt_core.specs.Legal.{IsRight}
+use Rattle.gt_core.specs.Standing.{answer_of, setting_of}
+use Rattle.gt_core.specs.declared.trace.Answer.TheVariants.{Mapped}
+use Rattle.gt_live.proofs.Walking.{after-position}
+use Rattle.gt_live.specs.Domains.{AllowRelation, knowledge}
+use Rattle.gt_live.specs.Starting.{IsNewDomain}
+use Rattle.gt_live.specs.Walks.{IsWalk, MakesStep, after, shown, shown_by, shown_in}
+use Rattle.gt_live.specs.declared.domain.Domain.{Domain}
+use Rattle.gt_order.proofs.Ending.{RefusesOnly, answered-at-once, answers, asked-refuses, begins, core-adds, ends-kept, ends-told, going-on, keeps-at-once, known-alike, no-pin-at-once, starves}
+use Rattle.gt_order.proofs.Going.{goes-so, on-way, unanswered}
+use Rattle.gt_order.proofs.Making.{made-as, one-moment}
+use Rattle.gt_order.proofs.Resting.{can-be-answered, keeps-agreement}
+use Rattle.gt_order.proofs.Stages.{Fits, IsGoing, Ordered, SeatNow, Stage, one-more}
+use Rattle.gt_order.proofs.Stages.Stage.{Going, Resting}
+use Rattle.gt_order.proofs.Start.{ordered-first}
+use Rattle.gt_order.specs.Agreeing.{dom_at}
+use Rattle.gt_order.specs.Laws.{RunsHaveLegalOrders}
+use Rattle.gt_order.specs.Ordering.{IsLegalOrder, item_of_beginning, way_of}
+use Rattle.gt_order.specs.Runs.{AreCalls, CallMade, IsAnswered, IsAtRest, IsCall, KeepsNoPin, Outcome, TookSteps, domain_after}
+use Rattle.gt_order.specs.Runs.Outcome.{Told, Kept, Starved}
+
+-- a stage in the place of another
+abbrev put : ℕ → Stage → (ℕ → Stage) → ℕ → Stage
+put i y f j = cond (i == j) y (f j)
+
+put-here : (i : ℕ) (y : Stage) (f : ℕ → Stage) → put i y f i ≡ y
+put-here i y f = ap (λ (b : Bool). cond b y (f i)) (eq-eqb i i refl)
+
+put-else : (i : ℕ) (y : Stage) (f : ℕ → Stage) (j : ℕ) → i ≢ j → put i y f j ≡ f j
+put-else i y f j n = ap (λ (b : Bool). cond b y (f j)) (ne_eqb i j n)
+
+-- how a call is answered that ends so without a pin
+answered-so : (g : Items) (d : DomId) (v : Verdict) → KeepsNoPin v → AnsweredSo g d (Done v) (Some (answer_of v))
+answered-so g d Granted n = refl
+answered-so g d (Given value) n = refl
+answered-so g d (Refused denial) n = refl
+answered-so g d (KeptPin p) n = absurd n
+
+-- the last part of a step and of what was before it
+module _ {A : Type 0} where
+  head-same : (x y : A) (xs ys : List A) → x ∷ xs ≡ y ∷ ys → x ≡ y
+  head-same x y xs ys e = cc
+
+  tail-same : (x y : A) (xs ys : List A) → x ∷ xs ≡ y ∷ ys → xs ≡ ys
+  tail-same x y xs ys e = cc
+
+  no-head : (x : A) (xs : List A) → x ∷ xs ≡ [] → ⊥
+  no-head x xs e = cc
+
+module _ (b : Board) (c : Config) (may : AllowRelation) (limits : IsWithinLimits c) (is : b.layout ≡ layout_of c) (firsts : ℕ → Domain) (new : (i : ℕ) → i < b.layout.domains → IsNewDomain b c may i (firsts i)) where
+  abbrev k : Layout
+  k = b.layout
+
+  abbrev s : Setting
+  s = setting_of c may
+
+  -- the seat of each domain stays at its place
+
+  abbrev IsPlaced : ℕ → Domain → Type 0
+  IsPlaced i D = (D.seat.view.position ≡ i) × (D.seat.view.first ≡ k.first)
+
+  placed : (i : ℕ) → i < k.domains → (ms : List CallMade) → AreCalls b c may (firsts i) ms → IsPlaced i (domain_after (firsts i) ms)
+  placed i l [] calls = ((new i l).seat.position, (new i l).seat.first)
+  placed i l (m ∷ ms) calls =
+      let p = placed i l ms calls.2 in
+      (calls.0.seat.position ∙ (ap (λ (z : SeatOf). z.view.position) calls.1.seat ∙ p.0), calls.0.seat.first ∙ (ap (λ (z : SeatOf). z.view.first) calls.1.seat ∙ p.1))
+
+  named : (i : ℕ) → i < k.domains → domain_of c.domains.items (dom_at k i) ≢ None
+  named i l =
+      let n = new i l in let D = firsts i in
+      let dom : dom_at k i ≡ D.seat.dom = ap (dom_at k) (sym n.seat.position) ∙ n.domain.seat.named in
+      let at : D.seat.view.position ≡ position_in k.ids D.seat.dom = seat_at c b D.seat limits is n.domain.seat in
+      let inside : D.seat.view.position < length k.ids = n.domain.seat.inside in
+      let has : HasDomain k D.seat.dom = subst (λ (z : ℕ). z < length k.ids) at inside in
+      let there : IsSome (domain_of c.domains.items D.seat.dom) = (domain_of_run c D.seat.dom).1 (subst (λ (z : Layout). HasDomain z D.seat.dom) is has) in
+      λ e. some-there (domain_of c.domains.items D.seat.dom) there (ap (domain_of c.domains.items) (sym dom) ∙ e)
+    where
+      some-there : (o : Option DomainConfig) → IsSome o → o ≡ None → ⊥
+      some-there None a e = cc
+      some-there (Some x) a e = cc
+
+  abbrev FitAll : History → (ℕ → Stage) → Type 0
+  FitAll h stages = (i : ℕ) → i < k.domains → Fits b c may h i (firsts i) (stages i)
+
+  -- one stage is another
+  refit : (h' h : History) (stages : ℕ → Stage) (i : ℕ) (y : Stage) → FitAll h stages → ((j : ℕ) → i ≢ j → (part_of j h' ≡ part_of j h) × (up_to j h' ≡ up_to j h)) → Fits b c may h' i (firsts i) y → FitAll h' (put i y stages)
+  refit h' h stages i y fits same here j l = elim (cases_eq i j) [
+    | inl e ↦ subst (λ (z : ℕ). Fits b c may h' z (firsts z) (put i y stages z)) e (subst (Fits b c may h' i (firsts i)) (sym (put-here i y stages)) here)
+    | inr n ↦ let f = fits j l in let p = same j n in subst (Fits b c may h' j (firsts j)) (sym (put-else i y stages j n)) (record { is = f.is; steps = f.steps ∙ sym p.0; past = f.past ∙ sym p.1 })
+  ]
+
+  -- the moment of a step is its place in the history
+  at-moment : (h : History) (x : Moment) (i : ℕ) (p : ℕ × SeatStep) (v : View) → v.position ≡ i → p.0 ≡ i → (with_step x.0 x.1 v).past ≡ up_to i (p ∷ h) → (x.0 ≡ h) × (x.1 ≡ p.1)
+  at-moment h x i p v at here e =
+      let top : up_to i (p ∷ h) ≡ p ∷ h = ap (λ (z : Bool). cond z (p ∷ h) (up_to i h)) (eq-eqb p.0 i here) in
+      let all : (v.position, x.1) ∷ x.0 ≡ p ∷ h = e ∙ top in
+      (tail-same _ _ _ _ all, ap (λ (q : ℕ × SeatStep). q.1) (head-same _ _ _ _ all))
+
+  -- the call goes back by one step
+  back : (h : History) (p : ℕ × SeatStep) (i : ℕ) (ms : List CallMade) (m : CallMade) (xs : List Moment) (x : Moment) → p.0 ≡ i → AreCalls b c may (firsts i) ms → IsAtRest (domain_after (firsts i) ms) m.old → IsCall b c may m → m.old.seat.view.position ≡ i
+      → IsWalk k (way_of c may m) m.old.seat.view (x ∷ xs) → (after (x ∷ xs) m.old.seat.view).steps ≡ part_of i (p ∷ h) → (after (x ∷ xs) m.old.seat.view).past ≡ up_to i (p ∷ h)
+      → ((x.0 ≡ h) × (x.1 ≡ p.1)) × Fits b c may h i (firsts i) (Going ms m xs)
+  back h p i ms m xs x here calls rest call at walk steps past =
+      let v = after xs m.old.seat.view in let at-v : v.position ≡ i = after-position xs m.old.seat.view ∙ at in
+      let same = at-moment h x i p v at-v here past in
+      let top : part_of i (p ∷ h) ≡ p.1 ∷ part_of i h = ap (λ (z : Bool). cond z (p.1 ∷ part_of i h) (part_of i h)) (eq-eqb p.0 i here) in
+      let before : v.steps ≡ part_of i h = tail-same _ _ _ _ (steps ∙ top) in
+      (same, by (way_of c may m (shown xs)) refl walk.0 before at-v same.0)
+    where
+      by : (o : Option Action) → way_of c may m (shown xs) ≡ o → MakesStep k o (shown_by x) (after xs m.old.seat.view) (after (x ∷ xs) m.old.seat.view) → (after xs m.old.seat.view).steps ≡ part_of i h → (after xs m.old.seat.view).position ≡ i → x.0 ≡ h
+          → Fits b c may h i (firsts i) (Going ms m xs)
+      by (Some (Makes z)) e made before at-v same =
+          let u = made-as k i (after xs m.old.seat.view) (after (x ∷ xs) m.old.seat.view) at-v z (shown_by x) made in
+          let w = one-moment x u.0 (after xs m.old.seat.view) u.1.view in
+          let stood = u.1.stood in
+          record {
+            is = record { calls = calls; rests = rest; call = call; walked = walk.1; step = z; next = e };
+            steps = before;
+            past = (stood.1.led_here.parts (after xs m.old.seat.view).position (after xs m.old.seat.view) stood.2).1 ∙ (λ j. up_to (at-v j) ((sym (ap (λ (q : Moment). q.0) w) ∙ same) j));
+          }
+      by (Some (Done verdict)) e made before at-v same = absurd made
+      by None e made before at-v same = absurd made
+
+  -- a call that made no step kept its view
+
+  took-none : (request : Request) (verdict : Verdict) (steps : List Moment) (D E : Domain) → TookSteps b c may request verdict steps D E → steps ≡ [] → E.seat.view ≡ D.seat.view
+  took-none request verdict steps D E t none = t.0.view ∙ ap (λ (xs : List Moment). after xs D.seat.view) (t.1 ∙ none)
+
+  same-view : (request : Request) (o : Outcome) (steps : List Moment) (D E : Domain) → IsAnswered b c may request o steps D E → steps ≡ [] → E.seat.view ≡ D.seat.view
+  same-view request (Told verdict) steps D E a none = took-none request verdict steps D E a.1 none
+  same-view request (Kept handle p) steps D E a none = took-none request (KeptPin p) steps D E a.1 none
+  same-view request Starved steps D E a none = a.1
+
+  -- a call without a step, after those before it
+
+  quiet-call : (h : History) (i : ℕ) (l : i < k.domains) (m : CallMade) (ms : List CallMade) (stages : ℕ → Stage) → stages i ≡ Resting (m ∷ ms) → m.steps ≡ [] → AreCalls b c may (firsts i) (m ∷ ms)
+      → (domain_after (firsts i) ms).seat.view.steps ≡ part_of i h → Ordered b c may h firsts (put i (Resting ms) stages) → Ordered b c may h firsts stages
+  quiet-call h i l m ms stages e none calls steps o = by m.outcome refl calls.0.answered
+    where
+      d : DomId
+      d = dom_at k i
+
+      call : IsCall b c may m
+      call = calls.0
+
+      rest : IsAtRest (domain_after (firsts i) ms) m.old
+      rest = calls.1
+
+      at : IsPlaced i (domain_after (firsts i) ms)
+      at = placed i l ms calls.2
+
+      seat : SeatNow c may o.g d (firsts i) (Resting ms)
+      seat = subst (SeatNow c may o.g d (firsts i)) (put-here i (Resting ms) stages) (o.each i l)
+
+      view : m.new.seat.view ≡ m.old.seat.view
+      view = same-view m.request m.outcome m.steps m.old m.new call.answered none
+
+      known : known_at s o.g d ≡ knowledge c may m.old
+      known = seat.known ∙ sym (known-alike b c may limits is i l (firsts i) (named i l) (domain_after (firsts i) ms) m.old rest)
+
+      own : m.old.seat.dom ≡ d
+      own = sym call.before.seat.named ∙ ap (dom_at k) (ap (λ (z : SeatOf). z.view.position) rest.seat ∙ at.0)
+
+      -- what answers it at once
+      at-once : (v : Verdict) → TookSteps b c may m.request v m.steps m.old m.new → begun_of (knowledge c may m.old) m.old.seat.dom m.request ≡ Some v
+      at-once v t = answered-at-once (knowledge c may m.old) m.old.seat.dom m.request v call.fits.1 (ap (λ (xs : List Moment). way_of c may m (shown xs)) (sym (t.1 ∙ none)) ∙ t.0.answered)
+
+      same : (j : ℕ) → i ≢ j → stages j ≡ put i (Resting ms) stages j
+      same j n = sym (put-else i (Resting ms) stages j n)
+
+      by : (out : Outcome) → m.outcome ≡ out → IsAnswered b c may m.request out m.steps m.old m.new → Ordered b c may h firsts stages
+      by Starved out a = record {
+        g = o.g;
+        reached = o.reached;
+        agree = o.agree;
+        legal = o.legal;
+        steps = o.steps;
+        each = λ j lj. elim (cases_eq i j) [
+          | inl f ↦ subst (λ (z : ℕ). SeatNow c may o.g (dom_at k z) (firsts z) (stages z)) f (subst (SeatNow c may o.g d (firsts i)) (sym e)
+              (starves b c may limits is i l (firsts i) (named i l) o.g h ms m o.reached o.agree call rest out a.1 a.2 at.0 at.1 steps seat))
+          | inr n ↦ subst (SeatNow c may o.g (dom_at k j) (firsts j)) (sym (same j n)) (o.each j lj)
+        ];
+      }
+      by (Kept handle p) out a = absurd (no-pin-at-once (asked m.request) p a.0 (subst (RefusesOnly (asked m.request)) (at-once (KeptPin p) a.1) (asked-refuses (knowledge c may m.old) m.old.seat.dom m.request)))
+      by (Told verdict) out a =
+          let op = at-once verdict a.1 in
+          let here : begun_of (known_at s o.g d) d m.request ≡ Some verdict = (λ j. begun_of (known j) (sym own j) m.request) ∙ op in
+          let answered = can-be-answered s o.g d m.request verdict o.reached (named i l) seat.call here in
+          let item = item_of_beginning d m.request (Some (answer_of verdict)) in
+          let agree = keeps-agreement s k o.g h item (record { changes = λ z. refl; pins = λ before ps. refl; unpins = λ ps. refl }) refl (λ z half. refl) o.agree in
+          let keeps = keeps-at-once (asked m.request) verdict m.old.mappings m.new.mappings (subst (RefusesOnly (asked m.request)) op (asked-refuses (knowledge c may m.old) m.old.seat.dom m.request)) a.2 in
+          one-more b c may limits is h h firsts (put i (Resting ms) stages) stages i item o l refl (named i l) answered.0 answered.1 agree o.steps same
+          (subst (SeatNow c may (item ∷ o.g) d (firsts i)) (sym e) (answers b c may limits is i l (firsts i) (named i l) o.g h ms m verdict answered.1 agree call rest out none view keeps at.0 at.1 steps seat))
+
+  -- the beginning of a call that is to make a step
+
+  begin-call : (h : History) (i : ℕ) (l : i < k.domains) (m : CallMade) (ms : List CallMade) (stages : ℕ → Stage) → stages i ≡ Going ms m [] → IsGoing b c may (firsts i) ms m [] → Ordered b c may h firsts (put i (Resting ms) stages) → Ordered b c may h firsts stages
+  begin-call h i l m ms stages e going o =
+      let d = dom_at k i in let call = going.call in let rest = going.rests in let at = placed i l ms going.calls in
+      let seat = subst (SeatNow c may o.g d (firsts i)) (put-here i (Resting ms) stages) (o.each i l) in
+      let known : known_at s o.g d ≡ knowledge c may m.old = seat.known ∙ sym (known-alike b c may limits is i l (firsts i) (named i l) (domain_after (firsts i) ms) m.old rest) in
+      let own : m.old.seat.dom ≡ d = sym call.before.seat.named ∙ ap (dom_at k) (ap (λ (z : SeatOf). z.view.position) rest.seat ∙ at.0) in
+      let none : begun_of (knowledge c may m.old) m.old.seat.dom m.request ≡ None = unanswered (begun_of (knowledge c may m.old) m.old.seat.dom m.request) (steps_of (knowledge c may m.old) m.old.seat.dom (asked m.request)) [] going.step going.next in
+      let here : begun_of (known_at s o.g d) d m.request ≡ None = (λ j. begun_of (known j) (sym own j) m.request) ∙ none in
+      let said : IsSaid (table_at s o.g d) m.request = subst (λ (z : CallerKnowledge). IsSaid z.header m.request) (sym known) (call.fits.1 none) in
+      let begun = calls-can-begin s o.g d m.request o.reached (named i l) seat.call call.fits.0 said in
+      let item = item_of_beginning d m.request None in
+      let right : IsRight s o.g item = subst (λ (z : Option Verdict). IsRight s o.g (beginning d m.request (begin_answer z))) here begun.0 in
+      let reached : IsReached s (item ∷ o.g) = subst (λ (z : Option Verdict). IsReached s (beginning d m.request (begin_answer z) ∷ o.g)) here begun.1 in
+      one-more b c may limits is h h firsts (put i (Resting ms) stages) stages i item o l refl (named i l) right reached
+      (keeps-agreement s k o.g h item (record { changes = λ z. refl; pins = λ before ps. refl; unpins = λ ps. refl }) refl (λ z half. refl) o.agree) o.steps (λ j n. sym (put-else i (Resting ms) stages j n))
+      (subst (SeatNow c may (item ∷ o.g) d (firsts i)) (sym e) (begins b c may limits is i l (firsts i) (named i l) o.g ms m rest seat))
+
+  -- a step of a call that goes on
+
+  go-on : (i : ℕ) (l : i < k.domains) (ms : List CallMade) (m : CallMade) (xs : List Moment) (x : Moment) (stages : ℕ → Stage) → stages i ≡ Going ms m (x ∷ xs) → IsGoing b c may (firsts i) ms m (x ∷ xs) → Ordered b c may x.0 firsts (put i (Going ms m xs) stages)
+      → Ordered b c may ((i, x.1) ∷ x.0) firsts stages
+  go-on i l ms m xs x stages e going o =
+      let d = dom_at k i in let call = going.call in let at = placed i l ms going.calls in
+      let at-old : m.old.seat.view.position ≡ i = ap (λ (z : SeatOf). z.view.position) going.rests.seat ∙ at.0 in
+      let seat = subst (SeatNow c may o.g d (firsts i)) (put-here i (Going ms m xs) stages) (o.each i l) in
+      let r = goes-so b c may limits is o.g i l m ms (firsts i) xs x call at-old (named i l) o.reached o.agree seat going.walked.0 (Makes going.step) None going.next refl in
+      one-more b c may limits is x.0 ((i, x.1) ∷ x.0) firsts (put i (Going ms m xs) stages) stages i (stepped d r.step (shown_in x.1) None) o l refl (named i l) r.right r.reached r.agree (refl, r.the, refl, o.steps)
+      (λ j n. sym (put-else i (Going ms m xs) stages j n))
+      (subst (SeatNow c may (stepped d r.step (shown_in x.1) None ∷ o.g) d (firsts i)) (sym e) (going-on b c may limits is i l (firsts i) (named i l) o.g ms m xs x (after xs m.old.seat.view) (after (x ∷ xs) m.old.seat.view) call seat r))
+
+  -- the last step of a call
+
+  end-call : (i : ℕ) (l : i < k.domains) (ms : List CallMade) (m : CallMade) (xs : List Moment) (x : Moment) (stages : ℕ → Stage) → stages i ≡ Resting (m ∷ ms) → m.steps ≡ x ∷ xs → AreCalls b c may (firsts i) (m ∷ ms) → m.new.seat.view.steps ≡ part_of i ((i, x.1) ∷ x.0)
+      → Ordered b c may x.0 firsts (put i (Going ms m xs) stages) → Ordered b c may ((i, x.1) ∷ x.0) firsts stages
+  end-call i l ms m xs x stages e made calls steps o = by m.outcome refl calls.0.answered
+    where
+      d : DomId
+      d = dom_at k i
+
+      call : IsCall b c may m
+      call = calls.0
+
+      at-old : m.old.seat.view.position ≡ i
+      at-old = ap (λ (z : SeatOf). z.view.position) calls.1.seat ∙ (placed i l ms calls.2).0
+
+      v : View
+      v = after xs m.old.seat.view
+
+      w : View
+      w = after (x ∷ xs) m.old.seat.view
+
+      at-v : v.position ≡ i
+      at-v = after-position xs m.old.seat.view ∙ at-old
+
+      at-w : w.position ≡ i
+      at-w = after-position (x ∷ xs) m.old.seat.view ∙ at-old
+
+      seat : SeatNow c may o.g d (firsts i) (Going ms m xs)
+      seat = subst (SeatNow c may o.g d (firsts i)) (put-here i (Going ms m xs) stages) (o.each i l)
+
+      same : (j : ℕ) → i ≢ j → stages j ≡ put i (Going ms m xs) stages j
+      same j n = sym (put-else i (Going ms m xs) stages j n)
+
+      walk-of : (verdict : Verdict) → (t : TookSteps b c may m.request verdict m.steps m.old m.new) → IsWalk k (way_of c may m) m.old.seat.view (x ∷ xs)
+      walk-of verdict t = subst (IsWalk k (way_of c may m) m.old.seat.view) (t.1 ∙ made) t.0.walked
+
+      done-of : (verdict : Verdict) → (t : TookSteps b c may m.request verdict m.steps m.old m.new) → way_of c may m (shown (x ∷ xs)) ≡ Some (Done verdict)
+      done-of verdict t = ap (λ (z : List Moment). way_of c may m (shown z)) (sym (t.1 ∙ made)) ∙ t.0.answered
+
+      view-of : (verdict : Verdict) → (t : TookSteps b c may m.request verdict m.steps m.old m.new) → m.new.seat.view ≡ w
+      view-of verdict t = t.0.view ∙ ap (λ (z : List Moment). after z m.old.seat.view) (t.1 ∙ made)
+
+      by : (out : Outcome) → m.outcome ≡ out → IsAnswered b c may m.request out m.steps m.old m.new → Ordered b c may ((i, x.1) ∷ x.0) firsts stages
+      by Starved out a = absurd (no-head x xs (sym made ∙ a.0))
+      by (Told verdict) out a =
+          let t = a.1 in
+          let r = goes-so b c may limits is o.g i l m ms (firsts i) xs x call at-old (named i l) o.reached o.agree seat (walk-of verdict t).0 (Done verdict) (Some (answer_of verdict)) (done-of verdict t) (answered-so o.g d verdict a.0) in
+          one-more b c may limits is x.0 ((i, x.1) ∷ x.0) firsts (put i (Going ms m xs) stages) stages i (stepped d r.step (shown_in x.1) (Some (answer_of verdict))) o l refl (named i l) r.right r.reached r.agree (refl, r.the, refl, o.steps) same
+          (subst (SeatNow c may (stepped d r.step (shown_in x.1) (Some (answer_of verdict)) ∷ o.g) d (firsts i)) (sym e)
+          (ends-told b c may limits is i l (firsts i) (named i l) o.g ms m xs x v w verdict call seat r made out a.2 at-v at-w (view-of verdict t) steps))
+      by (Kept handle p) out a =
+          let t = a.1 in
+          let given : MayBeGiven o.g d handle p = record { old = m.old.mappings; new = m.new.mappings; agrees = seat.maps; adds = core-adds b c may limits is i l (firsts i) (named i l) m.old.mappings m.new.mappings handle p a.2 } in
+          let r = goes-so b c may limits is o.g i l m ms (firsts i) xs x call at-old (named i l) o.reached o.agree seat (walk-of (KeptPin p) t).0 (Done (KeptPin p)) (Some (Mapped handle)) (done-of (KeptPin p) t) (handle, refl, given) in
+          let last : path (known_at s o.g d) d seat.call.0.request (values seat.call.0 ++ seen_by s o.g d r.step ∷ []) ≡ Some (Done (KeptPin p)) =
+          on-way b c may limits is o.g i l m ms (firsts i) xs x call at-old (named i l) o.reached o.agree seat (walk-of (KeptPin p) t).0 r.step r.next (values seat.call.0 ++ seen_by s o.g d r.step ∷ [])
+          ∙ ((λ j. way_of c may m (seat.call.3 j ++ r.sees j ∷ [])) ∙ done-of (KeptPin p) t) in
+          one-more b c may limits is x.0 ((i, x.1) ∷ x.0) firsts (put i (Going ms m xs) stages) stages i (stepped d r.step (shown_in x.1) (Some (Mapped handle))) o l refl (named i l) r.right r.reached r.agree (refl, r.the, refl, o.steps) same
+          (subst (SeatNow c may (stepped d r.step (shown_in x.1) (Some (Mapped handle)) ∷ o.g) d (firsts i)) (sym e)
+          (ends-kept b c may limits is i l (firsts i) (named i l) o.g ms m xs x v w handle p call seat r last made out a.2 at-v at-w (view-of (KeptPin p) t) steps))
+
+  -- back over the calls without a step
+
+  strip : (h : History) (i : ℕ) (l : i < k.domains) (orig : ℕ → Stage)
+      → ((ms : List CallMade) (m : CallMade) (xs : List Moment) (x : Moment) (stages : ℕ → Stage) → stages i ≡ Resting (m ∷ ms) → m.steps ≡ x ∷ xs → FitAll h stages → Ordered b c may h firsts stages)
+      → ((stages : ℕ → Stage) → stages i ≡ Resting [] → ((j : ℕ) → i ≢ j → stages j ≡ orig j) → FitAll h stages → Ordered b c may h firsts stages)
+      → (ms : List CallMade) (stages : ℕ → Stage) → stages i ≡ Resting ms → ((j : ℕ) → i ≢ j → stages j ≡ orig j) → FitAll h stages → Ordered b c may h firsts stages
+  strip h i l orig on-step on-empty [] stages e same fits = on-empty stages e same fits
+  strip h i l orig on-step on-empty (m ∷ ms) stages e same fits =
+      by m.steps refl (λ more. strip h i l orig on-step on-empty ms (put i (Resting ms) stages) (put-here i (Resting ms) stages) (λ j n. put-else i (Resting ms) stages j n ∙ same j n) more)
+    where
+      fit : Fits b c may h i (firsts i) (Resting (m ∷ ms))
+      fit = subst (Fits b c may h i (firsts i)) e (fits i l)
+
+      by : (z : List Moment) → m.steps ≡ z → (FitAll h (put i (Resting ms) stages) → Ordered b c may h firsts (put i (Resting ms) stages)) → Ordered b c may h firsts stages
+      by [] none rec =
+          let view : (domain_after (firsts i) ms).seat.view ≡ m.new.seat.view = sym (same-view m.request m.outcome m.steps m.old m.new fit.is.0.answered none ∙ ap (λ (q : SeatOf). q.view) fit.is.1.seat) in
+          let steps : (domain_after (firsts i) ms).seat.view.steps ≡ part_of i h = ap (λ (q : View). q.steps) view ∙ fit.steps in
+          quiet-call h i l m ms stages e none fit.is steps
+          (rec (refit h h stages i (Resting ms) fits (λ j n. (refl, refl)) (record { is = fit.is.2; steps = steps; past = ap (λ (q : View). q.past) view ∙ fit.past })))
+      by (x ∷ xs) made rec = on-step ms m xs x stages e made fits
+
+  -- before the first step
+
+  flush : (n : ℕ) → n ≤ k.domains → (stages : ℕ → Stage) → ((j : ℕ) → n ≤ j → j < k.domains → stages j ≡ Resting []) → FitAll [] stages → Ordered b c may [] firsts stages
+  flush zero le stages rest fits = ordered-first b c may limits is firsts stages new named (λ j l. rest j (omega arith) l)
+  flush (suc n) le stages rest fits = by (λ st r f. flush n (omega arith) st r f) (stages n) refl
+    where
+      l : n < k.domains
+      l = omega arith
+
+      no-steps : (ms : List CallMade) (m : CallMade) (xs : List Moment) (x : Moment) (st : ℕ → Stage) → st n ≡ Resting (m ∷ ms) → m.steps ≡ x ∷ xs → FitAll [] st → Ordered b c may [] firsts st
+      no-steps ms m xs x st e made f =
+          let fit = subst (Fits b c may [] n (firsts n)) e (f n l) in
+          absurd (some-steps m.outcome fit.is.0.answered)
+        where
+          view-then : (verdict : Verdict) → TookSteps b c may m.request verdict m.steps m.old m.new → m.new.seat.view.steps ≡ [] → ⊥
+          view-then verdict t none = no-head x.1 _ (ap (λ (q : View). q.steps) (sym (t.0.view ∙ ap (λ (z : List Moment). after z m.old.seat.view) (t.1 ∙ made))) ∙ none)
+
+          some-steps : (o : Outcome) → IsAnswered b c may m.request o m.steps m.old m.new → ⊥
+          some-steps Starved a = no-head x xs (sym made ∙ a.0)
+          some-steps (Told verdict) a = view-then verdict a.1 ((subst (Fits b c may [] n (firsts n)) e (f n l)).steps)
+          some-steps (Kept handle p) a = view-then (KeptPin p) a.1 ((subst (Fits b c may [] n (firsts n)) e (f n l)).steps)
+
+      on : ((st : ℕ → Stage) → ((j : ℕ) → n ≤ j → j < k.domains → st j ≡ Resting []) → FitAll [] st → Ordered b c may [] firsts st)
+          → (st : ℕ → Stage) → st n ≡ Resting [] → ((j : ℕ) → n ≢ j → st j ≡ stages j) → FitAll [] st → Ordered b c may [] firsts st
+      on rec st e same f = rec st (λ j a lj. elim (cases_eq n j) [ inl z ↦ subst (λ (q : ℕ). st q ≡ Resting []) z e | inr z ↦ same j z ∙ rest j (omega arith) lj ]) f
+
+      by : ((st : ℕ → Stage) → ((j : ℕ) → n ≤ j → j < k.domains → st j ≡ Resting []) → FitAll [] st → Ordered b c may [] firsts st) → (st : Stage) → stages n ≡ st → Ordered b c may [] firsts stages
+      by rec (Resting ms) e = strip [] n l stages no-steps (on rec) ms stages e (λ j z. refl) fits
+      by rec (Going ms m []) e =
+          let fit = subst (Fits b c may [] n (firsts n)) e (fits n l) in
+          let seat : (domain_after (firsts n) ms).seat.view ≡ m.old.seat.view = sym (ap (λ (q : SeatOf). q.view) fit.is.rests.seat) in
+          begin-call [] n l m ms stages e fit.is
+          (strip [] n l stages no-steps (on rec) ms (put n (Resting ms) stages) (put-here n (Resting ms) stages) (λ j z. put-else n (Resting ms) stages j z)
+          (refit [] [] stages n (Resting ms) fits (λ j z. (refl, refl)) (record { is = fit.is.calls; steps = ap (λ (q : View). q.steps) seat ∙ fit.steps; past = ap (λ (q : View). q.past) seat ∙ fit.past })))
+      by rec (Going ms m (x ∷ xs)) e = absurd (no-head x.1 _ (subst (Fits b c may [] n (firsts n)) e (fits n l)).steps)
+
+  -- the history from its newest step back
+
+  build : (h : History) (stages : ℕ → Stage) → FitAll h stages → ((j : ℕ) → k.domains ≤ j → part_of j h ≡ []) → Ordered b c may h firsts stages
+  build [] stages fits none = flush k.domains (omega arith) stages (λ j a lj. absurd (omega arith)) fits
+  build (p ∷ h) stages fits none = at (λ st f. build h st f (λ j le. sym (other j le) ∙ none j le)) (cases_lt p.0 k.domains)
+    where
+      i : ℕ
+      i = p.0
+
+      top : part_of i (p ∷ h) ≡ p.1 ∷ part_of i h
+      top = part_here p.0 p.1 h
+
+      other : (j : ℕ) → k.domains ≤ j → part_of j (p ∷ h) ≡ part_of j h
+      other j le = elim (cases_eq p.0 j) [
+        | inl e ↦ absurd (no-head p.1 (part_of j h) (sym (subst (λ (q : ℕ). part_of q (p ∷ h) ≡ p.1 ∷ part_of q h) e top) ∙ none j le))
+        | inr n ↦ part_else p.0 p.1 h j n
+      ]
+
+      others : (j : ℕ) → i ≢ j → (part_of j h ≡ part_of j (p ∷ h)) × (up_to j h ≡ up_to j (p ∷ h))
+      others j n = (sym (part_else p.0 p.1 h j n), sym (up_else p.0 p.1 h j n))
+
+      to-here : (x : Moment) (st : ℕ → Stage) → x.0 ≡ h → x.1 ≡ p.1 → Ordered b c may ((i, x.1) ∷ x.0) firsts st → Ordered b c may (p ∷ h) firsts st
+      to-here x st a e o = subst (λ (q : History). Ordered b c may q firsts st) (λ j. (i, e j) ∷ a j) o
+
+      module-step : (i < k.domains) → ((st : ℕ → Stage) → FitAll h st → Ordered b c may h firsts st) → (ms : List CallMade) (m : CallMade) (xs : List Moment) (x : Moment) (st : ℕ → Stage) → st i ≡ Resting (m ∷ ms) → m.steps ≡ x ∷ xs → FitAll (p ∷ h) st → Ordered b c may (p ∷ h) firsts st
+      module-step l rec ms m xs x st e made f = go m.outcome fit.is.0.answered
+        where
+          fit : Fits b c may (p ∷ h) i (firsts i) (Resting (m ∷ ms))
+          fit = subst (Fits b c may (p ∷ h) i (firsts i)) e (f i l)
+
+          at-old : m.old.seat.view.position ≡ i
+          at-old = ap (λ (z : SeatOf). z.view.position) fit.is.1.seat ∙ (placed i l ms fit.is.2).0
+
+          took : (verdict : Verdict) → TookSteps b c may m.request verdict m.steps m.old m.new → Ordered b c may (p ∷ h) firsts st
+          took verdict t =
+              let view : m.new.seat.view ≡ after (x ∷ xs) m.old.seat.view = t.0.view ∙ ap (λ (z : List Moment). after z m.old.seat.view) (t.1 ∙ made) in
+              let bk = back h p i ms m xs x refl fit.is.2 fit.is.1 fit.is.0 at-old (subst (IsWalk k (way_of c may m) m.old.seat.view) (t.1 ∙ made) t.0.walked)
+              (ap (λ (q : View). q.steps) (sym view) ∙ fit.steps) (ap (λ (q : View). q.past) (sym view) ∙ fit.past) in
+              let o = rec (put i (Going ms m xs) st) (refit h (p ∷ h) st i (Going ms m xs) f others bk.1) in
+              to-here x st bk.0.0 bk.0.1 (end-call i l ms m xs x st e made fit.is
+              (fit.steps ∙ (λ j. part_of i ((i, sym bk.0.1 j) ∷ sym bk.0.0 j)))
+              (subst (λ (q : History). Ordered b c may q firsts (put i (Going ms m xs) st)) (sym bk.0.0) o))
+
+          go : (o : Outcome) → IsAnswered b c may m.request o m.steps m.old m.new → Ordered b c may (p ∷ h) firsts st
+          go Starved a = absurd (no-head x xs (sym made ∙ a.0))
+          go (Told verdict) a = took verdict a.1
+          go (Kept handle q) a = took (KeptPin q) a.1
+
+      on : (i < k.domains) → (orig : ℕ → Stage) → (st : ℕ → Stage) → st i ≡ Resting [] → ((j : ℕ) → i ≢ j → st j ≡ orig j) → FitAll (p ∷ h) st → Ordered b c may (p ∷ h) firsts st
+      on l orig st e same f = let fit = subst (Fits b c may (p ∷ h) i (firsts i)) e (f i l) in
+          absurd (no-head p.1 (part_of i h) (sym top ∙ (sym fit.steps ∙ (new i l).seat.steps)))
+
+      at : ((st : ℕ → Stage) → FitAll h st → Ordered b c may h firsts st) → (i < k.domains) ⊎ (k.domains ≤ i) → Ordered b c may (p ∷ h) firsts stages
+      at rec (inr le) = absurd (no-head p.1 (part_of i h) (sym top ∙ none i le))
+      at rec (inl l) = by (stages i) refl
+        where
+          by : (st : Stage) → stages i ≡ st → Ordered b c may (p ∷ h) firsts stages
+          by (Resting ms) e = strip (p ∷ h) i l stages (module-step l rec) (on l stages) ms stages e (λ j z. refl) fits
+          by (Going ms m []) e =
+              let fit = subst (Fits b c may (p ∷ h) i (firsts i)) e (fits i l) in
+              let seat : (domain_after (firsts i) ms).seat.view ≡ m.old.seat.view = sym (ap (λ (q : SeatOf). q.view) fit.is.rests.seat) in
+              begin-call (p ∷ h) i l m ms stages e fit.is
+              (strip (p ∷ h) i l stages (module-step l rec) (on l stages) ms (put i (Resting ms) stages) (put-here i (Resting ms) stages) (λ j z. put-else i (Resting ms) stages j z)
+              (refit (p ∷ h) (p ∷ h) stages i (Resting ms) fits (λ j z. (refl, refl)) (record { is = fit.is.calls; steps = ap (λ (q : View). q.steps) seat ∙ fit.steps; past = ap (λ (q : View). q.past) seat ∙ fit.past })))
+          by (Going ms m (x ∷ xs)) e =
+              let fit = subst (Fits b c may (p ∷ h) i (firsts i)) e (fits i l) in
+              let at-old : m.old.seat.view.position ≡ i = ap (λ (z : SeatOf). z.view.position) fit.is.rests.seat ∙ (placed i l ms fit.is.calls).0 in
+              let bk = back h p i ms m xs x refl fit.is.calls fit.is.rests fit.is.call at-old fit.is.walked fit.steps fit.past in
+              let o = rec (put i (Going ms m xs) stages) (refit h (p ∷ h) stages i (Going ms m xs) fits others bk.1) in
+              to-here x stages bk.0.0 bk.0.1 (go-on i l ms m xs x stages e fit.is (subst (λ (q : History). Ordered b c may q firsts (put i (Going ms m xs) stages)) (sym bk.0.0) o))
+
+-- each run of the monitor has a legal order
+pub runs-have-legal-orders : RunsHaveLegalOrders
+runs-have-legal-orders b c may s seats run = by ordered
+  where
+    k : Layout
+    k = b.layout
+
+    inside : (i : ℕ) → i < k.domains → i < length c.domains.items
+    inside i l = subst (λ (z : Layout). i < z.domains) run.layout l
+
+    firsts : ℕ → Domain
+    firsts i = (seats i).first
+
+    stages : ℕ → Stage
+    stages i = Resting (seats i).calls
+
+    ordered : Ordered b c may run.shown.history firsts stages
+    ordered = build b c may run.limits run.layout firsts (λ i l. (run.each i (inside i l)).starts) run.shown.history stages
+        (λ i l. let e = run.each i (inside i l) in let p = run.shown.now.led_here.parts i _ e.now in record { is = e.calls; steps = p.0; past = p.1 })
+        (λ j le. run.shown.now.led_here.no_other j (let n = run.shown.now.dealt.1 in omega arith))
+
+    by : Ordered b c may run.shown.history firsts stages → (g : Items) × IsLegalOrder c may k run.shown.history seats g
+    by o = (o.g, record { reached = o.reached; legal = o.legal; steps = o.steps; calls = λ i l. (o.each i l).items })

@@ -1,0 +1,150 @@
+-- Where each domain of a run is, after some steps of the history, and the items so far.
+use Rattle.std.proofs.Common.{◌≡◌, ◌≢◌, ℕ, ◌<◌, Bool, false, cond, ◌==◌, List, [], ◌∷◌, ◌++◌, Option, Some, None, sym, refl, ap, ◌∙◌, subst, inl, inr}
+use Rattle.std.proofs.lemmas.Bool.{cases_eq}
+use Rattle.gt_types.specs.Config.{IsWithinLimits}
+use Rattle.gt_types.specs.Names.{domain_of}
+use Rattle.gt_types.specs.declared.DomId.{DomId}
+use Rattle.gt_types.specs.declared.config.Config.{Config}
+use Rattle.gt_words.specs.Conditions.{Board}
+use Rattle.gt_words.specs.History.{History, Layout, Moment, part_of, up_to}
+use Rattle.gt_words.specs.Rule.{layout_of}
+use Rattle.gt_words.specs.declared.view.View.{View}
+use Rattle.gt_calls.specs.Asking.{asked}
+use Rattle.gt_calls.specs.declared.action.Action.TheVariants.{Step as Makes}
+use Rattle.gt_calls.specs.declared.action.Step.{Step}
+use Rattle.gt_core.proofs.Keeping.{open_call-other}
+use Rattle.gt_core.proofs.Mappings.{mappings-same}
+use Rattle.gt_core.proofs.Playing.{history-more, legal-more}
+use Rattle.gt_core.proofs.Steps.Observers.{other-known, other-maps, other-pins}
+use Rattle.gt_core.specs.GoingOn.{IsReached}
+use Rattle.gt_core.specs.History.{History as Items, Setting, Underway, by_mapping, known_at, maps_answered_at, mappings_at, open_call, values}
+use Rattle.gt_core.specs.Legal.{IsRight, Legal, MayDo, history_after}
+use Rattle.gt_core.specs.Standing.{MappingsAgree, setting_of}
+use Rattle.gt_core.specs.declared.trace.Answer.{Answer}
+use Rattle.gt_core.specs.declared.trace.Element.TheVariants.{Item as Did}
+use Rattle.gt_core.specs.declared.trace.Happened.{Happened}
+use Rattle.gt_core.specs.declared.trace.Happened.TheVariants.{Began, Stepped}
+use Rattle.gt_core.specs.declared.trace.Item.{Item}
+use Rattle.gt_live.specs.Domains.{AllowRelation, knowledge}
+use Rattle.gt_live.specs.Walks.{IsWalk, after, shown}
+use Rattle.gt_live.specs.declared.domain.Domain.{Domain}
+use Rattle.gt_order.proofs.Places.{test-apart}
+use Rattle.gt_order.specs.Agreeing.{Agree, dom_at}
+use Rattle.gt_order.specs.Ordering.{AreStepsOf, event_in, events_of, item_of_beginning, items_by, items_of_calls, items_of_steps, trace_of, way_of}
+use Rattle.gt_order.specs.Runs.{AreCalls, CallMade, IsAtRest, IsCall, domain_after}
+
+-- where a domain is: between two calls, after these; or after these in a call that has made these steps
+pub data Stage : Type 0 where
+  Resting : List CallMade → Stage
+  Going : List CallMade → CallMade → List Moment → Stage
+
+-- the domain as it was at rest last, and its view now
+abbrev pub domain_now : Domain → Stage → Domain
+domain_now first (Resting ms) = domain_after first ms
+domain_now first (Going ms m xs) = m.old
+
+abbrev pub view_now : Domain → Stage → View
+view_now first (Resting ms) = (domain_after first ms).seat.view
+view_now first (Going ms m xs) = after xs m.old.seat.view
+
+-- the items of what it did
+abbrev pub items_now : Config → AllowRelation → DomId → Stage → List Item
+items_now c may d (Resting ms) = items_of_calls c may d ms
+items_now c may d (Going ms m xs) = items_of_steps d (way_of c may m) None xs ++ item_of_beginning d m.request None ∷ items_of_calls c may d ms
+
+-- the call was begun, made these steps and is to make one more
+pub record IsGoing (b : Board) (c : Config) (may : AllowRelation) (first : Domain) (ms : List CallMade) (m : CallMade) (xs : List Moment) : Type 0 where
+  pub calls : AreCalls b c may first ms
+  pub rests : IsAtRest (domain_after first ms) m.old
+  pub call : IsCall b c may m
+  pub walked : IsWalk b.layout (way_of c may m) m.old.seat.view xs
+  pub step : Step
+  pub next : way_of c may m (shown xs) ≡ Some (Makes step)
+
+abbrev pub IsStage : Board → Config → AllowRelation → Domain → Stage → Type 0
+IsStage b c may first (Resting ms) = AreCalls b c may first ms
+IsStage b c may first (Going ms m xs) = IsGoing b c may first ms m xs
+
+-- the seat at the position i has made just its part of the history by then
+pub record Fits (b : Board) (c : Config) (may : AllowRelation) (h : History) (i : ℕ) (first : Domain) (stage : Stage) : Type 0 where
+  pub is : IsStage b c may first stage
+  pub steps : (view_now first stage).steps ≡ part_of i h
+  pub past : (view_now first stage).past ≡ up_to i h
+
+-- the open call of a domain
+abbrev pub CallNow : Items → DomId → Stage → Type 0
+CallNow g d (Resting ms) = open_call g d.0 ≡ None
+CallNow g d (Going ms m xs) = (cl : Underway) × (open_call g d.0 ≡ Some cl) × (cl.request ≡ asked m.request) × (values cl ≡ shown xs)
+
+-- what the items have made of a domain
+pub record SeatNow (c : Config) (may : AllowRelation) (g : Items) (d : DomId) (first : Domain) (stage : Stage) : Type 0 where
+  pub items : items_by d g ≡ items_now c may d stage
+  pub maps : MappingsAgree (domain_now first stage).mappings (mappings_at g d.0) (maps_answered_at g d.0)
+  pub known : known_at (setting_of c may) g d ≡ knowledge c may (domain_now first stage)
+  pub call : CallNow g d stage
+
+-- an order of what all domains did by then
+pub record Ordered (b : Board) (c : Config) (may : AllowRelation) (h : History) (firsts : ℕ → Domain) (stages : ℕ → Stage) : Type 0 where
+  pub g : Items
+  pub reached : IsReached (setting_of c may) g
+  pub agree : Agree (setting_of c may) b.layout g h
+  pub legal : Legal (setting_of c may) (events_of g) (trace_of g)
+  pub steps : AreStepsOf b.layout g h
+  pub each : (i : ℕ) → i < b.layout.domains → SeatNow c may g (dom_at b.layout i) (firsts i) (stages i)
+
+-- a domain that does nothing is where it was
+
+module _ (b : Board) (c : Config) (may : AllowRelation) (limits : IsWithinLimits c) (is : b.layout ≡ layout_of c) where
+  abbrev k : Layout
+  k = b.layout
+
+  abbrev s : Setting
+  s = setting_of c may
+
+  pub other-seat : (g : Items) (item : Item) (i j : ℕ) (first : Domain) (stage : Stage) → item.actor ≡ dom_at k i → i < k.domains → j < k.domains → i ≢ j → SeatNow c may g (dom_at k j) first stage
+      → SeatNow c may (item ∷ g) (dom_at k j) first stage
+  other-seat g item i j first stage own a b' n seat = record {
+    items = ap (λ (z : Bool). cond z (item ∷ items_by d g) (items_by d g)) apart ∙ seat.items;
+    maps = mappings-same _ _ _ _ _ (sym (other-pins by_mapping item g d.0 apart)) (sym (other-maps item g d.0 apart)) seat.maps;
+    known = other-known s item g d apart ∙ seat.known;
+    call = call stage seat.call;
+  }
+    where
+      d : DomId
+      d = dom_at k j
+
+      apart : (item.actor.0 == d.0) ≡ false
+      apart = ap (λ (z : DomId). z.0 == d.0) own ∙ test-apart c k i j is limits a b' n
+
+      call : (st : Stage) → CallNow g d st → CallNow (item ∷ g) d st
+      call (Resting ms) e = open_call-other item g d.0 apart ∙ e
+      call (Going ms m xs) e = (e.0, open_call-other item g d.0 apart ∙ e.1, e.2, e.3)
+
+  -- the trace of the items is one element longer
+
+  trace-back : (g : Items) → history_after [] (trace_of g) ≡ g
+  trace-back [] = refl
+  trace-back (i ∷ g) = history-more [] (trace_of g) (Did i) ∙ ap (λ (z : Items). i ∷ z) (trace-back g)
+
+  may-do : (g : Items) (d : DomId) (x : Happened) (a : Option Answer) → let item : Item = record { actor = d; happened = x; answer = a } in domain_of c.domains.items d ≢ None → IsRight s g item → MayDo s g (event_in d x) (Did item)
+  may-do g d (Began request) a named right = (named, (refl, refl), right)
+  may-do g d (Stepped step seen) a named right = (named, (refl, tt), right)
+
+  pub legal-longer : (g : Items) (item : Item) → domain_of c.domains.items item.actor ≢ None → IsRight s g item → Legal s (events_of g) (trace_of g) → Legal s (events_of (item ∷ g)) (trace_of (item ∷ g))
+  legal-longer g item named right legal = legal-more s [] (events_of g) (trace_of g) (event_in item.actor item.happened) (Did item) legal
+      (subst (λ (z : Items). MayDo s z (event_in item.actor item.happened) (Did item)) (sym (trace-back g)) (may-do g item.actor item.happened item.answer named right))
+
+  -- one item more, of one domain
+  pub one-more : (h' h : History) (firsts : ℕ → Domain) (old new : ℕ → Stage) (i : ℕ) (item : Item) (o : Ordered b c may h' firsts old) → i < k.domains → item.actor ≡ dom_at k i → domain_of c.domains.items (dom_at k i) ≢ None → IsRight s o.g item → IsReached s (item ∷ o.g)
+      → Agree s k (item ∷ o.g) h → AreStepsOf k (item ∷ o.g) h → ((j : ℕ) → i ≢ j → new j ≡ old j) → SeatNow c may (item ∷ o.g) (dom_at k i) (firsts i) (new i) → Ordered b c may h firsts new
+  one-more h' h firsts old new i item o inside own named right reached agree steps same seat = record {
+    g = item ∷ o.g;
+    reached = reached;
+    agree = agree;
+    legal = legal-longer o.g item (subst (λ (z : DomId). domain_of c.domains.items z ≢ None) (sym own) named) right o.legal;
+    steps = steps;
+    each = λ j l. elim (cases_eq i j) [
+      | inl e ↦ subst (λ (z : ℕ). SeatNow c may (item ∷ o.g) (dom_at k z) (firsts z) (new z)) e seat
+      | inr n ↦ subst (SeatNow c may (item ∷ o.g) (dom_at k j) (firsts j)) (sym (same j n)) (other-seat o.g item i j (firsts j) (old j) own inside l n (o.each j l))
+    ];
+  }

@@ -1,0 +1,215 @@
+-- A step of an open call keeps items and history in agreement.
+use Rattle.gt_core.proofs.Words.{◌≡◌, ◌≢◌, ◌<◌, ◌≤◌, inl, inr, ℕ, refl, Bool, true, false, not, List, ◌∷◌, Option, Some, None, sym, ap, ◌∙◌, subst, reverse, same_Some, none-some, arith, DomId, GrantRef, domain_of, Entry as EntryOf, Change, Publish, ToInvalid, ToWithdrawn, ToReadOnly, ToWritable, FirstHalf, SecondHalf, Held, Holder, ByMapping, ByLeg, Asked, Grant, Seen, Nothing, Word, Taken, Missed, Step, LookHeader, LookControl, LookBody, PinStep, Unpin, StoreBody, StoreHeader, Exchange, ReadBytes, WriteBytes, CopyBytes, Makes, Done, State, state_of, Phase, Storing, StoringSecond, Exchanging, Looking, Changing, Walking, Accessing, Asking, Last, Ending, path, known_at, action_at, Setting, Underway, HasShown, PhaseStands, Rests, pins_at, DomainConfig, values, open_call, DomainsStand, Agrees, CallAgrees, OpenAgrees, StateAgrees, CoreStands, IsClean, IsRight, IsSafe, begun, entry_at, table_at, reads_at, writes_at, next_to_give, size_of, TABLE_ENTRIES, CoreState}
+use Rattle.std.specs.Prelude.{IsSome}
+use Rattle.gt_core.proofs.Phases.{IsHere, by-leg, by-quiet}
+use Rattle.gt_core.proofs.EachStep.{each-step}
+use Rattle.gt_core.proofs.Entries.{of-safe}
+use Rattle.gt_core.proofs.Steps.Observers.{stepped, pins, unpins, exchanged}
+use Rattle.gt_core.proofs.Steps.See.{IsWithin as InCore, table-fits}
+use Rattle.gt_core.proofs.Steps.Unpin.{loses-mapping}
+use Rattle.gt_core.specs.GoingOn.{IsOnWords, IsReached}
+use Rattle.gt_core.specs.History.{History as Items}
+use Rattle.gt_core.specs.declared.trace.Answer.{Answer}
+use Rattle.gt_core.specs.declared.underway.Open.{Open}
+use Rattle.gt_core.specs.Legal.{IsSafeChange}
+use Rattle.gt_entry.specs.Entries.{is_read_only}
+use Rattle.gt_calls.specs.declared.request.Asked.TheVariants.{Demote, Promote}
+use Rattle.gt_core.specs.Standing.{setting_of}
+use Rattle.gt_calls.specs.Opening.{opens}
+use Rattle.gt_types.specs.Config.{IsWithinLimits}
+use Rattle.gt_types.specs.declared.config.Config.{Config}
+use Rattle.gt_words.specs.Conditions.{HasDomain}
+use Rattle.gt_words.specs.History.{History, Layout, Says, place_of, word_after}
+use Rattle.gt_words.specs.Laws.{domain_of_run}
+use Rattle.gt_words.specs.Rule.{layout_of, place}
+use Rattle.gt_words.specs.Steps.{changed, changed_word}
+use Rattle.gt_words.specs.declared.view.EntryStep.TheVariants.{Looked, ReadBody, Pinned, PinMissed, Unpinned, StoredBody, Changed, ChangeMissed}
+use Rattle.gt_words.specs.declared.view.HeaderStep.TheVariants as header
+use Rattle.gt_words.specs.declared.view.SeatStep.{SeatStep}
+use Rattle.gt_words.specs.declared.view.SeatStep.TheVariants.{Entry, Header}
+use Rattle.gt_live.specs.Domains.{AllowRelation}
+use Rattle.gt_live.specs.Ending.{WaitsForNobody}
+use Rattle.gt_live.specs.Walks.{shown_in}
+use Rattle.gt_order.proofs.Counting.{IsIdleFor, IsTurned, changes-entry, gives-back, takes-pin}
+use Rattle.gt_order.proofs.Kept.{quiet, stores-body, stores-header}
+use Rattle.gt_order.specs.Agreeing.{Agree, IsThe, IsWithin, StoresChange, dom_at, last_at}
+use Rattle.gt_order.specs.Laws.{StepsKeepAgreement}
+
+-- where the core stands at an open call's next step
+
+pub record StandsHere (s : Setting) (g : Items) (d : DomId) (c : Underway) (step : Step) : Type 0 where
+  pub core : CoreState
+  pub st : CoreStands s g core
+  pub phase : Phase
+  pub here : IsHere s g core.domains d c.request (values c) (reverse c.steps) phase step
+  pub clean : IsClean phase c.steps
+
+pub state-there : (s : Setting) (g : Items) (xs : List State) (d : DomId) → DomainsStand s g xs → domain_of s.domains d ≢ None → (x : State) × (state_of xs d.0 ≡ Some x) × (x.id ≡ d) × Agrees s g x
+state-there s g xs d st named = by (state_of xs d.0) refl (st.each d) where
+  by : (o : Option State) → state_of xs d.0 ≡ o → StateAgrees s g d o → (x : State) × (state_of xs d.0 ≡ Some x) × (x.id ≡ d) × Agrees s g x
+  by None e a = absurd (named a)
+  by (Some x) e a = (x, e, a.1, a.2)
+
+pub open-there : (s : Setting) (g : Items) (d : DomId) (u : Option Open) (v : Option Underway) (c : Underway) → CallAgrees s g d u v → v ≡ Some c → (o : Open) × OpenAgrees s g d o c
+open-there s g d None None c a e = absurd (none-some c e)
+open-there s g d None (Some z) c a e = absurd a
+open-there s g d (Some o) None c a e = absurd a
+open-there s g d (Some o) (Some z) c a e = (o, subst (OpenAgrees s g d o) (same_Some z c e) a)
+
+pub stands-here : (s : Setting) (g : Items) (d : DomId) (c : Underway) (step : Step) → IsReached s g → domain_of s.domains d ≢ None → open_call g d.0 ≡ Some c → path (known_at s g d) d c.request (values c) ≡ Some (Makes step) → StandsHere s g d c step
+stands-here s g d c step (core, st) named call next =
+    let t = state-there s g core.domains d st.domains named in
+    let o = open-there s g d t.0.underway (open_call g d.0) c (subst (λ (z : DomId). CallAgrees s g z t.0.underway (open_call g z.0)) t.2 t.3.call) call in
+    let same : Makes o.0.step ≡ Makes step = same_Some _ _ (sym o.1.follows ∙ next) in
+    let step-is : o.0.step ≡ step = cc in record {
+      core = core;
+      st = st;
+      phase = o.1.phase;
+      here = subst (λ (z : Step). IsHere s g core.domains d c.request (values c) (reverse c.steps) o.1.phase z) step-is (record {
+        legal = st.legal;
+        st = st.domains;
+        own = λ e. none-some t.0 (sym e ∙ t.1);
+        at = o.1.at;
+        acts = o.1.acts;
+        place = o.1.place;
+        held = o.1.held;
+        rests = o.1.rests;
+        fits = o.1.fits;
+      });
+      clean = o.1.clean;
+    }
+
+-- the step is on words of the run
+
+has-domain : (c : Config) (may : AllowRelation) (k : Layout) (g : Items) (xs : List State) (d : DomId) → k ≡ layout_of c → DomainsStand (setting_of c may) g xs → state_of xs d.0 ≢ None → HasDomain k d
+has-domain c may k g xs d is st some = subst (λ (z : Layout). HasDomain z d) (sym is) ((domain_of_run c d).0 (by (domain_of c.domains.items d) refl))
+  where
+    named : StateAgrees (setting_of c may) g d (state_of xs d.0) → domain_of c.domains.items d ≢ None
+    named a = from (state_of xs d.0) some a
+      where
+        from : (o : Option State) → o ≢ None → StateAgrees (setting_of c may) g d o → domain_of c.domains.items d ≢ None
+        from None n a = absurd (n refl)
+        from (Some x) n a = a.0
+
+    by : (o : Option DomainConfig) → domain_of c.domains.items d ≡ o → IsSome o
+    by None e = absurd (named (st.each d) e)
+    by (Some x) e = refl
+
+-- a call without accesses gives no pin of its own back
+pub no-leg : (s : Setting) (g : Items) (xs : List State) (d : DomId) (r : Asked) (vs : List Seen) (so_far : List (Step × Seen)) (phase : Phase) (step : Step) → IsHere s g xs d r vs so_far phase step → WaitsForNobody r
+    → (q : Held) (n : ℕ) → step ≡ Unpin q (ByLeg n) → ⊥
+no-leg s g xs d r vs so_far phase step i waits q n is = by phase i.acts i.at.has_shown i.place
+  where
+    other : (z : Step) → Makes z ≡ Makes step → (z ≡ Unpin q (ByLeg n) → ⊥) → ⊥
+    other z e f = f (let same : z ≡ step = cc in same ∙ is)
+
+    by : (p : Phase) → action_at d p ≡ Makes step → HasShown (known_at s g d) (path (known_at s g d) d r) d r vs p → PhaseStands s g d r so_far p → ⊥
+    by (Storing gref entry) e a b = other _ e (λ f. cc)
+    by (StoringSecond gref entry) e a b = other _ e (λ f. cc)
+    by (Exchanging gref looked change) e a b = other _ e (λ f. cc)
+    by (Looking gref change more) e a b = other _ e (λ f. cc)
+    by (Changing gref change more looked) e a b = other _ e (λ f. cc)
+    by (Walking aim l at) e a b = other _ e (by-leg (λ (z : Step). z ≡ Unpin q (ByLeg n) → ⊥) (λ dom f. cc) (λ dom gref f. cc) (λ dom gref half f. cc) (λ p f. cc) l at)
+    by (Accessing c source dest) e a b = other _ e (λ f. cc)
+    by (Asking dom question) e a b = other _ e (λ f. cc)
+    by (Last last verdict) e a b = other _ e (by-quiet (λ (z : Step). z ≡ Unpin q (ByLeg n) → ⊥) (λ p handle f. cc) (λ gref half word f. cc) (λ version frames f. cc) (λ dom frame off len. (λ f. cc, λ f. cc)) last a.0)
+    by (Ending pins verdict) e a (inl none) = let f : Done verdict ≡ Makes step = sym (ap (λ (l : List Held). next_to_give l verdict) none) ∙ e in cc
+    by (Ending pins verdict) e a (inr copy) = absurd (subst WaitsForNobody copy.1 waits)
+
+pub within : (c : Config) (may : AllowRelation) (k : Layout) (g : Items) (d : DomId) (cl : Underway) (step : Step) → k ≡ layout_of c → StandsHere (setting_of c may) g d cl step → IsOnWords step
+    → ((p : Held) (holder : Holder) → step ≡ Unpin p holder → HasDomain k p.dom × (p.gref.0 < TABLE_ENTRIES)) → IsWithin k step
+within c may k g d cl step is here quiet unpinned = by step refl (each-step s g xs d cl.request (values cl) (reverse cl.steps) here.phase step here.here).0 here.here.rests
+  where
+    s : Setting
+    s = setting_of c may
+
+    xs : List State
+    xs = here.core.domains
+
+    has : (dom : DomId) → state_of xs dom.0 ≢ None → HasDomain k dom
+    has dom some = has-domain c may k g xs dom is here.st.domains some
+
+    granted : (gref : GrantRef) (entry : EntryOf) → cl.request ≡ Grant gref entry → begun (known_at s g d) d cl.request ≡ None → gref.0 < TABLE_ENTRIES
+    granted gref entry e none = let o = opens (known_at s g d) d (Grant gref entry) (subst (λ (z : Asked). begun (known_at s g d) d z ≡ None) e none) in
+        let le : size_of (table_at s g d) ≤ TABLE_ENTRIES = (table-fits _ (here.st.domains.tables d)).0 in let lt = o.in_table in omega arith
+
+    by : (z : Step) → step ≡ z → InCore xs d z → Rests (known_at s g d) d cl.request (pins_at here.phase) (values cl) (Makes z) → IsWithin k z
+    by (LookHeader dom) e w r = has dom w
+    by (LookControl dom gref) e w r = (has dom w.0, w.1)
+    by (LookBody dom gref half) e w r = (has dom w.0, w.1)
+    by (PinStep p) e w r = (has p.dom w.0, w.1)
+    by (Unpin p holder) e w r = unpinned p holder e
+    by (StoreBody gref FirstHalf word) e w r = granted gref r.1.0 r.1.1 r.0
+    by (StoreBody gref SecondHalf word) e w r = granted gref r.1.0 r.1.1 r.0
+    by (StoreHeader version frames) e w r = tt
+    by (Exchange gref looked change) e w r = w.1
+    by (ReadBytes dom frame off len) e w r = absurd (subst IsOnWords e quiet)
+    by (WriteBytes dom frame off len) e w r = absurd (subst IsOnWords e quiet)
+    by (CopyBytes from to len) e w r = absurd (subst IsOnWords e quiet)
+
+-- the step and its item
+
+module _ (c : Config) (may : AllowRelation) (k : Layout) (g : Items) (h : History) (i : ℕ) (is : k ≡ layout_of c) (limits : IsWithinLimits c) (inside : i < k.domains) (agree : Agree (setting_of c may) k g h) (answer : Option Answer)
+    (cl : Underway) (step : Step) (here : StandsHere (setting_of c may) g (dom_at k i) cl step) (waits : WaitsForNobody cl.request) (right : (seen : Seen) → IsRight (setting_of c may) g (stepped (dom_at k i) step seen answer) → IsSafe (setting_of c may) g (stepped (dom_at k i) step seen answer)) where
+  abbrev s : Setting
+  s = setting_of c may
+
+  abbrev d : DomId
+  d = dom_at k i
+
+  -- what a step leaves as it is
+  abbrev Goes : Step → SeatStep → Type 0
+  Goes z x = Agree s k (stepped d z (shown_in x) answer ∷ g) ((i, x) ∷ h)
+
+  rests : Rests (known_at s g d) d cl.request (pins_at here.phase) (values cl) (Makes step)
+  rests = here.here.rests
+
+  turned : (q : GrantRef) (looked : ℕ) (change : Change) → Rests (known_at s g d) d cl.request (pins_at here.phase) (values cl) (Makes (Exchange q looked change)) → IsTurned change (entry_at g d.0 q.0)
+  turned q looked (Publish entry) r = tt
+  turned q looked ToInvalid r = tt
+  turned q looked ToWithdrawn r = tt
+  turned q looked ToReadOnly r = let o = opens (known_at s g d) d (Demote q) (subst (λ (z : Asked). begun (known_at s g d) d z ≡ None) r.1.0 r.0) in (o.not_already, o.valid)
+  turned q looked ToWritable r = let o = opens (known_at s g d) d (Promote q) (subst (λ (z : Asked). begun (known_at s g d) d z ≡ None) r.1.0 r.0) in
+      ((let e : not (is_read_only (entry_at g d.0 q.0)) ≡ false = o.not_already in by (is_read_only (entry_at g d.0 q.0)) e), o.valid)
+    where
+      by : (b : Bool) → not b ≡ false → b ≡ true
+      by true e = refl
+      by false e = sym e
+
+  idle : (q : GrantRef) (change : Change) → IsSafeChange g d.0 q.0 change → IsIdleFor change (reads_at g d.0 q.0) (writes_at g d.0 q.0)
+  idle q (Publish entry) safe = (safe.2, safe.3)
+  idle q ToInvalid safe = safe
+  idle q ToWithdrawn safe = tt
+  idle q ToReadOnly safe = tt
+  idle q ToWritable safe = tt
+
+  goes : (z : Step) (x : SeatStep) → step ≡ z → Rests (known_at s g d) d cl.request (pins_at here.phase) (values cl) (Makes z) → IsThe k i z x → IsWithin k z → StoresChange k h x → Says x (word_after k h (place_of x))
+      → IsRight s g (stepped d step (shown_in x) answer) → Goes z x
+  goes (LookHeader dom) (Header t (header.Looked n)) e r a w st says ok = quiet c s k g h i is limits agree inside (stepped d (LookHeader dom) (Word n) answer) (Header t (header.Looked n)) (record { changes = λ z. refl; pins = λ before ps. refl; unpins = λ ps. refl }) refl (λ z half. refl) (λ z. refl) tt
+  goes (LookControl dom q) (Entry t y (Looked n)) e r a w st says ok = quiet c s k g h i is limits agree inside (stepped d (LookControl dom q) (Word n) answer) (Entry t y (Looked n)) (record { changes = λ z. refl; pins = λ before ps. refl; unpins = λ ps. refl }) refl (λ z half. refl) (λ z. refl) tt
+  goes (LookBody dom q half) (Entry t y (ReadBody b n)) e r a w st says ok = quiet c s k g h i is limits agree inside (stepped d (LookBody dom q half) (Word n) answer) (Entry t y (ReadBody b n)) (record { changes = λ z. refl; pins = λ before ps. refl; unpins = λ ps. refl }) refl (λ z half. refl) (λ z. refl) tt
+  goes (PinStep p) (Entry t y (Pinned b v u)) e r a w st says ok =
+      subst (λ (z : SeatStep). Agree s k (pins d p answer ∷ g) ((i, z) ∷ h)) (λ j. Entry t (sym a.1 j) (Pinned (sym a.2 j) (sym a.3 j) u)) (takes-pin c s k g h i is limits agree inside p answer t u w.0 a.0 w.1)
+  goes (PinStep p) (Entry t y (PinMissed b v f n)) e r a w st says ok = quiet c s k g h i is limits agree inside (stepped d (PinStep p) (Missed n) answer) (Entry t y (PinMissed b v f n)) (record { changes = λ z. refl; pins = λ before ps. refl; unpins = λ ps. refl }) refl (λ z half. refl) (λ z. refl) tt
+  goes (Unpin p (ByMapping handle)) (Entry t y (Unpinned b u)) e r a w st says ok =
+      subst (λ (z : SeatStep). Agree s k (unpins d p (ByMapping handle) Nothing answer ∷ g) ((i, z) ∷ h)) (λ j. Entry t (sym a.1 j) (Unpinned (sym a.2 j) u))
+      (gives-back c s k g h i is limits agree inside p (ByMapping handle) Nothing answer t u w.0 a.0 w.1 (loses-mapping g d handle p r.1.1) (here.st.domains.words (dom_at k t).0 p.gref.0 w.1))
+  goes (Unpin p (ByLeg n)) (Entry t y (Unpinned b u)) e r a w st says ok = absurd (no-leg s g here.core.domains d cl.request (values cl) (reverse cl.steps) here.phase step here.here waits p n e)
+  goes (StoreBody q half n) (Entry t y (StoredBody b m)) e r a w st says ok =
+      subst (λ (z : SeatStep). Agree s k (stepped d (StoreBody q half n) Nothing answer ∷ g) ((i, z) ∷ h)) (λ j. Entry (sym a.0 j) (sym a.1 j) (StoredBody (sym a.2 j) (sym a.3 j))) (stores-body c s k g h i is limits agree inside q half n Nothing answer w)
+  goes (StoreHeader version frames) (Header t (header.Stored n)) e r a w st says ok =
+      subst (λ (z : SeatStep). Agree s k (stepped d (StoreHeader version frames) Nothing answer ∷ g) ((i, z) ∷ h)) (λ j. Header (sym a.0 j) (header.Stored (sym a.1 j))) (stores-header c s k g h i is limits agree inside version frames Nothing answer)
+  goes (Exchange q looked change) (Entry t y (Changed b v n u)) e r a w st says ok =
+      let fits = here.st.domains.words d.0 q.0 w in
+      let safe : IsSafeChange g d.0 q.0 change = subst (λ (z : Step). IsSafe s g (stepped d z Taken answer)) e (right Taken ok) in
+      let found : word_after k h (place i q.0 0) ≡ looked = (λ j. word_after k h (place (sym a.0 j) (sym a.1 j) 0)) ∙ (sym says ∙ a.3) in
+      subst (λ (z : SeatStep). Agree s k (exchanged d q looked change answer ∷ g) ((i, z) ∷ h))
+      ((λ j. Entry (sym a.0 j) (sym a.1 j) (Changed (sym a.2 j) (sym a.3 j) (changed_word (sym a.2 j) (last_at k (sym a.0 j) (sym a.1 j) h) (sym a.3 j)) (changed (sym a.2 j) (last_at k (sym a.0 j) (sym a.1 j) h)))) ∙ (λ j. Entry t y (Changed b v (sym st.0 j) (sym st.1 j))))
+      (changes-entry c s k g h i is limits agree inside q looked change answer w fits (turned q looked change r) (idle q change safe) found)
+  goes (Exchange q looked change) (Entry t y (ChangeMissed b v f n)) e r a w st says ok = quiet c s k g h i is limits agree inside (stepped d (Exchange q looked change) (Missed n) answer) (Entry t y (ChangeMissed b v f n)) (record { changes = λ z. refl; pins = λ before ps. refl; unpins = λ ps. refl }) refl (λ z half. refl) (λ z. refl) tt
+  goes z x e r a w st says ok = absurd a
+
+pub step-kept : StepsKeepAgreement
+step-kept c may k g h i cl step x answer is limits inside reached agree named call waits next within the stores says right =
+    let s = setting_of c may in let d = dom_at k i in let here = stands-here s g d cl step reached named call next in
+    goes c may k g h i is limits inside agree answer cl step here waits (λ seen ok. of-safe s g (stepped d step seen answer) step seen (open_call g d.0) ok) step x refl here.here.rests the within stores says right

@@ -1,0 +1,81 @@
+-- When the items of the core and the steps of the words have made the same of all entries and headers.
+use Rattle.std.specs.Prelude.{◌≡◌, ℕ, ◌<◌}
+use Rattle.gt_types.specs.declared.limits.TheConstants.{TABLE_ENTRIES}
+use Rattle.gt_entry.specs.Words.{header_word}
+use Rattle.gt_entry.specs.declared.change.Half.{Half}
+use Rattle.gt_words.specs.Conditions.{HasDomain}
+use Rattle.gt_words.specs.Controls.{generation_of}
+use Rattle.gt_words.specs.History.{History, Layout, half_index, part_of, word_after}
+use Rattle.gt_words.specs.Rule.{header_place, id_at, place, position_in}
+use Rattle.gt_words.specs.Steps.{changed, changed_word}
+use Rattle.gt_words.specs.Views.{entry_steps, last_record}
+use Rattle.gt_words.specs.declared.view.EntryRecord.{EntryRecord}
+use Rattle.gt_words.specs.declared.view.EntryStep.TheVariants.{Looked, ReadBody, Pinned, PinMissed, Unpinned}
+use Rattle.gt_words.specs.declared.view.EntryStep.TheVariants.{StoredBody, Changed, ChangeMissed}
+use Rattle.gt_words.specs.declared.view.HeaderStep.TheVariants as header
+use Rattle.gt_words.specs.declared.view.SeatStep.{SeatStep}
+use Rattle.gt_words.specs.declared.view.SeatStep.TheVariants.{Entry, Header}
+use Rattle.gt_types.specs.declared.DomId.{DomId}
+use Rattle.gt_calls.specs.declared.action.Step.{Step}
+use Rattle.gt_calls.specs.declared.action.Step.TheVariants.{LookHeader, LookControl, LookBody, Pin as PinStep, Unpin}
+use Rattle.gt_calls.specs.declared.action.Step.TheVariants.{StoreBody, StoreHeader, Exchange}
+use Rattle.gt_core.specs.History.{History as Items, Setting, body_at, entry_at, generation_at, table_at, word_at}
+
+-- the domain at a position (own)
+abbrev pub dom_at : Layout → ℕ → DomId
+dom_at k t = id_at k.ids t
+
+-- The items and the history have made the same: of each entry the control word, the body words, and the entry and
+-- generation that its owner knows, and of each table its header (own)
+pub record Agree (s : Setting) (k : Layout) (g : Items) (h : History) : Type 0 where
+  pub words : (t r : ℕ) → t < k.domains → r < TABLE_ENTRIES → word_at s g (dom_at k t).0 r ≡ word_after k h (place t r 0)
+  pub bodies : (t r : ℕ) (half : Half) → t < k.domains → r < TABLE_ENTRIES
+      → body_at g (dom_at k t).0 r half ≡ word_after k h (place t r (half_index half))
+  pub headers : (t : ℕ) → t < k.domains → header_word (table_at s g (dom_at k t)) ≡ word_after k h (header_place t)
+  pub entries : (t r : ℕ) → t < k.domains → r < TABLE_ENTRIES
+      → entry_at g (dom_at k t).0 r ≡ (last_record k.first (entry_steps t r (part_of t h))).entry
+  pub generations : (t r : ℕ) → t < k.domains → r < TABLE_ENTRIES
+      → generation_at s g (dom_at k t).0 r ≡ (last_record k.first (entry_steps t r (part_of t h))).generation
+
+-- the step of a call by the domain at the position i is this step of its seat: on the same word, of the same kind, and
+-- an exchange from the same word, whether it was taken or missed (own)
+abbrev pub IsThe : Layout → ℕ → Step → SeatStep → Type 0
+IsThe k i (LookHeader d) (Header t (header.Looked n)) = t ≡ position_in k.ids d
+IsThe k i (LookControl d q) (Entry t r (Looked n)) = (t ≡ position_in k.ids d) × (r ≡ q.0)
+IsThe k i (LookBody d q half) (Entry t r (ReadBody h n)) = (t ≡ position_in k.ids d) × (r ≡ q.0) × (h ≡ half)
+IsThe k i (PinStep p) (Entry t r (Pinned d e x)) =
+    (t ≡ position_in k.ids p.dom) × (r ≡ p.gref.0) × (d ≡ p.dir) × (e ≡ p.word)
+IsThe k i (PinStep p) (Entry t r (PinMissed d e f n)) =
+    (t ≡ position_in k.ids p.dom) × (r ≡ p.gref.0) × (d ≡ p.dir) × (e ≡ p.word)
+IsThe k i (Unpin p holder) (Entry t r (Unpinned d g)) =
+    (t ≡ position_in k.ids p.dom) × (r ≡ p.gref.0) × (d ≡ p.dir) × (g ≡ generation_of p.word)
+IsThe k i (StoreBody q half n) (Entry t r (StoredBody h m)) = (t ≡ i) × (r ≡ q.0) × (h ≡ half) × (m ≡ n)
+IsThe k i (StoreHeader version frames) (Header t (header.Stored n)) =
+    (t ≡ i) × (n ≡ header_word (record { version = version; frames = frames }))
+IsThe k i (Exchange q looked change) (Entry t r (Changed c e n x)) =
+    (t ≡ i) × (r ≡ q.0) × (c ≡ change) × (e ≡ looked)
+IsThe k i (Exchange q looked change) (Entry t r (ChangeMissed c e f n)) =
+    (t ≡ i) × (r ≡ q.0) × (c ≡ change) × (e ≡ looked)
+IsThe k i _ _ = ⊥
+
+-- the step is on words of the run's entries and headers (own)
+abbrev pub IsWithin : Layout → Step → Type 0
+IsWithin k (LookHeader d) = HasDomain k d
+IsWithin k (LookControl d q) = HasDomain k d × (q.0 < TABLE_ENTRIES)
+IsWithin k (LookBody d q half) = HasDomain k d × (q.0 < TABLE_ENTRIES)
+IsWithin k (PinStep p) = HasDomain k p.dom × (p.gref.0 < TABLE_ENTRIES)
+IsWithin k (Unpin p holder) = HasDomain k p.dom × (p.gref.0 < TABLE_ENTRIES)
+IsWithin k (StoreBody q half n) = q.0 < TABLE_ENTRIES
+IsWithin k (Exchange q looked change) = q.0 < TABLE_ENTRIES
+IsWithin k (StoreHeader version frames) = Unit {0}
+IsWithin k step = ⊥
+
+-- the owner's last record of the entry r of the domain at the position t, as the history makes it (own)
+abbrev pub last_at : Layout → ℕ → ℕ → History → EntryRecord
+last_at k t r h = last_record k.first (entry_steps t r (part_of t h))
+
+-- a taken exchange stored the word and the record that its change makes of the last record (own)
+abbrev pub StoresChange : Layout → History → SeatStep → Type 0
+StoresChange k h (Entry t r (Changed c e n x)) =
+    (n ≡ changed_word c (last_at k t r h) e) × (x ≡ changed c (last_at k t r h))
+StoresChange k h x = Unit {0}

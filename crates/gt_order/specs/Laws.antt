@@ -1,0 +1,52 @@
+-- What follows of runs, and of the steps of the words beside the items of the core.
+use Rattle.std.specs.Prelude.{◌≡◌, ◌≢◌, ℕ, ◌<◌, ◌∷◌, Option, Some, None}
+use Rattle.atomic_table.specs.Table.{State}
+use Rattle.gt_types.specs.Config.{IsWithinLimits}
+use Rattle.gt_types.specs.Names.{domain_of}
+use Rattle.gt_types.specs.declared.config.Config.{Config}
+use Rattle.gt_words.specs.Conditions.{Board}
+use Rattle.gt_words.specs.History.{History, Layout, Says, place_of, word_after}
+use Rattle.gt_words.specs.Rule.{layout_of}
+use Rattle.gt_words.specs.declared.view.SeatStep.{SeatStep}
+use Rattle.gt_words.specs.declared.view.View.{View}
+use Rattle.gt_calls.specs.Path.{path}
+use Rattle.gt_calls.specs.declared.action.Action.TheVariants.{Step as Makes}
+use Rattle.gt_calls.specs.declared.action.Step.{Step}
+use Rattle.gt_core.specs.GoingOn.{IsReached}
+use Rattle.gt_core.specs.History.{History as Items, Underway, known_at, open_call, seen_by, values}
+use Rattle.gt_core.specs.Legal.{IsRight}
+use Rattle.gt_core.specs.Standing.{setting_of}
+use Rattle.gt_core.specs.declared.trace.Answer.{Answer}
+use Rattle.gt_core.specs.declared.trace.Happened.TheVariants.{Stepped}
+use Rattle.gt_core.specs.declared.trace.Item.{Item}
+use Rattle.gt_live.specs.Domains.{AllowRelation}
+use Rattle.gt_live.specs.Ending.{WaitsForNobody}
+use Rattle.gt_live.specs.Walks.{shown_in}
+use Rattle.gt_order.specs.Agreeing.{Agree, IsThe, IsWithin, StoresChange, dom_at}
+use Rattle.gt_order.specs.Ordering.{IsLegalOrder}
+use Rattle.gt_order.specs.Runs.{IsRun, SeatRun}
+
+-- where items and history agree, the core's step sees what the words' step shows, if that says what is there (own)
+abbrev pub CoreSeesTheWords : Type 0
+CoreSeesTheWords =
+    (c : Config) (may : AllowRelation) (k : Layout) (g : Items) (h : History) (i : ℕ) (step : Step) (x : SeatStep)
+    → k ≡ layout_of c → Agree (setting_of c may) k g h → i < k.domains → IsWithin k step → IsThe k i step x
+    → Says x (word_after k h (place_of x)) → seen_by (setting_of c may) g (dom_at k i) step ≡ shown_in x
+
+-- where items and history agree, and an open call's next step was made by its seat, they agree after it too (own)
+abbrev pub StepsKeepAgreement : Type 0
+StepsKeepAgreement =
+    (c : Config) (may : AllowRelation) (k : Layout) (g : Items) (h : History) (i : ℕ) (call : Underway) (step : Step)
+    (x : SeatStep) (answer : Option Answer) → k ≡ layout_of c → IsWithinLimits c → i < k.domains
+    → let s = setting_of c may in let d = dom_at k i in
+    let item : Item = record { actor = d; happened = Stepped step (shown_in x); answer = answer } in
+    IsReached s g → Agree s k g h → domain_of s.domains d ≢ None → open_call g d.0 ≡ Some call
+    → WaitsForNobody call.request → path (known_at s g d) d call.request (values call) ≡ Some (Makes step)
+    → IsWithin k step → IsThe k i step x → StoresChange k h x → Says x (word_after k h (place_of x))
+    → IsRight s g item → Agree s k (item ∷ g) ((i, x) ∷ h)
+
+-- each run of the monitor has a legal order (own)
+abbrev pub RunsHaveLegalOrders : Type 0
+RunsHaveLegalOrders =
+    (b : Board) (c : Config) (may : AllowRelation) (s : State (Unit {0}) View) (seats : ℕ → SeatRun)
+    (run : IsRun b c may s seats) → (g : Items) × IsLegalOrder c may b.layout run.shown.history seats g

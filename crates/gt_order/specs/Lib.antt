@@ -1,0 +1,4 @@
+pub mod Runs
+pub mod Agreeing
+pub mod Ordering
+pub mod Laws

@@ -1,0 +1,118 @@
+-- The items of a run: the steps of its history in their order, and the beginnings of its calls between them.
+use Rattle.std.specs.Prelude.{◌≡◌, ℕ, ◌<◌, ◌==◌, if◌then◌else◌, List, [], ◌∷◌, ◌++◌, Option, Some, None}
+use Rattle.gt_types.specs.declared.DomId.{DomId}
+use Rattle.gt_types.specs.declared.config.Config.{Config}
+use Rattle.gt_words.specs.History.{History, Layout, Moment}
+use Rattle.gt_calls.specs.Path.{Continuation, path_of}
+use Rattle.gt_calls.specs.declared.action.Action.{Action}
+use Rattle.gt_calls.specs.declared.action.Action.TheVariants.{Step as Makes}
+use Rattle.gt_calls.specs.declared.action.Seen.{Seen}
+use Rattle.gt_calls.specs.declared.action.Step.{Step}
+use Rattle.gt_calls.specs.declared.action.Step.TheVariants.{LookHeader}
+use Rattle.gt_calls.specs.declared.request.Request.{Request}
+use Rattle.gt_core.specs.GoingOn.{IsReached}
+use Rattle.gt_core.specs.History.{History as Items}
+use Rattle.gt_core.specs.Legal.{Legal}
+use Rattle.gt_core.specs.Standing.{answer_of, setting_of}
+use Rattle.gt_core.specs.declared.trace.Answer.{Answer}
+use Rattle.gt_core.specs.declared.trace.Answer.TheVariants.{Mapped as MappedAnswer}
+use Rattle.gt_core.specs.declared.trace.Element.{Element}
+use Rattle.gt_core.specs.declared.trace.Element.TheVariants.{Item as Did}
+use Rattle.gt_core.specs.declared.trace.Event.{Event}
+use Rattle.gt_core.specs.declared.trace.Event.TheVariants.{Begin, Tick}
+use Rattle.gt_core.specs.declared.trace.Happened.{Happened}
+use Rattle.gt_core.specs.declared.trace.Happened.TheVariants.{Began, Stepped}
+use Rattle.gt_core.specs.declared.trace.Item.{Item}
+use Rattle.gt_live.specs.Domains.{AllowRelation, knowledge}
+use Rattle.gt_live.specs.Walks.{shown, shown_by, shown_in}
+use Rattle.gt_order.specs.Agreeing.{IsThe, dom_at}
+use Rattle.gt_order.specs.Runs.{CallMade, Outcome, SeatRun}
+use Rattle.gt_order.specs.Runs.Outcome.{Told, Kept, Starved}
+
+-- the steps among the items are those of the history, one by one in the same order, each by its seat's domain, and it
+-- saw what the history's step shows (own)
+abbrev pub ThenSteps : Layout → DomId → Happened → (History → Type 0) → History → Type 0
+ThenSteps k d (Began request) rest h = rest h
+ThenSteps k d (Stepped step seen) rest [] = ⊥
+ThenSteps k d (Stepped step seen) rest (p ∷ h) =
+    (d ≡ dom_at k p.0) × IsThe k p.0 step p.1 × (seen ≡ shown_in p.1) × rest h
+
+abbrev pub AreStepsOf : Layout → Items → History → Type 0
+AreStepsOf k [] h = h ≡ []
+AreStepsOf k (i ∷ g) h = ThenSteps k i.actor i.happened (AreStepsOf k g) h
+
+-- the step that comes next; on the way of a call there is always one where it made one (own)
+abbrev pub step_in : Option Action → Step
+step_in (Some (Makes step)) = step
+step_in action = LookHeader (record { 0 = 0 })
+
+-- the item of a step of a call by the domain d, after those that showed these values, with the answer if it ends the
+-- call (own)
+abbrev pub item_of : DomId → Continuation → List Seen → Moment → Option Answer → Item
+item_of d way before x answer =
+    record { actor = d; happened = Stepped (step_in (way before)) (shown_by x); answer = answer }
+
+-- the items of these steps of a call, the last step first, which has the answer (own)
+abbrev pub items_of_steps : DomId → Continuation → Option Answer → List Moment → List Item
+items_of_steps d way answer [] = []
+items_of_steps d way answer (x ∷ xs) = item_of d way (shown xs) x answer ∷ items_of_steps d way None xs
+
+-- the item of a beginning (own)
+abbrev pub item_of_beginning : DomId → Request → Option Answer → Item
+item_of_beginning d request answer = record { actor = d; happened = Began request; answer = answer }
+
+-- the items of a call that made these steps: a call without a step ends at its beginning, and else its last step has the
+-- answer (own)
+abbrev pub items_of_call : DomId → Continuation → Request → Option Answer → List Moment → List Item
+items_of_call d way request answer [] = item_of_beginning d request answer ∷ []
+items_of_call d way request answer (x ∷ xs) =
+    items_of_steps d way answer (x ∷ xs) ++ item_of_beginning d request None ∷ []
+
+-- how the core answers a call that was answered so (own)
+abbrev pub answer_to : Outcome → Option Answer
+answer_to (Told verdict) = Some (answer_of verdict)
+answer_to (Kept handle p) = Some (MappedAnswer handle)
+answer_to Starved = None
+
+-- the items of a call with this outcome: none of one that was refused for want of memory (own)
+abbrev pub items_by_outcome : DomId → Continuation → Request → Outcome → List Moment → List Item
+items_by_outcome d way request Starved steps = []
+items_by_outcome d way request outcome steps = items_of_call d way request (answer_to outcome) steps
+
+-- the way of a call (own)
+abbrev pub way_of : Config → AllowRelation → CallMade → Continuation
+way_of c may m = path_of (knowledge c may m.old) m.old.seat.dom m.request
+
+-- the items of the calls of the domain d, the last one first (own)
+abbrev pub items_of_calls : Config → AllowRelation → DomId → List CallMade → List Item
+items_of_calls c may d [] = []
+items_of_calls c may d (m ∷ ms) =
+    items_by_outcome d (way_of c may m) m.request m.outcome m.steps ++ items_of_calls c may d ms
+
+-- the items of one domain (own)
+abbrev pub items_by : DomId → Items → List Item
+items_by d [] = []
+items_by d (i ∷ g) = if i.actor.0 == d.0 then i ∷ items_by d g else items_by d g
+
+-- the event of an item (own)
+abbrev pub event_in : DomId → Happened → Event
+event_in d (Began request) = Begin d request
+event_in d (Stepped step seen) = Tick d
+
+-- the events of items, the first one first, and the trace that they are (own)
+abbrev pub events_of : Items → List Event
+events_of [] = []
+events_of (i ∷ g) = events_of g ++ event_in i.actor i.happened ∷ []
+
+abbrev pub trace_of : Items → List Element
+trace_of [] = []
+trace_of (i ∷ g) = trace_of g ++ Did i ∷ []
+
+-- The items are a legal order of the run's calls: a core stands for them, their trace is legal for their events, their
+-- steps are those of the history in its order, and those of each domain are the items of its calls (own)
+pub record IsLegalOrder (c : Config) (may : AllowRelation) (k : Layout) (h : History) (seats : ℕ → SeatRun)
+    (g : Items) : Type 0 where
+  pub reached : IsReached (setting_of c may) g
+  pub legal : Legal (setting_of c may) (events_of g) (trace_of g)
+  pub steps : AreStepsOf k g h
+  pub calls : (i : ℕ) → i < k.domains → items_by (dom_at k i) g ≡ items_of_calls c may (dom_at k i) (seats i).calls

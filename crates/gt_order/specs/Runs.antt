@@ -1,0 +1,123 @@
+-- A run of the monitor: the order of all steps of all seats, and for each domain the calls that it made.
+use Rattle.std.specs.Prelude.{◌≡◌, ℕ, ◌<◌, List, [], ◌∷◌, length, None}
+use mathlib.Core.Option.{some}
+use lib.ListN.{get_elem?}
+use Rattle.atomic_table.specs.Table.{State}
+use Rattle.gt_types.specs.Config.{IsWithinLimits}
+use Rattle.gt_types.specs.declared.config.Config.{Config}
+use Rattle.gt_words.specs.Conditions.{Board, IsSameSeat}
+use Rattle.gt_words.specs.History.{Moment}
+use Rattle.gt_words.specs.Rule.{Shows, layout_of}
+use Rattle.gt_words.specs.declared.view.View.{View}
+use Rattle.gt_handles.specs.Handles.{HandleMap}
+use Rattle.gt_handles.specs.declared.handles.Handle.{Handle}
+use Rattle.gt_calls.specs.Asking.{FitsAsked, IsSaid, asked, begun_of}
+use Rattle.gt_calls.specs.Path.{path_of}
+use Rattle.gt_calls.specs.declared.action.Verdict.{Verdict}
+use Rattle.gt_calls.specs.declared.action.Verdict.TheVariants.{Mapped, Refused}
+use Rattle.gt_calls.specs.declared.held.Held.{Held}
+use Rattle.gt_calls.specs.declared.request.Asked.{Asked}
+use Rattle.gt_calls.specs.declared.request.Asked.TheVariants as asks
+use Rattle.gt_calls.specs.declared.request.Request.{Request}
+use Rattle.gt_live.specs.Domains.{AllowRelation, IsDomainOf, knowledge}
+use Rattle.gt_live.specs.Ending.{IsMap, WaitsForNobody}
+use Rattle.gt_live.specs.Mappings.{Adds, KeepsMappings, Removes}
+use Rattle.gt_live.specs.Starting.{IsNewDomain}
+use Rattle.gt_live.specs.Walks.{Called}
+use Rattle.gt_live.specs.declared.domain.Domain.{Domain}
+
+-- how a call was answered: as its path ends, by a mapping under a handle, or by a refusal for want of memory (own)
+pub data Outcome : Type 0 where
+  Told : Verdict → Outcome
+  Kept : Handle → Held → Outcome
+  Starved : Outcome
+
+-- a finished call of a domain: what it asked, how it was answered, the steps that it made, each with its moment and the
+-- last one first, and the domain before it and after it (own)
+pub record CallMade : Type 0 where
+  pub request : Request
+  pub outcome : Outcome
+  pub steps : List Moment
+  pub old : Domain
+  pub new : Domain
+
+-- the mappings after a call that was answered so by its path: an unmap that is not refused gives one up, and no other
+-- call changes any (own)
+abbrev pub LeavesMappings : Asked → Verdict → HandleMap Held → HandleMap Held → Type 0
+LeavesMappings (asks.Unmap handle) (Refused denial) old new = KeepsMappings old new
+LeavesMappings (asks.Unmap handle) verdict old new = (p : Held) × Removes old new handle p
+LeavesMappings request verdict old new = KeepsMappings old new
+
+-- a verdict that keeps no pin (own)
+abbrev pub KeepsNoPin : Verdict → Type 0
+KeepsNoPin (Mapped p) = ⊥
+KeepsNoPin verdict = Unit {0}
+
+-- the call took its seat's view from the one to the other by these steps of its path, which ends with this verdict (own)
+abbrev pub TookSteps : Board → Config → AllowRelation → Request → Verdict → List Moment → Domain → Domain → Type 0
+TookSteps b c may request verdict steps d e =
+    (called : Called b.layout (path_of (knowledge c may d) d.seat.dom request) verdict d.seat.view e.seat.view)
+    × (called.steps ≡ steps)
+
+-- the call was answered as its path ends; one that is refused for want of memory made no step (own)
+abbrev pub IsAnswered : Board → Config → AllowRelation → Request → Outcome → List Moment → Domain → Domain → Type 0
+IsAnswered b c may request (Told verdict) steps d e =
+    KeepsNoPin verdict × TookSteps b c may request verdict steps d e
+    × LeavesMappings (asked request) verdict d.mappings e.mappings
+IsAnswered b c may request (Kept handle p) steps d e =
+    IsMap (asked request) × TookSteps b c may request (Mapped p) steps d e × Adds d.mappings e.mappings handle p
+IsAnswered b c may request Starved steps d e =
+    (steps ≡ []) × (e.seat.view ≡ d.seat.view) × KeepsMappings d.mappings e.mappings
+
+-- what the types of a request give: each number of an entry fits, and bytes that no rule refuses spell an entry (own)
+abbrev pub FitsTypes : Config → AllowRelation → Domain → Request → Type 0
+FitsTypes c may d request =
+    FitsAsked (asked request)
+    × (begun_of (knowledge c may d) d.seat.dom request ≡ None → IsSaid (knowledge c may d).header request)
+
+-- The call is one that waits for nobody, and was made as the contract of its function of Domain says (own)
+pub record IsCall (b : Board) (c : Config) (may : AllowRelation) (m : CallMade) : Type 0 where
+  pub before : IsDomainOf b c may m.old
+  pub afterwards : IsDomainOf b c may m.new
+  pub seat : IsSameSeat m.old.seat m.new.seat
+  pub waits : WaitsForNobody (asked m.request)
+  pub fits : FitsTypes c may m.old m.request
+  pub answered : IsAnswered b c may m.request m.outcome m.steps m.old m.new
+
+-- between two calls the domain changed nothing but its records (own)
+pub record IsAtRest (d e : Domain) : Type 0 where
+  pub seat : e.seat ≡ d.seat
+  pub own : e.own ≡ d.own
+  pub mappings : e.mappings ≡ d.mappings
+
+-- what a domain did: the domain as it came with the monitor, and its calls, the last one first (own)
+pub record SeatRun : Type 0 where
+  pub first : Domain
+  pub calls : List CallMade
+
+-- the domain after these calls (own)
+abbrev pub domain_after : Domain → List CallMade → Domain
+domain_after first [] = first
+domain_after first (m ∷ ms) = m.new
+
+-- these calls were made one after another, the last one first (own)
+abbrev pub AreCalls : Board → Config → AllowRelation → Domain → List CallMade → Type 0
+AreCalls b c may first [] = Unit {0}
+AreCalls b c may first (m ∷ ms) =
+    IsCall b c may m × IsAtRest (domain_after first ms) m.old × AreCalls b c may first ms
+
+-- the domain at the position i began with nothing done, and made these calls; its view is now this (own)
+pub record IsSeatRun (b : Board) (c : Config) (may : AllowRelation) (i : ℕ) (r : SeatRun) (views : List View)
+    : Type 0 where
+  pub starts : IsNewDomain b c may i r.first
+  pub calls : AreCalls b c may r.first r.calls
+  pub now : get_elem? views i ≡ some (domain_after r.first r.calls).seat.view
+
+-- A run of the monitor whose domains all stand between two calls: words and views show a state, each domain came with
+-- the monitor, made its calls one after another, and has the view that it has there (own)
+pub record IsRun (b : Board) (c : Config) (may : AllowRelation) (s : State (Unit {0}) View) (seats : ℕ → SeatRun)
+    : Type 0 where
+  pub limits : IsWithinLimits c
+  pub layout : b.layout ≡ layout_of c
+  pub shown : Shows b.layout s
+  pub each : (i : ℕ) → i < length c.domains.items → IsSeatRun b c may i (seats i) s.views
