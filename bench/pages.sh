@@ -112,7 +112,7 @@ END
 }
 
 # A text inside single quotes of zsh, where `[`, `]` and `:` are of the language.
-zsh_text() { printf '%s' "$1" | sed -e "s/'/'\\\\''/g" -e 's/[][:\\]/\\&/g'; }
+zsh_text() { printf '%s' "$1" | sed -e "s/'/'\\\\''/g" -e 's/[]:\\[]/\\&/g'; }
 
 zsh_completion() {
   local command what flag value

@@ -1,0 +1,39 @@
+# Completion of gthost for bash. Made by bench/pages.sh from the texts of --help.
+_gthost() {
+  local word="${COMP_WORDS[COMP_CWORD]}" before="${COMP_WORDS[COMP_CWORD - 1]}" words=""
+  if [ "$COMP_CWORD" -eq 1 ]; then
+    words="play run policy rules check why entries --help --version"
+    mapfile -t COMPREPLY < <(compgen -W "$words" -- "$word")
+    return
+  fi
+  case "${COMP_WORDS[1]} $before" in
+    "play --audit") mapfile -t COMPREPLY < <(compgen -W "" -- "$word"); return ;;
+    "play --help") mapfile -t COMPREPLY < <(compgen -W "" -- "$word"); return ;;
+    "run --audit") mapfile -t COMPREPLY < <(compgen -W "" -- "$word"); return ;;
+    "run --help") mapfile -t COMPREPLY < <(compgen -W "" -- "$word"); return ;;
+    "policy --help") mapfile -t COMPREPLY < <(compgen -W "" -- "$word"); return ;;
+    "rules --help") mapfile -t COMPREPLY < <(compgen -W "" -- "$word"); return ;;
+    "check --format") mapfile -t COMPREPLY < <(compgen -W "text json" -- "$word"); return ;;
+    "check --help") mapfile -t COMPREPLY < <(compgen -W "" -- "$word"); return ;;
+    "why --help") mapfile -t COMPREPLY < <(compgen -W "" -- "$word"); return ;;
+    "entries --hex") mapfile -t COMPREPLY < <(compgen -W "" -- "$word"); return ;;
+    "entries --all") mapfile -t COMPREPLY < <(compgen -W "" -- "$word"); return ;;
+    "entries --version") mapfile -t COMPREPLY < <(compgen -W "1 2" -- "$word"); return ;;
+    "entries --script") mapfile -t COMPREPLY < <(compgen -W "" -- "$word"); return ;;
+    "entries --help") mapfile -t COMPREPLY < <(compgen -W "" -- "$word"); return ;;
+  esac
+  case "${COMP_WORDS[1]}" in
+    play) words="--audit --help" ;;
+    run) words="--audit --help" ;;
+    policy) words="--help" ;;
+    rules) words="--help" ;;
+    check) words="--format --help" ;;
+    why) words="--help" ;;
+    entries) words="--hex --all --version --script --help" ;;
+  esac
+  case "$word" in
+    -*) mapfile -t COMPREPLY < <(compgen -W "$words" -- "$word") ;;
+    *) mapfile -t COMPREPLY < <(compgen -f -- "$word") ;;
+  esac
+}
+complete -o filenames -F _gthost gthost
