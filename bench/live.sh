@@ -3,9 +3,10 @@
 # program in C that keeps its entries as Xen keeps them, under a lock for the table and one for each entry: the
 # table's lock with its readers in one word, or spread over a word for each thread. Whole calls are recorded (`on`),
 # recorded into room that was made before the first call (`ahead`), or not recorded (`off`). Prints millions of
-# operations a second (a map or an unmap is one), how many times longer a round of each kind of whole calls takes than
-# one of bare words, and the ratios of each kind to C with one word. Below the table are the instructions of a round
-# on one thread, as valgrind counts them.
+# operations a second (a map, an unmap, a revocation, a withdrawal or a grant is one), how many times longer a round of
+# each kind of whole calls takes than one of bare words, and the ratios of each kind to C with one word. An owner that
+# revokes and grants, or withdraws and grants, is timed alone. Below the table are the instructions of a round on one
+# thread, as valgrind counts them, and those of whole calls in a run of 64 domains.
 #
 # A second table has the loads of bytes: thousands of loads, stores and copies a second, beside a program in C with a
 # mutex for each frame (`live_bytes.c`), without a journal and with one, and the ratio to each. What C loses by its
@@ -42,6 +43,7 @@ movers=(live_bench plain journal)
 rounds_of() {
   case "$1 $2" in
     *" load-"* | plain*) echo 500000 ;;
+    *" grants" | *" withdrawals") echo 200000 ;; # generations end them soon after a million
     *" "*-64) echo 100000 ;;
     *" "*-4096) echo 10000 ;;
     live_bench-on* | live_bench-ahead*) echo 200000 ;; # 400,000 records, for which `live_bench` makes room ahead
@@ -87,7 +89,7 @@ least_times() {
 # One line of the table.
 compare() {
   least_times "$1" "$2" "${programs[@]}" | awk -v load="$1" -v threads="$2" '{
-    printf "%-8s %7d", load, threads
+    printf "%-11s %7d", load, threads
     for (i = 1; i <= 6; i++) printf " %7.1f", speed[i] = 2000 * threads / $i
     for (i = 1; i <= 3; i++) printf " %7.2f", speed[4] / speed[i]
     for (i = 1; i <= 3; i++) printf " %7.2f", speed[i] / speed[5]
@@ -107,30 +109,36 @@ compare_bytes() {
 # The instructions of a round of a program on one thread.
 instructions() {
   local none some
-  none="$(counted "$1" "$2" 1000)"
-  some="$(counted "$1" "$2" 11000)"
+  none="$(counted "$1" "$2" 1000 "${@:3}")"
+  some="$(counted "$1" "$2" 11000 "${@:3}")"
   echo "$(((some - none) / 10000))"
 }
 
 counted() {
   valgrind --tool=cachegrind --cache-sim=no --cachegrind-out-file="$work/cachegrind" --log-file="$work/log" \
-    "$work/${1%-*}" "$2" 1 "$3" $(audit_of "$1") >/dev/null
+    "$work/${1%-*}" "$2" 1 "$3" $(audit_of "$1") "${@:4}" >/dev/null
   sed -n 's/.*I *refs: *//p' "$work/log" | tr -d ,
 }
 
 moves=(load-64 load-4096 store-64 store-4096 copy-64 copy-4096)
 if [ "$table" != bytes ]; then
   if [ "$runs" -gt 0 ]; then
-    printf '%-8s %7s %7s %7s %7s %7s %7s %7s %7s %7s %7s %7s %7s %7s\n' load threads on ahead off words counted spread \
+    printf '%-11s %7s %7s %7s %7s %7s %7s %7s %7s %7s %7s %7s %7s %7s\n' load threads on ahead off words counted spread \
       w/on w/ahead w/off on/c ahead/c off/c
     for load in apart adjacent; do
       for threads in 1 2 3 4; do
         compare "$load" "$threads"
       done
     done
+    for load in grants withdrawals; do compare "$load" 1; done
   fi
-  for program in "${programs[@]}"; do
-    echo "$program: $(instructions "$program" apart) instructions a round"
+  for load in apart grants withdrawals; do
+    for program in "${programs[@]}"; do
+      echo "$load, $program: $(instructions "$program" "$load") instructions a round"
+    done
+    for program in live_bench-on live_bench-ahead live_bench-off; do
+      echo "$load, $program, 64 domains: $(instructions "$program" "$load" 64) instructions a round"
+    done
   done
 fi
 if [ "$table" != calls ]; then

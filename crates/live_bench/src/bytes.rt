@@ -1,5 +1,5 @@
 //! The loads of bytes: loads and stores through mappings, and copies by reference.
-use crate::loads::{FIRST_MAPPER, MOST, OWNER, POLICY, six_domains};
+use crate::loads::{FEWEST, FIRST_MAPPER, MOST, OWNER, POLICY, run_domains};
 use crate::running::{Audit, Running, all_running};
 use anyhow::{Result, bail};
 use gt_allow::AllowTable;
@@ -160,7 +160,7 @@ pub(crate) fn run_moves<R: Threads + Wait + Sync>(
         bail!("threads: 1 to {MOST}");
     }
     let rights = AllowTable::compile(alloc, &Policy::parse(alloc, POLICY)?)?;
-    let (monitor, domains) = Monitor::new(alloc, six_domains(alloc)?, rights)?;
+    let (monitor, domains) = Monitor::new(alloc, run_domains(alloc, FEWEST)?, rights)?;
     let domains = all_running(alloc, &monitor, domains)?;
     let workers = workers(alloc, domains, threads as u16)?;
     let bytes = vec![in alloc; 0x5au8; usize::from(len)]?;

@@ -20,10 +20,15 @@ pub enum Load {
     Adjacent,
     /// The first is the owner of all entries, who revokes and grants them by turns; the others map one each.
     Grants,
+    /// The same with an owner who withdraws each entry, and grants it once it has no pin.
+    Withdrawals,
 }
 
 /// The most threads of a load.
 pub(crate) const MOST: usize = 4;
+
+/// The fewest domains of a run: the owner, one that does nothing and one for each thread.
+pub(crate) const FEWEST: u16 = 6;
 
 /// The domain that grants.
 pub(crate) const OWNER: DomId = DomId(1);
@@ -49,6 +54,7 @@ enum Part {
     Maps(GrantRef),
     /// So many entries from the first on, this far apart.
     Grants { count: u32, stride: u32 },
+    Withdraws { count: u32, stride: u32 },
 }
 
 #[derive(Drop)]
@@ -67,16 +73,13 @@ fn domain(id: u16) -> DomainConfig {
     }
 }
 
-// The owner, one that does nothing, and a domain for each thread.
-pub(crate) fn six_domains(alloc: Global) -> Result<Config, AllocError> {
-    let domains = vec![in alloc;
-        domain(1),
-        domain(2),
-        domain(3),
-        domain(4),
-        domain(5),
-        domain(6),
-    ]?;
+/// So many domains with the numbers from 1 on: the owner, one that does nothing, those of the threads, and others that do
+/// nothing.
+pub(crate) fn run_domains(alloc: Global, count: u16) -> Result<Config, AllocError> {
+    let mut domains = Vec::new(alloc);
+    'domains: for before in 0..count {
+        domains.push(domain(before + 1))?;
+    }
     Ok(Config {
         domains,
         first_gen: 0,
@@ -135,6 +138,32 @@ fn revoke_and_grant<P: Allows>(
     done
 }
 
+// Withdraws the entries by turns, and grants each again once it has no pin, so often, each time with as many tries as it
+// takes. Answers how often: less if entries are worn.
+fn withdraw_and_grant<P: Allows>(
+    owner: &mut Running<'_, P>,
+    count: u32,
+    stride: u32,
+    rounds: u32,
+) -> u32 {
+    let mut done = 0;
+    let mut withdrawn = false;
+    'rounds: for _ in 0..u64::MAX {
+        if done >= rounds || done >= LAST_GENERATION - 1 {
+            break;
+        }
+        let place = if count == 0 { 0 } else { done % count };
+        let (gref, dom) = target(place, stride);
+        if !withdrawn {
+            withdrawn = owner.withdraw(gref);
+        } else if owner.grant(gref, &page(dom)) {
+            withdrawn = false;
+            done += 1;
+        }
+    }
+    done
+}
+
 // Maps an entry and unmaps it, so often, each time with as many tries as it takes.
 fn map_and_unmap<P: Allows>(domain: &mut Running<'_, P>, gref: GrantRef, rounds: u32) -> u32 {
     let mut done = 0;
@@ -157,6 +186,9 @@ fn work<P: Allows>(worker: Worker<'_, P>, audit: Audit, rounds: u32) -> u32 {
     match part {
         Part::Maps(gref) => map_and_unmap(&mut domain, gref, rounds),
         Part::Grants { count, stride } => revoke_and_grant(&mut domain, count, stride, rounds),
+        Part::Withdraws { count, stride } => {
+            withdraw_and_grant(&mut domain, count, stride, rounds)
+        }
     }
 }
 
@@ -168,12 +200,12 @@ fn workers<'m, P: Allows>(
     threads: u32,
 ) -> Result<Vec<Worker<'m, P>>> {
     let mut domains = domains;
-    if domains.len() != 2 + MOST {
-        bail!("not six domains");
+    if domains.len() < 2 + MOST {
+        bail!("fewer than six domains");
     }
     let mut owner = domains.remove(0);
     let stride = if load == Load::Apart { APART } else { ADJACENT };
-    let grants = load == Load::Grants;
+    let grants = load == Load::Grants || load == Load::Withdrawals;
     let count = if grants {
         threads.saturating_sub(1)
     } else {
@@ -184,9 +216,11 @@ fn workers<'m, P: Allows>(
     }
     let mut workers = Vec::new(alloc);
     if grants {
-        let part = Part::Grants {
-            count: count.max(1),
-            stride,
+        let count = count.max(1);
+        let part = if load == Load::Withdrawals {
+            Part::Withdraws { count, stride }
+        } else {
+            Part::Grants { count, stride }
         };
         workers.push(Worker {
             domain: owner,
@@ -214,12 +248,13 @@ pub(crate) fn run<R: Threads + Sync>(
     audit: Audit,
     threads: usize,
     rounds: u32,
+    count: u16,
 ) -> Result<u64> {
     if threads == 0 || threads > MOST {
         bail!("threads: 1 to {MOST}");
     }
     let rights = AllowTable::compile(alloc, &Policy::parse(alloc, POLICY)?)?;
-    let (monitor, domains) = Monitor::new(alloc, six_domains(alloc)?, rights)?;
+    let (monitor, domains) = Monitor::new(alloc, run_domains(alloc, count)?, rights)?;
     let domains = all_running(alloc, &monitor, domains)?;
     let workers = workers(alloc, domains, load, threads as u32)?;
     let done = thread::map_vec(rt, workers, &|worker| work(worker, audit, rounds))?;

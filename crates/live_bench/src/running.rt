@@ -80,6 +80,11 @@ impl<'m, P: Allows> Running<'m, P> {
         self.domain.revoke(self.monitor, gref).is_ok()
     }
 
+    /// Withdraws an entry, and answers whether it did.
+    pub fn withdraw(&mut self, gref: GrantRef) -> bool {
+        self.domain.withdraw(self.monitor, gref).is_ok()
+    }
+
     /// Tries to map an entry for reading, and unmaps it again. Answers whether it did both.
     pub fn map_once(&mut self, dom: DomId, gref: GrantRef) -> bool {
         match self.domain.map(self.monitor, dom, gref, READ_ONLY) {
