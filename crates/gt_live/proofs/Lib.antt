@@ -20,4 +20,5 @@ pub mod Taking
 pub mod Copying
 pub mod Stopping
 pub mod Copied
+pub mod GivingUp
 mod Numbers

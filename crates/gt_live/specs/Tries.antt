@@ -1,12 +1,27 @@
 -- How often a call tries, as a number.
-use Rattle.std.specs.Prelude.{◌≡◌}
+use Rattle.std.specs.Prelude.{◌≡◌, ◌≢◌, ◌⊎◌, ℕ, List, [], ◌∷◌, ◌++◌}
 use Rattle.gt_types.specs.declared.DomId.{DomId}
 use Rattle.gt_types.specs.declared.GrantRef.{GrantRef}
 use Rattle.gt_types.specs.declared.denial.Rule.TheVariants.{N18}
+use Rattle.gt_types.specs.declared.denial.Denial.{Denial}
+use Rattle.gt_types.specs.declared.Dir.{Dir}
 use Rattle.gt_entry.specs.declared.change.Change.{Change}
+use Rattle.gt_entry.specs.declared.change.Half.{Half}
+use Rattle.gt_words.specs.History.{Moment}
+use Rattle.gt_words.specs.Rule.{Layout, position_in}
+use Rattle.gt_words.specs.Steps.{on_entry, on_header}
+use Rattle.gt_words.specs.declared.view.EntryStep.{EntryStep}
+use Rattle.gt_words.specs.declared.view.EntryStep.TheVariants.{ChangeMissed, Looked, PinMissed, ReadBody, Unpinned}
+use Rattle.gt_words.specs.declared.view.HeaderStep.TheVariants as header
+use Rattle.gt_words.specs.declared.view.SeatStep.{SeatStep}
+use Rattle.gt_words.specs.declared.view.View.{View}
+use Rattle.gt_calls.specs.declared.action.Verdict.TheVariants.{Refused}
+use Rattle.gt_calls.specs.declared.request.Request.{Request}
 use Rattle.gt_calls.specs.declared.leg.Leg.{Leg}
 use Rattle.gt_calls.specs.declared.leg.TheConstants.{MORE_TRIES}
-use Rattle.gt_calls.specs.Path.{AfterPin, AfterRefusal, entry_refusal, refused_at, tries, try_pin, turn, turns}
+use Rattle.gt_calls.specs.Path.{AfterPin, AfterRefusal, entry_refusal, path_of, refused_at, tries, try_pin, turn, turns}
+use Rattle.gt_calls.specs.Rules.{CallerKnowledge}
+use Rattle.gt_live.specs.Walks.{Called}
 
 -- a leg makes four tries: each that is missed leads to the next, and the fourth to N18 with the word that it found
 abbrev pub LegsMakeFourTries : Type 0
@@ -24,3 +39,71 @@ ChangesMakeFourTries =
     → turns change caller gref MORE_TRIES
     ≡ turn change caller gref (λ first. turn change caller gref (λ second. turn change caller gref (λ third.
     turn change caller gref (refused_at caller gref N18))))
+
+-- the steps of a call, the first first
+abbrev pub in_order : List Moment → List SeatStep
+in_order [] = []
+in_order (x ∷ xs) = in_order xs ++ x.1 ∷ []
+
+-- the last step of a try found this word, and not the one looked at: an exchange that was missed, or a second look
+abbrev pub FoundAnother : EntryStep → ℕ → ℕ → Type 0
+FoundAnother (PinMissed d expected desired n) looked found = (expected ≡ looked) × (n ≡ found) × (found ≢ looked)
+FoundAnother (ChangeMissed c expected desired n) looked found = (expected ≡ looked) × (n ≡ found) × (found ≢ looked)
+FoundAnother (Looked n) looked found = (n ≡ found) × (found ≢ looked)
+FoundAnother step looked found = ⊥
+
+-- each of these steps read a body word of the entry r of the domain at t
+abbrev pub AreReads : ℕ → ℕ → List SeatStep → Type 0
+AreReads t r [] = Unit {0}
+AreReads t r (x ∷ xs) = ((h : Half) × (n : ℕ) × (x ≡ on_entry t r (ReadBody h n))) × AreReads t r xs
+
+-- these steps are one try of the entry r of the domain at t, which was missed: a look at its control word, reads of its
+-- body words, and a last step that found another word than that look
+pub record IsMissedTry (t r : ℕ) (steps : List SeatStep) (found : ℕ) : Type 0 where
+  pub looked : ℕ
+  pub reads : List SeatStep
+  pub last : EntryStep
+  pub made : steps ≡ on_entry t r (Looked looked) ∷ (reads ++ on_entry t r last ∷ [])
+  pub bodies : AreReads t r reads
+  pub another : FoundAnother last looked found
+
+-- these steps are so many tries of it as words are listed, one after another: each was missed and found its word
+abbrev pub MissedTries : ℕ → ℕ → List ℕ → List SeatStep → Type 0
+MissedTries t r [] steps = steps ≡ []
+MissedTries t r (w ∷ ws) steps =
+    (one : List SeatStep) × (rest : List SeatStep) × (steps ≡ one ++ rest) × IsMissedTry t r one w
+    × MissedTries t r ws rest
+
+-- each of these steps gave a pin back
+abbrev pub AreUnpins : List SeatStep → Type 0
+AreUnpins [] = Unit {0}
+AreUnpins (x ∷ xs) = ((t r g : ℕ) × (d : Dir) × (x ≡ on_entry t r (Unpinned d g))) × AreUnpins xs
+
+-- tries begin here: nothing came before, or the look at the header with which a leg begins
+abbrev pub BeginsTries : List SeatStep → Type 0
+BeginsTries before =
+    (before ≡ []) ⊎ ((way : List SeatStep) × (t n : ℕ) × (before ≡ way ++ on_header t (header.Looked n) ∷ []))
+
+-- Of these steps of a call, the first first, just four were the tries of its last leg, or of its change: each was
+-- missed, the fourth by this word. Then the pins that were held went back
+pub record GaveUp (k : Layout) (dom : DomId) (gref : GrantRef) (word : ℕ) (steps : List SeatStep) : Type 0 where
+  pub before : List SeatStep
+  pub tries : List SeatStep
+  pub back : List SeatStep
+  pub all : steps ≡ before ++ (tries ++ back)
+  pub begins : BeginsTries before
+  pub first : ℕ
+  pub second : ℕ
+  pub third : ℕ
+  pub missed : MissedTries (position_in k.ids dom) gref.0 (first ∷ second ∷ third ∷ word ∷ []) tries
+  pub given_back : AreUnpins back
+
+-- a call that is refused by N18 gave up after just four tries, each of which was missed, and carries the word that the
+-- fourth found
+abbrev pub FourTriesWereMissed : Type 0
+FourTriesWereMissed =
+    (k : Layout) (c : CallerKnowledge) (caller : DomId) (request : Request) (denial : Denial) (v w : View)
+    → v.position ≡ position_in k.ids caller → (called : Called k (path_of c caller request) (Refused denial) v w)
+    → denial.rule ≡ N18
+    → (dom : DomId) × (gref : GrantRef) × (word : ℕ) × (denial ≡ entry_refusal dom gref N18 word)
+    × GaveUp k dom gref word (in_order called.steps)

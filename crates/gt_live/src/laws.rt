@@ -1,6 +1,6 @@
 //! What follows from the definitions, for readers.
 ghost use Rattle.gt_live.specs.Halves.{TwoHalvesMakeACopy};
-ghost use Rattle.gt_live.specs.Tries.{ChangesMakeFourTries, LegsMakeFourTries};
+ghost use Rattle.gt_live.specs.Tries.{ChangesMakeFourTries, FourTriesWereMissed, LegsMakeFourTries};
 
 /// A law: a leg to a pin makes four tries. Each that is missed leads to the next, and the fourth to N18 with the word
 /// that it found.
@@ -12,6 +12,12 @@ pub fn every_leg_makes_four_tries()
 /// to N18 with the word that it found.
 pub fn every_change_makes_four_tries()
     ensures { ChangesMakeFourTries }
+{}
+
+/// A law: a call that is refused by N18 made just four tries in its last leg, or of its change. Each was missed: its last
+/// step found another word than the one looked at, and the fourth the one that the refusal carries.
+pub fn every_call_that_gives_up_missed_four_tries()
+    ensures { FourTriesWereMissed }
 {}
 
 /// A law: a copy that came to its access, and whose pins were then given back, is a whole copy of its path.

@@ -45,7 +45,7 @@ part_there (q ∷ later) h p = longer (q.0 == p.0) q.1 (part_of p.0 (later ++ p 
 
 module _ (t r i : ℕ) (x : SeatStep) (h : History) where
   -- a step that is on no such entry
-  same_part : ((l : List SeatStep) → entry_steps t r (x ∷ l) ≡ entry_steps t r l) → (j : ℕ) → entry_steps t r (part_of j ((i, x) ∷ h)) ≡ entry_steps t r (part_of j h)
+  pub same_part : ((l : List SeatStep) → entry_steps t r (x ∷ l) ≡ entry_steps t r l) → (j : ℕ) → entry_steps t r (part_of j ((i, x) ∷ h)) ≡ entry_steps t r (part_of j h)
   same_part off j = by (i == j)
     where
       by : (b : Bool) → entry_steps t r (cond b (x ∷ part_of j h) (part_of j h)) ≡ entry_steps t r (part_of j h)
@@ -144,6 +144,7 @@ takes {S} k s id v x at left shown here own inside there after = let h : History
     let next : Stands k ((v.position, x) ∷ h) z = subst (λ (i : ℕ). Stands k ((i, x) ∷ h) z) (sym own) (subst (λ (g : History). Stands k g z) go after.now) in
     let lt = seated k h s id v shown.now here in let there_is = shown.now.led_here.words at inside in record {
       stood = (s, shown.now, subst (λ (i : ℕ). get_elem? s.views i ≡ some v) (sym own) here);
+      stood_before = shown.stood;
       still_stands = (z, next, subst (λ (i : ℕ). get_elem? z.views i ≡ some w) (sym own) (set_here s.views id w (within s.views id v here)));
       found_is = sym there_is;
       left_is = sym (next.led_here.words at inside) ∙ get_or-set_same s.words at left 0 (let wide = shown.now.wide in omega arith);

@@ -1,11 +1,13 @@
 pub mod Lists
 pub mod Order
 pub mod Records
+pub mod Looking
 pub mod GoneOn
 pub mod OneEntry
 pub mod Lifts
 pub mod Happening
 pub mod Kept
+pub mod Seeing
 pub mod Owed
 pub mod Headers
 pub mod Told

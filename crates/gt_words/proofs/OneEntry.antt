@@ -14,10 +14,12 @@ use Rattle.gt_types.specs.declared.Dir.{Dir}
 use Rattle.gt_types.specs.declared.Dir.TheVariants.{Read, Write}
 use Rattle.gt_words.proofs.GoneOn.{goes_on, goes_on_here, still_gone, until_fewer, until_later}
 use Rattle.gt_words.proofs.Lists.{whose_at, whose_here}
-use Rattle.gt_words.proofs.Records.{changes_shown, legal_record, looks_at, pins_shown, saw_known, seen_is_last, sees_shown, stores_shown, unpins_shown}
+use Rattle.gt_words.proofs.Records.{changes_shown, legal_record, pins_shown, sees_shown, stores_shown, unpins_shown}
+use Rattle.gt_words.proofs.Looking.{seen_is_last}
 use Rattle.gt_words.specs.Controls.{IsValid, generation_of, pins_in}
-use Rattle.gt_words.specs.Rule.{HasGoneOn, IsLawful, IsRecord, MayFollow, SawRecord, ShowsEntry, ShowsRecord, owner_steps, total_pins}
-use Rattle.gt_words.specs.Views.{HasBody, IsIn, LivePin, Seen, earlier_records, exchanged, last_record, pin_count, pins, pins_until, record_seen, seen, stored_body, weight}
+use Rattle.gt_words.specs.Rule.{HasGoneOn, IsLawful, IsRecord, MayFollow, ShowsEntry, ShowsRecord, owner_steps, total_pins}
+use Rattle.gt_words.specs.Sight.{IsSeenOf}
+use Rattle.gt_words.specs.Views.{HasBody, IsIn, LivePin, Seen, earlier_records, exchanged, last_record, pin_count, pins, pins_until, record_seen, stored_body, weight}
 use Rattle.gt_entry.specs.declared.change.Change.{Change}
 use Rattle.gt_words.specs.declared.view.EntryStep.{EntryStep}
 use Rattle.gt_words.specs.declared.view.EntryStep.TheVariants.{ChangeMissed, Changed, Looked, PinMissed, Pinned, ReadBody, StoredBody, Unpinned}
@@ -74,20 +76,20 @@ module _ (g t : ℕ) (hs : List (List EntryStep)) (i : ℕ) (h : List EntryStep)
     none_taken e d gone = omega arith
 
     pub entry_looks : ShowsEntry g t word a b (set hs i (Looked word ∷ h))
-    entry_looks = plain word (Looked word) refl refl refl refl refl none_taken (sees_shown x xs a b hs i h (Looked word) word k.record_shown at refl (looks_at x xs (total_pins Read hs) (total_pins Write hs) word k.record_shown.in_range k.record_shown.spelled))
+    entry_looks = plain word (Looked word) refl refl refl refl refl none_taken (sees_shown x xs a b hs i h (Looked word) word k.record_shown at refl)
 
     pub entry_misses_pin : (d : Dir) (expected desired : ℕ) → ShowsEntry g t word a b (set hs i (PinMissed d expected desired word ∷ h))
-    entry_misses_pin d expected desired = plain word (PinMissed d expected desired word) refl refl refl refl refl none_taken (sees_shown x xs a b hs i h (PinMissed d expected desired word) word k.record_shown at refl (looks_at x xs (total_pins Read hs) (total_pins Write hs) word k.record_shown.in_range k.record_shown.spelled))
+    entry_misses_pin d expected desired = plain word (PinMissed d expected desired word) refl refl refl refl refl none_taken (sees_shown x xs a b hs i h (PinMissed d expected desired word) word k.record_shown at refl)
 
     pub entry_misses_change : (c : Change) (expected desired : ℕ) → ShowsEntry g t word a b (set hs i (ChangeMissed c expected desired word ∷ h))
-    entry_misses_change c expected desired = plain word (ChangeMissed c expected desired word) refl refl refl refl refl none_taken (sees_shown x xs a b hs i h (ChangeMissed c expected desired word) word k.record_shown at refl (looks_at x xs (total_pins Read hs) (total_pins Write hs) word k.record_shown.in_range k.record_shown.spelled))
+    entry_misses_change c expected desired = plain word (ChangeMissed c expected desired word) refl refl refl refl refl none_taken (sees_shown x xs a b hs i h (ChangeMissed c expected desired word) word k.record_shown at refl)
 
-    pub entry_saw : (p : Half) (v : ℕ) → (p ≡ First → v ≡ a) → (p ≡ Second → v ≡ b) → ShowsEntry g t word a b (set hs i (ReadBody p v ∷ h))
-    entry_saw p v e f = plain word (ReadBody p v) refl refl refl refl refl none_taken (sees_shown x xs a b hs i h (ReadBody p v) word k.record_shown at refl (saw_known x xs a b p v (seen h) k.record_shown.body e f (k.record_shown.saw i h at)))
+    pub entry_reads : (p : Half) (v : ℕ) → ShowsEntry g t word a b (set hs i (ReadBody p v ∷ h))
+    entry_reads p v = plain word (ReadBody p v) refl refl refl refl refl none_taken (sees_shown x xs a b hs i h (ReadBody p v) word k.record_shown at refl)
 
-    pub entry_pins : (d : Dir) (expected : ℕ) (s : Seen) → seen h ≡ Some s → s.word ≡ word → IsValid word → HasBody s → (d ≡ Write → is_read_only (record_seen s).entry ≡ false) → pins_in d word < MAX_PINS → ShowsEntry g t (word + unit_of d) a b (set hs i (Pinned d expected (record_seen s) ∷ h))
-    entry_pins d expected s e same some_kind body writable in_range =
-        let z = seen_is_last x xs s word (total_pins Read hs) (total_pins Write hs) k.record_shown.lawful (subst (SawRecord x xs) e (k.record_shown.saw i h at)) k.record_shown.in_range k.record_shown.spelled same some_kind body in
+    pub entry_pins : (d : Dir) (expected : ℕ) (s : Seen) → IsSeenOf x xs s → s.word ≡ word → IsValid word → HasBody s → (d ≡ Write → is_read_only (record_seen s).entry ≡ false) → pins_in d word < MAX_PINS → ShowsEntry g t (word + unit_of d) a b (set hs i (Pinned d expected (record_seen s) ∷ h))
+    entry_pins d expected s saw same some_kind body writable in_range =
+        let z = seen_is_last x xs s word (total_pins Read hs) (total_pins Write hs) k.record_shown.lawful saw k.record_shown.in_range k.record_shown.spelled same some_kind body in
         let r : d ≡ Read → total_pins Read hs < MAX_PINS = λ q. let f = subst (λ (c : Dir). pins_in c word < MAX_PINS) q in_range in let u = z.2 in omega arith in
         let w : d ≡ Write → total_pins Write hs < MAX_PINS = λ q. let f = subst (λ (c : Dir). pins_in c word < MAX_PINS) q in_range in let u = z.3 in omega arith in
         plain (word + unit_of d) (Pinned d expected (record_seen s)) refl refl refl refl refl
@@ -95,9 +97,9 @@ module _ (g t : ℕ) (hs : List (List EntryStep)) (i : ℕ) (h : List EntryStep)
         (subst (λ (y : EntryRecord). ShowsRecord x xs (word + unit_of d) a b (set hs i (Pinned d expected y ∷ h))) (sym z.0) (pins_shown x xs a b hs i h word expected d k.record_shown at z.1 (λ q. ap (λ (u : EntryRecord). is_read_only u.entry) (sym z.0) ∙ writable q) r w))
 
     -- a pin from the word that was seen is of the last record
-    pub pins_last : (s : Seen) → seen h ≡ Some s → s.word ≡ word → IsValid word → HasBody s → (record_seen s ≡ x) × ((record_seen s).entry ≢ Invalid)
-    pins_last s e same some_kind body =
-        let z = seen_is_last x xs s word (total_pins Read hs) (total_pins Write hs) k.record_shown.lawful (subst (SawRecord x xs) e (k.record_shown.saw i h at)) k.record_shown.in_range k.record_shown.spelled same some_kind body in
+    pub pins_last : (s : Seen) → IsSeenOf x xs s → s.word ≡ word → IsValid word → HasBody s → (record_seen s ≡ x) × ((record_seen s).entry ≢ Invalid)
+    pins_last s saw same some_kind body =
+        let z = seen_is_last x xs s word (total_pins Read hs) (total_pins Write hs) k.record_shown.lawful saw k.record_shown.in_range k.record_shown.spelled same some_kind body in
         (z.0, subst (λ (y : EntryRecord). y.entry ≢ Invalid) (sym z.0) z.1)
 
     pub entry_unpins : (d : Dir) (p : LivePin) → IsIn p (pins h) → p.0 ≡ d → ShowsEntry g t (word - unit_of d) a b (set hs i (Unpinned d p.1.generation ∷ h))

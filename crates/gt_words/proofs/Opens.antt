@@ -18,8 +18,8 @@ use Rattle.gt_words.proofs.Order.{leads_from, leads_to_more, new_index}
 use Rattle.gt_words.specs.Conditions.{initial}
 use Rattle.gt_words.specs.Controls.{generation_of}
 use Rattle.gt_words.specs.Places.{dealer_after, dealt_to, new_view}
-use Rattle.gt_words.specs.Rule.{HasGoneOn, IsHeader, Layout, SawRecord, Shows, ShowsEntry, ShowsRecord, first_header, header_now, header_place, owner_steps, place, total_pins, total_until}
-use Rattle.gt_words.specs.Views.{IsIn, Seen, earlier_records, exchanged, last_record, own, pin_count, pins, pins_until, seen, steps_on, steps_on_header, stored_body, stored_header}
+use Rattle.gt_words.specs.Rule.{HasGoneOn, IsHeader, Layout, Shows, ShowsEntry, ShowsRecord, first_header, header_now, header_place, owner_steps, place, total_pins, total_until}
+use Rattle.gt_words.specs.Views.{IsIn, earlier_records, exchanged, last_record, own, pin_count, pins, pins_until, steps_on, steps_on_header, stored_body, stored_header}
 use Rattle.gt_words.specs.declared.view.EntryStep.{EntryStep}
 use Rattle.gt_entry.specs.declared.change.Half.TheVariants.{First, Second}
 use Rattle.gt_words.specs.declared.view.HeaderStep.{HeaderStep}
@@ -43,7 +43,6 @@ entry_opens g t small word a b w p q = subst (λ (ms : List EntryStep). ShowsRec
   lawful = ((tt, small), refl);
   unwritten = λ _. refl;
   pinned = λ i h at z y. absurd (subst (λ (ms : List EntryStep). IsIn z (pins ms)) (alone_at i h at) y);
-  saw = λ i h at. subst (λ (ms : List EntryStep). SawRecord (last_record g []) [] (seen ms)) (sym (alone_at i h at)) tt;
 } p q (λ e is. absurd is)
 
 initial_here : (k : Layout) (t r j : ℕ) → r < TABLE_ENTRIES → j < 3 → initial k (place t r j) ≡ cond (j == 0) (17592186044416 * k.first) 0
@@ -113,7 +112,6 @@ entry_more g t word a b hs k = let same = nothing_more hs t in
       lawful = k.record_shown.lawful;
       unwritten = λ n. held_more Write hs ∙ k.record_shown.unwritten n;
       pinned = λ i h at p y. ⊎_elim (λ (e : get_elem? hs i ≡ some h). k.record_shown.pinned i h e p y) (λ (e : [] ≡ h). absurd (subst (λ (ms : List EntryStep). IsIn p (pins ms)) (sym e) y)) (at_snoc hs [] h i at);
-      saw = λ i h at. ⊎_elim (λ (e : get_elem? hs i ≡ some h). k.record_shown.saw i h e) (λ (e : [] ≡ h). subst (λ (ms : List EntryStep). SawRecord (last_record g (owner_steps t hs)) (earlier_records g (owner_steps t hs)) (seen ms)) e tt) (at_snoc hs [] h i at);
     } k.first k.second (λ e is. gone_more (last_record g (owner_steps t hs)) hs e (k.gone_on e is))
 
 in_front : {A : Type 0} (l m : List A) (b : A) → 0 < length l → get_elem? (l ++ m) 0 ≡ some b → get_elem? l 0 ≡ some b

@@ -17,8 +17,9 @@ use Rattle.gt_types.specs.declared.Dir.TheVariants.{Read, Write}
 use Rattle.gt_words.proofs.Happened.{takes}
 use Rattle.gt_words.proofs.Kept.{there_is}
 use Rattle.gt_words.proofs.Lifts.{added, inside, shows_step}
-use Rattle.gt_words.proofs.OneEntry.{entry_grants, entry_looks, entry_misses_change, entry_misses_pin, entry_pins, entry_revokes, entry_saw, entry_stores_first, entry_stores_second, entry_turns, entry_unpins, entry_withdraws, mine, pin_counted, pins_last, turned_domain, turned_low}
+use Rattle.gt_words.proofs.OneEntry.{entry_grants, entry_looks, entry_misses_change, entry_misses_pin, entry_pins, entry_revokes, entry_reads, entry_stores_first, entry_stores_second, entry_turns, entry_unpins, entry_withdraws, mine, pin_counted, pins_last, turned_domain, turned_low}
 use Rattle.gt_words.proofs.Records.{legal_record, spelled_parts}
+use Rattle.gt_words.proofs.Seeing.{saw_there}
 use Rattle.gt_words.specs.Conditions.{HasLooked, Holds, IsIdleOf, MayPin}
 use Rattle.gt_entry.specs.Permits.{is_copying}
 use Rattle.gt_types.specs.declared.DomId.{DomId}
@@ -28,7 +29,8 @@ use Rattle.gt_words.specs.Events.{IsByOwner}
 use Rattle.gt_words.specs.History.{IsOfRecord, SaysFound, owner_steps, left_on_entry, place_of, word_on}
 use Rattle.gt_words.specs.Rule.{id_at, IsRecord, Layout, Shows, ShowsEntry, place, total_pins}
 use Rattle.gt_words.specs.Steps.{StepKind, TakesStep, changed, entry_kind, exchanging, half_index, half_of, looking, missed, on_entry, reading, storing, taken, tells, tells_stored, unpinning}
-use Rattle.gt_words.specs.Views.{earlier_records, invalid_at, last_of, last_record, last_seen, pins, record_seen, steps_on, stored_body, with_step}
+use Rattle.gt_words.specs.Sight.{SawRecord}
+use Rattle.gt_words.specs.Views.{earlier_records, invalid_at, last_of, last_record, last_seen, pins, record_seen, seen, steps_on, stored_body, with_step}
 use Rattle.gt_entry.specs.declared.change.Change.{Change}
 use Rattle.gt_words.specs.declared.view.EntryStep.{EntryStep}
 use Rattle.gt_words.specs.declared.view.EntryStep.TheVariants.{Changed, Looked, ReadBody, StoredBody, Unpinned}
@@ -71,7 +73,7 @@ module _ {S : Type 0} (k : Layout) (t r : ℕ) (m : ℕ → EntryStep) (leaves :
   h = steps_on t r me.0
 
   abbrev Before : ℕ → ℕ → ℕ → List (List EntryStep) → Type 0
-  Before w a b hs = ShowsEntry k.first t w a b hs × (get_elem? hs id ≡ some h) × (me.0.position ≡ id) × (me.0.first ≡ k.first)
+  Before w a b hs = ShowsEntry k.first t w a b hs × (get_elem? hs id ≡ some h) × (me.0.position ≡ id) × (me.0.first ≡ k.first) × SawRecord (last_record k.first (owner_steps t hs)) (earlier_records k.first (owner_steps t hs)) (seen h)
 
   abbrev After : ℕ → ℕ → ℕ → List (List EntryStep) → ℕ → Type 0
   After w a b hs n = ShowsEntry k.first t w a b (set hs id (m n ∷ h)) × IsByOwner id t (m n) × IsOfRecord (last_record k.first (owner_steps t hs)) (m n)
@@ -91,7 +93,7 @@ module _ {S : Type 0} (k : Layout) (t r : ℕ) (m : ℕ → EntryStep) (leaves :
 
   before : (s : State S View) → Shows k s → get_elem? s.views id ≡ some me.0
       → Before (get_or s.words (place t r 0) 0) (get_or s.words (place t r 1) 0) (get_or s.words (place t r 2) 0) (map (steps_on t r) s.views)
-  before s shown at = (shown.now.entries t r tn rn, history_at s at, (shown.now.seats id me.0 at).0, (shown.now.seats id me.0 at).1)
+  before s shown at = (shown.now.entries t r tn rn, history_at s at, (shown.now.seats id me.0 at).0, (shown.now.seats id me.0 at).1, saw_there k shown.history s shown.now shown.stood id me.0 at t r tn rn)
 
   here : (s : State S View) (j y : ℕ) → Shows k s → j < 3 → get_or (set s.words (place t r j) y) (place t r j) 0 ≡ y
   here s j y shown jn = get_or-set_same s.words (place t r j) y 0 (let i = inside k.domains t r j tn rn jn in let w = shown.now.wide in omega arith)
@@ -172,10 +174,10 @@ module _ {S : Type 0} (k : Layout) (slots id : ℕ) (me : Me S View) (t r : ℕ)
   look_owes = control_owes k t r (λ n. Looked n) (λ n. n) slots id me (λ n. n) (step slots (place t r 0) 0 0 none) tn rn refl (λ n. refl) (λ n. (refl, refl, refl)) (λ w a b hs z fits. (entry_looks k.first t hs id _ z.1 w a b z.0, tt, tt))
 
   read_first_owes : Allows (Shows k) slots id me (place t r 1) (λ n. n) (tells (reading k t r First) (step slots (place t r 1) 0 0 none) me)
-  read_first_owes = first_owes k t r (λ n. ReadBody First n) (λ n. n) slots id me (λ n. n) (step slots (place t r 1) 0 0 none) tn rn refl (λ n. refl) (λ n. (refl, refl, refl)) (λ w a b hs z. (entry_saw k.first t hs id _ z.1 w a b z.0 First a (λ _. refl) (λ e. cc), tt, tt))
+  read_first_owes = first_owes k t r (λ n. ReadBody First n) (λ n. n) slots id me (λ n. n) (step slots (place t r 1) 0 0 none) tn rn refl (λ n. refl) (λ n. (refl, refl, refl)) (λ w a b hs z. (entry_reads k.first t hs id _ z.1 w a b z.0 First a, tt, tt))
 
   read_second_owes : Allows (Shows k) slots id me (place t r 2) (λ n. n) (tells (reading k t r Second) (step slots (place t r 2) 0 0 none) me)
-  read_second_owes = second_owes k t r (λ n. ReadBody Second n) (λ n. n) slots id me (λ n. n) (step slots (place t r 2) 0 0 none) tn rn refl (λ n. refl) (λ n. (refl, refl, refl)) (λ w a b hs z. (entry_saw k.first t hs id _ z.1 w a b z.0 Second b (λ e. cc) (λ _. refl), tt, tt))
+  read_second_owes = second_owes k t r (λ n. ReadBody Second n) (λ n. n) slots id me (λ n. n) (step slots (place t r 2) 0 0 none) tn rn refl (λ n. refl) (λ n. (refl, refl, refl)) (λ w a b hs z. (entry_reads k.first t hs id _ z.1 w a b z.0 Second b, tt, tt))
 
   pub read_owes : (h : Half) (i : ℕ) → i ≡ half_index h → Allows (Shows k) slots id me (place t r i) (λ n. n) (tells (reading k t r (half_of i)) (step slots (place t r i) 0 0 none) me)
   read_owes h i e = subst (λ (u : ℕ). Allows (Shows k) slots id me (place t r u) (λ n. n) (tells (reading k t r (half_of u)) (step slots (place t r u) 0 0 none) me)) (sym e) (at_half h)
@@ -211,9 +213,9 @@ module _ {S : Type 0} (k : Layout) (slots id : ℕ) (me : Me S View) (t r : ℕ)
   pin_owes d old new one looked valid may room = exchange_owes (purpose.Pin d) old new one
       (λ w a b hs z e. (
         subst (λ (u : ℕ). ShowsEntry k.first t u a b (set hs id (taken t r me.0 (purpose.Pin d) old new ∷ steps_on t r me.0))) (ap (λ (u : ℕ). u + unit_of d) e ∙ sym one)
-            (entry_pins k.first t hs id (steps_on t r me.0) z.1 w a b z.0 d old (last_seen t r me.0) looked.0 (looked.1 ∙ sym e) (subst IsValid (sym e) valid) looked.2 (λ q. may_write k t r me.0 (record_seen (last_seen t r me.0)) (subst (λ (u : Dir). MayPin k t r me.0 u (record_seen (last_seen t r me.0))) q may)) (subst (λ (u : ℕ). pins_in d u < MAX_PINS) (sym e) room)),
+            (entry_pins k.first t hs id (steps_on t r me.0) z.1 w a b z.0 d old (last_seen t r me.0) (subst (SawRecord (last_record k.first (owner_steps t hs)) (earlier_records k.first (owner_steps t hs))) looked.0 z.4) (looked.1 ∙ sym e) (subst IsValid (sym e) valid) looked.2 (λ q. may_write k t r me.0 (record_seen (last_seen t r me.0)) (subst (λ (u : Dir). MayPin k t r me.0 u (record_seen (last_seen t r me.0))) q may)) (subst (λ (u : ℕ). pins_in d u < MAX_PINS) (sym e) room)),
         tt,
-        pins_last k.first t hs id (steps_on t r me.0) z.1 w a b z.0 (last_seen t r me.0) looked.0 (looked.1 ∙ sym e) (subst IsValid (sym e) valid) looked.2,
+        pins_last k.first t hs id (steps_on t r me.0) z.1 w a b z.0 (last_seen t r me.0) (subst (SawRecord (last_record k.first (owner_steps t hs)) (earlier_records k.first (owner_steps t hs))) looked.0 z.4) (looked.1 ∙ sym e) (subst IsValid (sym e) valid) looked.2,
       ))
       (λ w a b hs z n. (entry_misses_pin k.first t hs id (steps_on t r me.0) z.1 w a b z.0 d old new, tt, tt))
 

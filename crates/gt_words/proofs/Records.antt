@@ -1,28 +1,25 @@
 -- What each kind of step does to the words of one entry keeps the rule of that entry.
 use Rattle.gt_types.specs.declared.limits.TheConstants.{MAX_PINS}
-use Rattle.std.proofs.Common.{◌≡◌, ◌≢◌, ◌⊎◌, inl, inr, ⊎_elim, ℕ, zero, suc, ◌+◌, ◌-◌, ◌<◌, ◌≤◌, Bool, true, false, cond, ◌==◌, ◌&&◌, List, [], ◌∷◌, set, sym, refl, ap, ◌∙◌, subst, arith, Option, Some, None, IsSome}
+use Rattle.std.proofs.Common.{◌≡◌, ◌≢◌, ◌⊎◌, inl, inr, ⊎_elim, ℕ, zero, suc, ◌+◌, ◌-◌, ◌<◌, ◌≤◌, Bool, true, false, cond, ◌==◌, ◌&&◌, List, [], ◌∷◌, set, sym, refl, ap, ◌∙◌, subst, arith}
 use Rattle.std.proofs.lemmas.Grind.{common_steps}
 use mathlib.Core.Option.{some, some-injective, some-ne-none}
 use lib.ListN.{get_elem?}
 use Rattle.atomic_table.proofs.Lists.{at_set}
 use Rattle.gt_entry.specs.Entries.{IsEntry, is_read_only}
-use Rattle.gt_entry.specs.Laws.{PartsOf, control-round, digits, entry-read, entry-word, parts}
-use Rattle.gt_entry.specs.Spelling.{IsSpelled, control_with, entry_of, low_bits, named_domain, word_of}
+use Rattle.gt_entry.specs.Laws.{PartsOf, control-round, entry-word, parts}
+use Rattle.gt_entry.specs.Spelling.{IsSpelled, control_with, low_bits, named_domain, word_of}
 use Rattle.gt_entry.specs.Words.{IsInRange, control_of, unit_of}
-use Rattle.gt_entry.specs.declared.control.Control.{Control}
 use Rattle.gt_entry.specs.declared.entry.Entry.{Entry}
 use Rattle.gt_entry.specs.declared.entry.Entry.TheVariants.{Invalid, Page, Sub, Via}
 use Rattle.gt_types.specs.declared.Dir.{Dir}
 use Rattle.gt_types.specs.declared.Dir.TheVariants.{Read, Write}
-use Rattle.gt_words.specs.Controls.{IsValid, generation_of, pins_in}
-use Rattle.gt_words.specs.Laws.{alone, bounded}
-use Rattle.gt_words.specs.Rule.{Agrees, IsLawful, IsNextEntry, IsRecord, IsRevocation, IsSeenOf, MayFollow, SawRecord, ShowsRecord, total_pins}
-use Rattle.gt_words.specs.Views.{HasBody, IsIn, LivePin, Seen, is_same_dir, pin_count, pins, record_seen, seen, value_or_zero, weight, with_body, without_pin}
+use Rattle.gt_words.specs.Laws.{bounded}
+use Rattle.gt_words.specs.Rule.{IsLawful, IsNextEntry, IsRecord, IsRevocation, MayFollow, ShowsRecord, total_pins}
+use Rattle.gt_words.specs.Views.{IsIn, LivePin, is_same_dir, pin_count, pins, weight, without_pin}
 use Rattle.gt_entry.specs.declared.change.Change.{Change}
 use Rattle.gt_words.specs.declared.view.EntryStep.{EntryStep}
-use Rattle.gt_words.specs.declared.view.EntryStep.TheVariants.{ChangeMissed, Changed, Looked, PinMissed, Pinned, ReadBody, StoredBody, Unpinned}
+use Rattle.gt_words.specs.declared.view.EntryStep.TheVariants.{Changed, Pinned, StoredBody, Unpinned}
 use Rattle.gt_entry.specs.declared.change.Half.{Half}
-use Rattle.gt_entry.specs.declared.change.Half.TheVariants.{First, Second}
 use Rattle.gt_words.specs.declared.view.EntryRecord.{EntryRecord}
 use Rattle.gt_entry.specs.declared.control.Kind.TheVariants as kind
 
@@ -115,9 +112,6 @@ spelled_control e g r w ok in_range small = ap control_of (sym (entry-word e g r
 -- one step of the seat i, whose moves on the entry were h
 
 module _ (x : EntryRecord) (xs : List EntryRecord) (a b : ℕ) (hs : List (List EntryStep)) (i : ℕ) (h : List EntryStep) (m : EntryStep) where
-  all_known : (f : SawRecord x xs (seen (m ∷ h))) → ((j : ℕ) (y : List EntryStep) → get_elem? hs j ≡ some y → SawRecord x xs (seen y)) → (j : ℕ) (y : List EntryStep) → get_elem? (set hs i (m ∷ h)) j ≡ some y → SawRecord x xs (seen y)
-  all_known f saw j y e = ⊎_elim (λ (t : (j ≡ i) × ((m ∷ h) ≡ y)). subst (λ (z : List EntryStep). SawRecord x xs (seen z)) t.1 f) (λ (t : (j ≢ i) × (get_elem? hs j ≡ some y)). saw j y t.1) (at_set hs i j (m ∷ h) y e)
-
   all_pinned : ((p : LivePin) → IsIn p (pins (m ∷ h)) → IsIn p.1 (x ∷ xs) × (p.1.entry ≢ Invalid)) → ((j : ℕ) (y : List EntryStep) → get_elem? hs j ≡ some y → (p : LivePin) → IsIn p (pins y) → IsIn p.1 (x ∷ xs) × (p.1.entry ≢ Invalid))
       → (j : ℕ) (y : List EntryStep) → get_elem? (set hs i (m ∷ h)) j ≡ some y → (p : LivePin) → IsIn p (pins y) → IsIn p.1 (x ∷ xs) × (p.1.entry ≢ Invalid)
   all_pinned f pinned j y e = ⊎_elim (λ (t : (j ≡ i) × ((m ∷ h) ≡ y)). subst (λ (z : List EntryStep). (p : LivePin) → IsIn p (pins z) → IsIn p.1 (x ∷ xs) × (p.1.entry ≢ Invalid)) t.1 f)
@@ -127,60 +121,15 @@ module _ (x : EntryRecord) (xs : List EntryRecord) (a b : ℕ) (hs : List (List 
   same_held d e p = let r = total_pins-set d hs i h (m ∷ h) e in let q : pin_count d (pins (m ∷ h)) ≡ pin_count d (pins h) = ap (pin_count d) p in omega arith
 
   -- a step that changes neither the word nor a pin
-  pub sees_shown : (word : ℕ) → ShowsRecord x xs word a b hs → get_elem? hs i ≡ some h → pins (m ∷ h) ≡ pins h → SawRecord x xs (seen (m ∷ h)) → ShowsRecord x xs word a b (set hs i (m ∷ h))
-  sees_shown word k e p f = let r = same_held Read e p in let w = same_held Write e p in record {
+  pub sees_shown : (word : ℕ) → ShowsRecord x xs word a b hs → get_elem? hs i ≡ some h → pins (m ∷ h) ≡ pins h → ShowsRecord x xs word a b (set hs i (m ∷ h))
+  sees_shown word k e p = let r = same_held Read e p in let w = same_held Write e p in record {
     spelled = k.spelled ∙ ap (λ (z : ℕ × ℕ). word_of x.entry x.generation z.0 z.1) (λ j. (sym r j, sym w j));
     in_range = (let t = k.in_range.0 in omega arith, let t = k.in_range.1 in omega arith);
     body = k.body;
     lawful = k.lawful;
     unwritten = λ n. w ∙ k.unwritten n;
     pinned = all_pinned (λ q t. k.pinned i h e q (subst (IsIn q) p t)) k.pinned;
-    saw = all_known f k.saw;
   }
-
--- the word of the last record is a look at it
-pub looks_at : (x : EntryRecord) (xs : List EntryRecord) (r w : ℕ) (word : ℕ) → (r < 4096) × (w < 4096) → word ≡ word_of x.entry x.generation r w → SawRecord x xs (Some (record { word = word; first = None; second = None }))
-looks_at x xs r w word f e = record { at = x; reads = r; writes = w; listed = inl refl; in_range = f; spelled = e; agrees = λ _. blank x.entry }
-  where
-    blank : (e : Entry) → Agrees e None None
-    blank Invalid = tt
-    blank (Page d o f) = tt
-    blank (Sub d o f a n) = (tt, tt)
-    blank (Via d o t r) = tt
-
-saw_first : (e : Entry) (a b : ℕ) (p q : Option ℕ) → IsSpelled e a b → Agrees e p q → Agrees e (Some a) q
-saw_first Invalid a b p q s g = tt
-saw_first (Page d o f) a b p q s g = s
-saw_first (Sub d o f y n) a b p q s g = (s.0, g.1)
-saw_first (Via d o t r) a b p q s g = s
-
-saw_second : (e : Entry) (a b : ℕ) (p q : Option ℕ) → IsSpelled e a b → Agrees e p q → Agrees e p (Some b)
-saw_second Invalid a b p q s g = tt
-saw_second (Page d o f) a b p q s g = g
-saw_second (Sub d o f y n) a b p q s g = (g.0, s.1)
-saw_second (Via d o t r) a b p q s g = g
-
--- a look at a body word
-pub saw_known : (x : EntryRecord) (xs : List EntryRecord) (a b : ℕ) (k : Half) (v : ℕ) (s : Option Seen) → IsSpelled x.entry a b → (k ≡ First → v ≡ a) → (k ≡ Second → v ≡ b) → SawRecord x xs s → SawRecord x xs (with_body k v s)
-saw_known x xs a b k v None body f g n = tt
-saw_known x xs a b First v (Some s) body f g n = record {
-  at = n.at;
-  reads = n.reads;
-  writes = n.writes;
-  listed = n.listed;
-  in_range = n.in_range;
-  spelled = n.spelled;
-  agrees = λ e. subst (λ (y : ℕ). Agrees n.at.entry (Some y) s.second) (sym (f refl)) (saw_first n.at.entry a b s.first s.second (subst (λ (y : EntryRecord). IsSpelled y.entry a b) e body) (n.agrees e));
-}
-saw_known x xs a b Second v (Some s) body f g n = record {
-  at = n.at;
-  reads = n.reads;
-  writes = n.writes;
-  listed = n.listed;
-  in_range = n.in_range;
-  spelled = n.spelled;
-  agrees = λ e. subst (λ (y : ℕ). Agrees n.at.entry s.first (Some y)) (sym (g refl)) (saw_second n.at.entry a b s.first s.second (subst (λ (y : EntryRecord). IsSpelled y.entry a b) e body) (n.agrees e));
-}
 
 -- the word with one pin more of the kind d
 more : (d : Dir) (e : Entry) (g r w r' w' : ℕ) → r' ≡ r + weight Read d → w' ≡ w + weight Write d → word_of e g r w + unit_of d ≡ word_of e g r' w'
@@ -208,7 +157,6 @@ module _ (x : EntryRecord) (xs : List EntryRecord) (a b : ℕ) (hs : List (List 
         lawful = k.lawful;
         unwritten = λ z. read_pin d x writable (total_pins Write hs) (total_pins Write hs') w z (k.unwritten z);
         pinned = all_pinned x xs a b hs i h (Pinned d expected x) (λ p t. ⊎_elim (λ (s : p ≡ (d, x)). let one = ap (λ (z : LivePin). z.1) s in (inl one, subst (λ (u : EntryRecord). u.entry ≢ Invalid) (sym one) n)) (λ (s : IsIn p (pins h)). k.pinned i h e p s) t) k.pinned;
-        saw = all_known x xs a b hs i h (Pinned d expected x) (k.saw i h e) k.saw;
       }
 
   pub unpins_shown : (word : ℕ) (d : Dir) (p : LivePin) → ShowsRecord x xs word a b hs → get_elem? hs i ≡ some h → IsIn p (pins h) → p.0 ≡ d
@@ -223,26 +171,24 @@ module _ (x : EntryRecord) (xs : List EntryRecord) (a b : ℕ) (hs : List (List 
         lawful = k.lawful;
         unwritten = λ z. let q = k.unwritten z in omega arith;
         pinned = all_pinned x xs a b hs i h m (λ q t. k.pinned i h e q (IsIn-without_pin d g q (pins h) t)) k.pinned;
-        saw = all_known x xs a b hs i h m (k.saw i h e) k.saw;
       }
 
   -- the owner stores a body word of an invalid entry
   pub stores_shown : (word : ℕ) (k : Half) (v a' b' : ℕ) → ShowsRecord x xs word a b hs → get_elem? hs i ≡ some h → x.entry ≡ Invalid → ShowsRecord x xs word a' b' (set hs i (StoredBody k v ∷ h))
-  stores_shown word k v a' b' z e n = let s = sees_shown x xs a b hs i h (StoredBody k v) word z e refl (z.saw i h e) in record {
+  stores_shown word k v a' b' z e n = let s = sees_shown x xs a b hs i h (StoredBody k v) word z e refl in record {
     spelled = s.spelled;
     in_range = s.in_range;
     body = subst (λ (y : Entry). IsSpelled y a' b') (sym n) tt;
     lawful = s.lawful;
     unwritten = s.unwritten;
     pinned = s.pinned;
-    saw = s.saw;
   }
 
   -- the owner exchanges the control word
   pub changes_shown : (word word' expected stored : ℕ) (c : Change) (y : EntryRecord) → ShowsRecord x xs word a b hs → get_elem? hs i ≡ some h → IsRecord y → MayFollow y x → IsSpelled y.entry a b
       → word' ≡ word_of y.entry y.generation (total_pins Read hs) (total_pins Write hs) → (is_read_only y.entry ≡ true → total_pins Write hs ≡ 0)
       → ShowsRecord y (x ∷ xs) word' a b (set hs i (Changed c expected stored y ∷ h))
-  changes_shown word word' expected stored c y k e ok may body is unwritten = let m : EntryStep = Changed c expected stored y in let s = sees_shown x xs a b hs i h m word k e refl (k.saw i h e) in
+  changes_shown word word' expected stored c y k e ok may body is unwritten = let m : EntryStep = Changed c expected stored y in let s = sees_shown x xs a b hs i h m word k e refl in
       let r = same_held x xs a b hs i h m Read e refl in let w = same_held x xs a b hs i h m Write e refl in record {
         spelled = is ∙ ap (λ (z : ℕ × ℕ). word_of y.entry y.generation z.0 z.1) (λ j. (sym r j, sym w j));
         in_range = s.in_range;
@@ -250,52 +196,4 @@ module _ (x : EntryRecord) (xs : List EntryRecord) (a b : ℕ) (hs : List (List 
         lawful = (ok, may, k.lawful);
         unwritten = λ n. w ∙ unwritten n;
         pinned = λ j z at p t. let old = s.pinned j z at p t in (inr old.0, old.1);
-        saw = λ j z at. on (seen z) (s.saw j z at);
       }
-    where
-      on : (s : Option Seen) → SawRecord x xs s → SawRecord y (x ∷ xs) s
-      on None n = tt
-      on (Some s) n = record {
-        at = n.at;
-        reads = n.reads;
-        writes = n.writes;
-        listed = inr n.listed;
-        in_range = n.in_range;
-        spelled = n.spelled;
-        agrees = λ q. let inv = fresh x xs y n.at k.lawful may n.listed q in subst (λ (z : Entry). Agrees z s.first s.second) (sym (ap (λ (z : EntryRecord). z.entry) (sym q) ∙ inv)) tt;
-      }
-
--- what was seen is the last record, where the word is still the one seen
-
-none_some : IsSome {T = ℕ} None → ⊥
-none_some h = cc
-
--- body values that agree with the entry, and were read, spell it
-read_body : (e : Entry) (p q : Option ℕ) (g r w : ℕ) → Agrees e p q → IsSome p → ((control_with e g r w).kind ≡ kind.Sub → IsSome q) → IsSpelled e (value_or_zero p) (value_or_zero q)
-read_body Invalid p q g r w a s t = tt
-read_body (Page d o f) (Some x) q g r w a s t = a
-read_body (Sub d o f y k) (Some x) (Some z) g r w a s t = a
-read_body (Via d o u k) (Some x) q g r w a s t = a
-read_body (Page d o f) None q g r w a s t = absurd (none_some s)
-read_body (Sub d o f y k) None q g r w a s t = absurd (none_some s)
-read_body (Sub d o f y k) (Some x) None g r w a s t = absurd (none_some (t refl))
-read_body (Via d o u k) None q g r w a s t = absurd (none_some s)
-
--- what the seat saw of the entry is its last record, where the word is still the one seen
-pub seen_is_last : (x : EntryRecord) (xs : List EntryRecord) (s : Seen) (word r w : ℕ) → IsLawful x xs → IsSeenOf x xs s → (r < 4096) × (w < 4096) → word ≡ word_of x.entry x.generation r w → s.word ≡ word → IsValid word → HasBody s
-    → (record_seen s ≡ x) × (x.entry ≢ Invalid) × (pins_in Read word ≡ r) × (pins_in Write word ≡ w)
-seen_is_last x xs s word r w lawful k in_range is same valid body =
-    let rec = legal_record x xs lawful in let old = listed_record x xs k.at lawful k.listed in
-    let e : s.word ≡ word_of x.entry x.generation r w = same ∙ is in
-    let c : control_of s.word ≡ control_with x.entry x.generation r w = ap control_of e ∙ spelled_control x.entry x.generation r w rec.0 in_range rec.1 in
-    let n : x.entry ≢ Invalid = λ h. valid (ap (λ (u : ℕ). (control_of u).kind) (sym same) ∙ (ap (λ (u : Control). u.kind) c ∙ ap (λ (u : Entry). (control_with u x.generation r w).kind) h)) in
-    let same_word : word_of k.at.entry k.at.generation k.reads k.writes ≡ word_of x.entry x.generation r w = sym k.spelled ∙ e in
-    let d = digits (low_bits k.at.entry) (named_domain k.at.entry) k.at.generation k.reads k.writes (low_bits x.entry) (named_domain x.entry) x.generation r w
-    (low_small k.at.entry) (low_small x.entry) k.in_range.0 in_range.0 k.in_range.1 in_range.1 (domain_small k.at.entry old.0) (domain_small x.entry rec.0) same_word in
-    let here : k.at ≡ x = alone x xs k.at lawful n k.listed d.generation in let agrees : Agrees x.entry s.first s.second = subst (λ (y : EntryRecord). Agrees y.entry s.first s.second) here (k.agrees (sym here)) in
-    let spelled = read_body x.entry s.first s.second x.generation r w agrees body.0 (λ h. body.1 (ap (λ (u : Control). u.kind) c ∙ h)) in
-    let read : entry_of (control_of s.word) (value_or_zero s.first) (value_or_zero s.second) ≡ x.entry = ap (λ (u : Control). entry_of u (value_or_zero s.first) (value_or_zero s.second)) c
-    ∙ entry-read x.entry x.generation r w (value_or_zero s.first) (value_or_zero s.second) rec.0 spelled in
-    let t = spelled_parts x.entry x.generation r w rec.0 in_range in
-    let gen : generation_of s.word ≡ x.generation = ap generation_of e ∙ t.generation in
-    ((λ i. record { generation = gen i; entry = read i }), n, ap (pins_in Read) is ∙ t.reads, ap (pins_in Write) is ∙ t.writes)

@@ -22,11 +22,14 @@ use Rattle.gt_words.proofs.OneEntry.{count_in, held_at, idle_held, mine}
 use Rattle.gt_words.proofs.Owed.{spelled_generation}
 use Rattle.gt_words.specs.Keeping.{HoldsOneMore, generation_in}
 use Rattle.gt_words.specs.Laws.{bounded, one_record}
-use Rattle.gt_words.proofs.Records.{legal_record, listed_record, seen_is_last, spelled_control, spelled_parts}
+use Rattle.gt_words.proofs.Records.{legal_record, listed_record, spelled_control, spelled_parts}
+use Rattle.gt_words.proofs.Seeing.{saw_there}
+use Rattle.gt_words.proofs.Looking.{seen_is_last}
 use Rattle.gt_words.specs.Conditions.{AddsToEntry, Changes, CountsPins, Demotes, HasLooked, HasNoPins, HasNoWritePins, Holds, IsBusyOf, IsIdleOf, IsNotEarlier, IsWordOf, LooksAtBody, LooksAtControl, MayPin, MissesBusy, MissesChange, MissesPin, Pins, Publishes, Revokes, StepsOnControl, StoresBody, Unpins}
 use Rattle.gt_words.specs.Controls.{IsTurnable, IsValid, generation_of, pins_in}
 use Rattle.gt_words.specs.History.{History, part_of}
-use Rattle.gt_words.specs.Rule.{IsRecord, Layout, SawRecord, ShowsEntry, ShowsRecord, Stands, owner_steps, place, total_pins}
+use Rattle.gt_words.specs.Rule.{IsRecord, Layout, ShowsEntry, ShowsRecord, Stands, owner_steps, place, total_pins}
+use Rattle.gt_words.specs.Sight.{SawRecord}
 use Rattle.gt_words.specs.Steps.{TakesStep, changed, changed_word, exchanging, half_index, half_of, missed, on_entry, taken}
 use Rattle.gt_words.specs.Views.{IsIn, LivePin, Seen, earlier_records, entry_steps, is_half, last_of, last_record, last_seen, own, own_body, pin_count, pins, record_seen, seen, steps_on, steps_on_header, stored_body, with_step}
 use Rattle.gt_entry.specs.declared.change.Change.{Change}
@@ -95,9 +98,13 @@ module _ (k : Layout) (t r : ℕ) (m : EntryStep) (found left : ℕ) (v w : View
   pub seat_there : get_elem? all v.position ≡ some (steps_on t r v)
   seat_there = at_map (steps_on t r) there.views v.position v z.step.stood.2
 
+  -- what the seat saw before is of the owner's list
+  pub saw_before : SawRecord (last_record k.first (owner_steps t all)) (earlier_records k.first (owner_steps t all)) (seen (steps_on t r v))
+  saw_before = saw_there k z.past there stands z.step.stood_before v.position v z.step.stood.2 t r tn rn
+
   -- a word that is found is of a generation not below that of the word seen before
   pub not_earlier : IsNotEarlier t r v found
-  not_earlier = go (seen (steps_on t r v)) (shown_there.record_shown.saw v.position (steps_on t r v) seat_there)
+  not_earlier = go (seen (steps_on t r v)) saw_before
     where
       go : (s : Option Seen) → SawRecord (last_record k.first (owner_steps t all)) (earlier_records k.first (owner_steps t all)) s → generation_in s ≤ generation_of found
       go None q = omega arith
@@ -214,7 +221,7 @@ module _ (k : Layout) (t r : ℕ) (d : Dir) (word : ℕ) (v w : View) (tn : t < 
       let pin : IsIn (d, y) (pins (steps_on t r w)) = subst (λ (ms : List EntryStep). IsIn (d, y) (pins ms)) (sym z.adds.here) (inl refl) in
       let more : HoldsOneMore t r d (generation_of word) v w = subst (λ (g : ℕ). HoldsOneMore t r d g v w) (ap generation_of looked.1) (taken_more t r d word y v w z.adds) in record {
         steps = z;
-        current = ap (last_record k.first) (owner_made k z.past z.step.stood.0 z.step.stood.1.led_here t r t tn) ∙ sym (seen_is_last x xs (last_seen t r v) word (total_pins Read all) (total_pins Write all) f.lawful (subst (SawRecord x xs) looked.0 (f.saw v.position (steps_on t r v) (seat_there k t r m word (word + unit_of d) v w tn rn z))) f.in_range f.spelled looked.1 valid looked.2).0;
+        current = ap (last_record k.first) (owner_made k z.past z.step.stood.0 z.step.stood.1.led_here t r t tn) ∙ sym (seen_is_last x xs (last_seen t r v) word (total_pins Read all) (total_pins Write all) f.lawful (subst (SawRecord x xs) looked.0 (saw_before k t r m word (word + unit_of d) v w tn rn z)) f.in_range f.spelled looked.1 valid looked.2).0;
         permitted = may;
         held = some_more t r d (generation_of word) v w more;
         pin = pin;

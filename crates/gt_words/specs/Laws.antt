@@ -25,10 +25,12 @@ use Rattle.gt_words.specs.Events.{TookPlace}
 use Rattle.gt_words.specs.History.{History, IsOwners, PinsLast, Says, place_of}
 use Rattle.gt_words.specs.Rule.{IsLawful, IsNextEntry, IsRevocation, Layout, Shows, Stands, header_place, id_at, layout_of}
 use Rattle.gt_words.specs.Rule.{owner_steps, place, position_in, total_until}
+use Rattle.gt_words.specs.Sight.{SawRecord}
 use Rattle.gt_words.specs.Steps.{on_entry}
-use Rattle.gt_words.specs.Views.{IsIn, LivePin, exchanged, last_of, pins, steps_on, with_step}
+use Rattle.gt_words.specs.Views.{IsIn, LivePin, earlier_records, exchanged, last_of, last_record, pins, seen, steps_on, with_step}
 use Rattle.gt_types.specs.declared.Dir.{Dir}
 use Rattle.gt_words.specs.declared.view.EntryRecord.{EntryRecord}
+use Rattle.gt_words.specs.declared.view.EntryStep.{EntryStep}
 use Rattle.gt_words.specs.declared.view.EntryStep.TheVariants.{Pinned}
 use Rattle.gt_words.specs.declared.view.SeatStep.{SeatStep}
 use Rattle.gt_words.specs.declared.view.View.{View}
@@ -72,6 +74,15 @@ PinsLeftAreCounted =
     → get_elem? s.views i ≡ some v → t < k.domains → r < TABLE_ENTRIES
     → IsIn p (pins (steps_on t r v)) → IsIn e (exchanged (owner_steps t (map (steps_on t r) s.views)))
     → p.1.generation ≤ generation_of e → 0 < pins_in p.0 e
+
+-- in each state that words and views show, what a seat saw last of an entry is of the owner's list: the word that it saw
+-- spells a record of it, and so do the body values read since, if that record is still the last one
+abbrev pub WhatWasSeenIsListed : Type 0
+WhatWasSeenIsListed =
+    (k : Layout) (s : State (Unit {0}) View) (i : ℕ) (v : View) (t r : ℕ) → Shows k s
+    → get_elem? s.views i ≡ some v → t < k.domains → r < TABLE_ENTRIES
+    → let ms : List EntryStep = owner_steps t (map (steps_on t r) s.views) in
+    SawRecord (last_record k.first ms) (earlier_records k.first ms) (seen (steps_on t r v))
 
 -- the owner with the view v revoked its entry r, or published it: in a state in which no view had a pin of it
 abbrev pub EndsPins : Layout → ℕ → ℕ → View → View → Type 0

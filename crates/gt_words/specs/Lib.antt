@@ -1,6 +1,7 @@
 pub mod Controls
 pub mod Views
 pub mod History
+pub mod Sight
 pub mod Rule
 pub mod Events
 pub mod Steps

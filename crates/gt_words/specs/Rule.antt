@@ -1,6 +1,6 @@
 -- The rule of the table: between any two steps words and views show a state of the core.
 use Rattle.std.specs.Prelude.{◌≡◌, ◌≢◌, ◌⊎◌, ℕ, ◌+◌, ◌*◌, ◌<◌, ◌≤◌, true, not, ◌==◌, List, [], ◌∷◌, map, length}
-use Rattle.std.specs.Prelude.{slice_index, slice_index_or, Option, Some, None, IfSome, position, unwrap_or}
+use Rattle.std.specs.Prelude.{slice_index, slice_index_or, position, unwrap_or}
 use mathlib.Core.Option.{some}
 use lib.ListN.{get_elem?}
 use Rattle.atomic_table.specs.Table.{State}
@@ -20,8 +20,8 @@ use Rattle.gt_words.specs.declared.word_table.TheConstants.{DOMAIN_WORDS}
 use Rattle.gt_words.specs.Controls.{generation_of, pins_in}
 use Rattle.gt_words.specs.History.{HasLedTo, History}
 pub use Rattle.gt_words.specs.History.{Layout, header_place, initial, owner_steps, place}
-use Rattle.gt_words.specs.Views.{IsIn, LivePin, Seen, earlier_records, exchanged, last_record, pin_count, pins}
-use Rattle.gt_words.specs.Views.{pins_until, seen, steps_on, steps_on_header, stored_body, stored_header}
+use Rattle.gt_words.specs.Views.{IsIn, LivePin, earlier_records, exchanged, last_record, pin_count, pins}
+use Rattle.gt_words.specs.Views.{pins_until, steps_on, steps_on_header, stored_body, stored_header}
 use Rattle.gt_words.specs.declared.view.EntryStep.{EntryStep}
 use Rattle.gt_entry.specs.declared.change.Half.TheVariants.{First, Second}
 use Rattle.gt_words.specs.declared.view.HeaderStep.{HeaderStep}
@@ -85,29 +85,6 @@ abbrev pub total_until : Dir → ℕ → List (List EntryStep) → ℕ
 total_until d g [] = 0
 total_until d g (h ∷ hs) = pins_until d g (pins h) + total_until d g hs
 
--- the body values read are those of the entry
-abbrev pub Agrees : Entry → Option ℕ → Option ℕ → Type 0
-Agrees Invalid a b = Unit {0}
-Agrees (Page d o f) a b = IfSome a (λ x. x ≡ f)
-Agrees (Sub d o f y n) a b = IfSome a (λ x. x ≡ f) × IfSome b (λ x. x ≡ y + n * 65536)
-Agrees (Via d o t r) a b = IfSome a (λ x. x ≡ t.0 + r.0 * 65536)
-
--- the word seen spells a record of the owner's list x ∷ xs, and so do the body
--- values read since, if that record is still the last one
-pub record IsSeenOf (x : EntryRecord) (xs : List EntryRecord) (s : Seen) : Type 0 where
-  pub at : EntryRecord
-  pub reads : ℕ
-  pub writes : ℕ
-  pub listed : IsIn at (x ∷ xs)
-  pub in_range : (reads < 4096) × (writes < 4096)
-  pub spelled : s.word ≡ word_of at.entry at.generation reads writes
-  pub agrees : x ≡ at → Agrees at.entry s.first s.second
-
--- what a seat saw last, if anything, is of the owner's list x ∷ xs
-abbrev pub SawRecord : EntryRecord → List EntryRecord → Option Seen → Type 0
-SawRecord x xs None = Unit {0}
-SawRecord x xs (Some s) = IsSeenOf x xs s
-
 -- the words of one entry and the steps of each seat on it show the last record x, after the records xs
 pub record ShowsRecord (x : EntryRecord) (xs : List EntryRecord) (word a b : ℕ)
     (hs : List (List EntryStep)) : Type 0 where
@@ -121,7 +98,6 @@ pub record ShowsRecord (x : EntryRecord) (xs : List EntryRecord) (word a b : ℕ
   -- each pin is of a record of the owner's list, which is an entry
   pub pinned : (i : ℕ) (h : List EntryStep) → get_elem? hs i ≡ some h → (p : LivePin) → IsIn p (pins h)
       → IsIn p.1 (x ∷ xs) × (p.1.entry ≢ Invalid)
-  pub saw : (i : ℕ) (h : List EntryStep) → get_elem? hs i ≡ some h → SawRecord x xs (seen h)
 
 -- the owner's list has gone on from the word e to the last record x: no pin is taken any more of the record
 -- of that word or of an earlier one, so of those no more are left than it counts

@@ -13,7 +13,7 @@ use Rattle.gt_words.specs.Controls.{demoted_word, invalid_word, promoted_word, w
 use Rattle.gt_words.specs.Events.{Happens}
 use Rattle.gt_words.specs.History.{History, PinsLast, Says, word_after}
 pub use Rattle.gt_words.specs.History.{half_index}
-use Rattle.gt_words.specs.Rule.{Layout, Stands}
+use Rattle.gt_words.specs.Rule.{HasStood, Layout, Stands}
 use Rattle.gt_words.specs.Views.{last_of, last_seen, record_seen, with_step}
 use Rattle.gt_words.specs.declared.view.EntryStep.{EntryStep}
 use Rattle.gt_words.specs.declared.view.EntryStep.TheVariants.{ChangeMissed, Changed, Looked, PinMissed, Pinned}
@@ -35,12 +35,13 @@ abbrev pub StoodWith : Type 0 → Layout → History → View → Type 0
 StoodWith S k past v = (z : State S View) × Stands k past z × (get_elem? z.views v.position ≡ some v)
 
 -- The seat with the view v takes the step x on this word, after the steps past of all seats. Words and views
--- showed a state before it and after it. It finds the number that those steps make of the word, says so, and leaves
+-- showed a state before each of those, before it and after it. It finds the number that those steps make of the word, says so, and leaves
 -- the other. A pin is of the last record then. It takes the state that they make to what the core's event gives
 pub record TakesStep (S : Type 0) (k : Layout) (v : View) (past : History) (x : SeatStep)
     (word found left : ℕ) : Type 0 where
   pub stood : StoodWith S k past v
   pub still_stands : StoodWith S k ((v.position, x) ∷ past) (with_step past x v)
+  pub stood_before : HasStood S k past
   pub found_is : word_after k past word ≡ found
   pub left_is : word_after k ((v.position, x) ∷ past) word ≡ left
   pub says : Says x found

@@ -3,7 +3,7 @@ ghost use Rattle.gt_words.specs.Laws.{DomainsAreOfRun, DomainsStandThere, PastPi
 ghost use Rattle.gt_words.specs.Laws.{AllowedStepsSayWhatIsThere, EachStepHappened, HistoryIsOne};
 ghost use Rattle.gt_words.specs.Laws.{NoPinOutlivesItsRecord, PinsHaveOneRecord};
 ghost use Rattle.gt_words.specs.Laws.{PinsLeftAreCounted, SeatsStandThere};
-ghost use Rattle.gt_words.specs.Laws.{StepsAreTakenThen, WordsFollowViews};
+ghost use Rattle.gt_words.specs.Laws.{StepsAreTakenThen, WhatWasSeenIsListed, WordsFollowViews};
 
 /// A law: a domain is one of the run exactly if the configuration has it.
 pub fn every_domain_is_of_the_run()
@@ -28,6 +28,12 @@ pub fn pins_of_one_generation_have_one_record()
 /// A law: in each state that words and views show, each pin is of an entry.
 pub fn every_pin_is_of_an_entry()
     ensures { PinsAreOfEntries }
+{}
+
+/// A law: in each state that words and views show, the control word that a seat saw last of an entry spells a record of
+/// its owner's list, and so do the body values read since, if that record is still the last one.
+pub fn what_was_seen_is_listed()
+    ensures { WhatWasSeenIsListed }
 {}
 
 /// A law: a pin that is left of a record is counted by each word of that record or of a later one that the owner
