@@ -1,12 +1,12 @@
 //! The words at the start, and a seat for each domain.
-ghost use Rattle.std.specs.Prelude.{◌≡◌, ℕ, ◌*◌, ◌<◌, ◌≤◌, length, slice_index, slice_get, Some, IfOk, HoldsAt};
+ghost use Rattle.std.specs.Prelude.{◌≡◌, ℕ, ◌*◌, ◌%◌, ◌<◌, ◌≤◌, length, slice_index, slice_get, Some, IfOk, HoldsAt};
 ghost use Rattle.gt_types.specs.Config.{IsWithinLimits};
 ghost use Rattle.gt_words.specs.Rule.{layout_of, first_header};
 ghost use Rattle.gt_words.specs.Conditions.{Board, IsNewSeat, initial};
 ghost use Rattle.gt_words.specs.Places.{IsNewPlace, dealer_after, dealt_to};
 
 use crate::view::View;
-use crate::word_table::{DOMAIN_WORDS, ENTRY_WORDS, TableSeat, WordTable, idle_word};
+use crate::word_table::{DOMAIN_ROWS, DOMAIN_WORDS, ENTRY_WORDS, TableSeat, WordTable, idle_word};
 use crate::words::{Found, Seat};
 use atomic_table::Split;
 use gt_entry::{Entry, Header};
@@ -33,6 +33,19 @@ fn first_header(domain: DomainConfig) -> Header
     }
 }
 
+// The word at the beginning of a row: the header of its domain, or the control word of an invalid entry.
+fn first_word(config: &Config, at: usize) -> u64
+    requires { IsWithinLimits config.now × (at < length config.now.domains.items * DOMAIN_WORDS)
+        × (at % ENTRY_WORDS ≡ 0) }
+    ensures { result ≡ initial (layout_of config.now) at }
+{
+    if at % DOMAIN_WORDS == 0 {
+        first_header(config.domains[at / DOMAIN_WORDS]).pack()
+    } else {
+        idle_word(Entry::Invalid, config.first_gen)
+    }
+}
+
 /// The words at the start: each header as it is configured, each entry invalid at the first generation.
 pub(crate) fn first_words(alloc: Global, config: &Config) -> Result<Vec<u64>, AllocError>
     requires { IsWithinLimits config.now }
@@ -40,18 +53,9 @@ pub(crate) fn first_words(alloc: Global, config: &Config) -> Result<Vec<u64>, Al
         × ((i : ℕ) → i < length config.now.domains.items * DOMAIN_WORDS
         → slice_index v.items i ≡ initial (layout_of config.now) i)) }
 {
-    let count = config.domains.len() * DOMAIN_WORDS;
-    let invalid = idle_word(Entry::Invalid, config.first_gen);
-    let mut words = Vec::with_capacity(alloc, count)?;
-    for i in 0..count {
-        let word = if i % DOMAIN_WORDS == 0 {
-            first_header(config.domains[i / DOMAIN_WORDS]).pack()
-        } else if i % DOMAIN_WORDS % ENTRY_WORDS == 0 {
-            invalid
-        } else {
-            0
-        };
-        words.push(word)?;
+    let mut words = vec![in alloc; 0; config.domains.len() * DOMAIN_WORDS]?;
+    for row in 0..config.domains.len() * DOMAIN_ROWS {
+        words[row * ENTRY_WORDS] = first_word(config, row * ENTRY_WORDS);
     }
     Ok(words)
 }

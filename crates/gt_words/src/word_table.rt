@@ -28,7 +28,7 @@ pub(crate) const ENTRY_WORDS: usize = 8;
 
 // The rows of `ENTRY_WORDS` words that a domain has: one for its header, and one for each entry. A step
 // adds up rows and multiplies once, so that a loop on one entry keeps one number for its place.
-const DOMAIN_ROWS: usize = TABLE_ENTRIES as usize + 1;
+pub(crate) const DOMAIN_ROWS: usize = TABLE_ENTRIES as usize + 1;
 
 /// The words of a domain.
 pub(crate) const DOMAIN_WORDS: usize = DOMAIN_ROWS * ENTRY_WORDS;
