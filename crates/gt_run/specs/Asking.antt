@@ -17,7 +17,8 @@ use Rattle.gt_core.specs.declared.trace.Answer.TheVariants as answers
 use Rattle.gt_live.specs.declared.domain.Domain.{Domain}
 use Rattle.gt_live.specs.declared.monitor.Monitor.{Monitor}
 use Rattle.gt_live.specs.Accesses.{IsCopiedBy, IsReadBy, IsWrittenBy}
-use Rattle.gt_live.specs.Domains.{Accesses, Answered, KeepsPinned, MapAnswered, AllowRelation, mapping_reply}
+use Rattle.gt_words.specs.Conditions.{IsSameSeat}
+use Rattle.gt_live.specs.Domains.{Accesses, Answered, IsOf, KeepsPinned, MapAnswered, AllowRelation, mapping_reply}
 use Rattle.gt_live.specs.Domains.{subject_of}
 use Rattle.gt_live.specs.Domains.{told_copy, told_of, verdict_of, verdict_of_frames, verdict_of_size}
 use Rattle.gt_live.specs.Domains.{verdict_of_version}
@@ -135,6 +136,7 @@ AnswersCall may m d (requests.Copy args) answer e =
 AnswersCall may m d request answer e =
     (r : Result (Unit {0}) Denial) × (answer ≡ plain_answer r) × AnswersQuietly may m d request (verdict_of r) e
 
--- the same of a domain that keeps its number
+-- the same of a domain that keeps its number and its seat, and is of the monitor after it
 abbrev pub Asks : {P : Type 0} → (P → AllowRelation) → Monitor P → Domain → Request → Answer → Domain → Type 0
-Asks may m d request answer e = (e.seat.dom ≡ d.seat.dom) × AnswersCall may m d request answer e
+Asks may m d request answer e =
+    (e.seat.dom ≡ d.seat.dom) × AnswersCall may m d request answer e × IsOf may m e × IsSameSeat d.seat e.seat

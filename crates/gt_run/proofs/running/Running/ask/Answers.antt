@@ -9,6 +9,8 @@ returns-in-Grant-clause-asked g c =
         c.done.ensures,
         (c.grant.ensures.answered, c.grant.ensures.kept, c.grant.ensures.silent, c.grant.ensures.untouched),
       ),
+      c.grant.ensures.mine,
+      c.grant.ensures.seat,
     )
 
 pub returns-in-GrantBytes-clause-asked : goal.returns-in-GrantBytes-clause-asked
@@ -20,6 +22,8 @@ returns-in-GrantBytes-clause-asked g c =
         c.done-in-GrantBytes.ensures,
         (c.grant_bytes.ensures.answered, c.grant_bytes.ensures.kept, c.grant_bytes.ensures.silent, c.grant_bytes.ensures.untouched),
       ),
+      c.grant_bytes.ensures.mine,
+      c.grant_bytes.ensures.seat,
     )
 
 pub returns-in-Revoke-clause-asked : goal.returns-in-Revoke-clause-asked
@@ -31,6 +35,8 @@ returns-in-Revoke-clause-asked g c =
         c.done-in-Revoke.ensures,
         (c.revoke.ensures.answered, c.revoke.ensures.kept, c.revoke.ensures.silent, c.revoke.ensures.untouched),
       ),
+      c.revoke.ensures.mine,
+      c.revoke.ensures.seat,
     )
 
 pub returns-in-Withdraw-clause-asked : goal.returns-in-Withdraw-clause-asked
@@ -42,6 +48,8 @@ returns-in-Withdraw-clause-asked g c =
         c.done-in-Withdraw.ensures,
         (c.withdraw.ensures.answered, c.withdraw.ensures.kept, c.withdraw.ensures.silent, c.withdraw.ensures.untouched),
       ),
+      c.withdraw.ensures.mine,
+      c.withdraw.ensures.seat,
     )
 
 pub returns-in-Demote-clause-asked : goal.returns-in-Demote-clause-asked
@@ -53,6 +61,8 @@ returns-in-Demote-clause-asked g c =
         c.done-in-Demote.ensures,
         (c.demote.ensures.answered, c.demote.ensures.kept, c.demote.ensures.silent, c.demote.ensures.untouched),
       ),
+      c.demote.ensures.mine,
+      c.demote.ensures.seat,
     )
 
 pub returns-in-Promote-clause-asked : goal.returns-in-Promote-clause-asked
@@ -64,12 +74,14 @@ returns-in-Promote-clause-asked g c =
         c.done-in-Promote.ensures,
         (c.promote.ensures.answered, c.promote.ensures.kept, c.promote.ensures.silent, c.promote.ensures.untouched),
       ),
+      c.promote.ensures.mine,
+      c.promote.ensures.seat,
     )
 
 pub returns-in-Map-clause-asked : goal.returns-in-Map-clause-asked
 returns-in-Map-clause-asked g c =
     rw (← c.self.view_is, c.in-Map.is)
-    (c.map.ensures.seat.dom, (c.map.result, c.mapped.ensures, c.map.ensures.answered, c.map.ensures.told, c.map.ensures.untouched))
+    (c.map.ensures.seat.dom, (c.map.result, c.mapped.ensures, c.map.ensures.answered, c.map.ensures.told, c.map.ensures.untouched), c.map.ensures.mine, c.map.ensures.seat)
 
 pub returns-in-Unmap-clause-asked : goal.returns-in-Unmap-clause-asked
 returns-in-Unmap-clause-asked g c =
@@ -84,6 +96,8 @@ returns-in-Unmap-clause-asked g c =
         c.unmap.ensures.told,
         c.unmap.ensures.untouched,
       ),
+      c.unmap.ensures.mine,
+      c.unmap.ensures.seat,
     )
 
 pub returns-in-SetVersion-clause-asked : goal.returns-in-SetVersion-clause-asked
@@ -95,6 +109,8 @@ returns-in-SetVersion-clause-asked g c =
         c.done-in-SetVersion.ensures,
         (c.set_version.ensures.answered, c.set_version.ensures.kept, c.set_version.ensures.told, c.set_version.ensures.untouched),
       ),
+      c.set_version.ensures.mine,
+      c.set_version.ensures.seat,
     )
 
 pub returns-in-SetupTable-clause-asked : goal.returns-in-SetupTable-clause-asked
@@ -106,6 +122,8 @@ returns-in-SetupTable-clause-asked g c =
         c.frames_told.ensures,
         (c.setup_table.ensures.answered, c.setup_table.ensures.kept, c.setup_table.ensures.told, c.setup_table.ensures.untouched),
       ),
+      c.setup_table.ensures.mine,
+      c.setup_table.ensures.seat,
     )
 
 pub returns-in-QuerySize-clause-asked : goal.returns-in-QuerySize-clause-asked
@@ -117,6 +135,8 @@ returns-in-QuerySize-clause-asked g c =
         c.size_told.ensures,
         (c.query_size.ensures.answered, c.query_size.ensures.kept, c.query_size.ensures.told, c.query_size.ensures.untouched),
       ),
+      c.query_size.ensures.mine,
+      c.query_size.ensures.seat,
     )
 
 pub returns-in-GetVersion-clause-asked : goal.returns-in-GetVersion-clause-asked
@@ -128,6 +148,8 @@ returns-in-GetVersion-clause-asked g c =
         c.version_told.ensures,
         (c.get_version.ensures.answered, c.get_version.ensures.kept, c.get_version.ensures.told, c.get_version.ensures.untouched),
       ),
+      c.get_version.ensures.mine,
+      c.get_version.ensures.seat,
     )
 
 pub returns-in-Load-clause-asked : goal.returns-in-Load-clause-asked
@@ -139,6 +161,8 @@ returns-in-Load-clause-asked g c =
         c.read.ensures,
         (c.load.ensures.answered, c.load.ensures.kept, c.load.ensures.silent, c.load.ensures.visited),
       ),
+      c.load.ensures.mine,
+      c.load.ensures.seat,
     )
 
 pub returns-in-Store-clause-asked : goal.returns-in-Store-clause-asked
@@ -150,6 +174,8 @@ returns-in-Store-clause-asked g c =
         c.written.ensures,
         (c.store.ensures.answered, c.store.ensures.kept, c.store.ensures.silent, c.store.ensures.visited),
       ),
+      c.store.ensures.mine,
+      c.store.ensures.seat,
     )
 
 pub returns-in-Peek-clause-asked : goal.returns-in-Peek-clause-asked
@@ -161,6 +187,8 @@ returns-in-Peek-clause-asked g c =
         c.read-in-Peek.ensures,
         (c.peek.ensures.answered, c.peek.ensures.kept, c.peek.ensures.silent, c.peek.ensures.visited),
       ),
+      c.peek.ensures.mine,
+      c.peek.ensures.seat,
     )
 
 pub returns-in-Poke-clause-asked : goal.returns-in-Poke-clause-asked
@@ -172,6 +200,8 @@ returns-in-Poke-clause-asked g c =
         c.written-in-Poke.ensures,
         (c.poke.ensures.answered, c.poke.ensures.kept, c.poke.ensures.silent, c.poke.ensures.visited),
       ),
+      c.poke.ensures.mine,
+      c.poke.ensures.seat,
     )
 
 pub returns-in-Copy-clause-asked : goal.returns-in-Copy-clause-asked
@@ -186,4 +216,6 @@ returns-in-Copy-clause-asked g c =
         c.copy.ensures.told,
         c.copy.ensures.visited,
       ),
+      c.copy.ensures.mine,
+      c.copy.ensures.seat,
     )

@@ -1,0 +1,121 @@
+-- The lists of a run that make no access to bytes, and the legal order whose answers they print.
+use Rattle.std.specs.Prelude.{◌≡◌, ◌⊎◌, ℕ, ◌<◌, ◌==◌, true, List, [], ◌∷◌, ◌++◌, length}
+use mathlib.Core.Option.{some}
+use lib.ListN.{get_elem?}
+use Rattle.atomic_table.specs.Table.{State}
+use Rattle.gt_types.specs.Denial.{denial_of}
+use Rattle.gt_types.specs.declared.config.Config.{Config}
+use Rattle.gt_types.specs.declared.denial.Facts.TheVariants.{None as NoFacts}
+use Rattle.gt_types.specs.declared.denial.Rule.TheVariants.{N26}
+use Rattle.gt_words.specs.Conditions.{Board}
+use Rattle.gt_words.specs.History.{History}
+use Rattle.gt_words.specs.Rule.{Shows, id_at}
+use Rattle.gt_words.specs.Views.{IsIn}
+use Rattle.gt_words.specs.declared.view.View.{View}
+use Rattle.gt_calls.specs.declared.request.Request.{Request}
+use Rattle.gt_core.specs.History.{History as Items}
+use Rattle.gt_core.specs.Standing.{answer_of}
+use Rattle.gt_core.specs.declared.trace.Answer.{Answer}
+use Rattle.gt_core.specs.declared.trace.Answer.TheVariants as answers
+use Rattle.gt_live.specs.Domains.{AllowRelation, HasLeft}
+use Rattle.gt_live.specs.declared.domain.Domain.{Domain}
+use Rattle.gt_live.specs.declared.domain.Left.{Left}
+use Rattle.gt_live.specs.declared.monitor.Monitor.{Monitor}
+use Rattle.gt_order.specs.Leaving.{AreUnmaps, MayUnmapAll}
+use Rattle.gt_order.specs.Ordering.{IsLegalOrder}
+use Rattle.gt_order.specs.Runs.{CallMade, FitsTypes, Outcome as CallOutcome, SeatRun}
+use Rattle.gt_order.specs.Runs.Outcome.{Told, Kept, Starved}
+use Rattle.gt_lines.specs.declared.calls.AccessCall.{AccessCall}
+use Rattle.gt_lines.specs.declared.calls.AccessCall.TheVariants as accesses
+use Rattle.gt_lines.specs.declared.calls.ScriptCall.{ScriptCall}
+use Rattle.gt_lines.specs.declared.calls.ScriptCall.TheVariants as calls
+use Rattle.gt_host.specs.Runs.{Asks as SaysRequest, Named}
+use Rattle.gt_script.specs.declared.tasks.Deed.TheVariants.{Do}
+use Rattle.gt_script.specs.declared.tasks.Task.{Task}
+use Rattle.gt_run.specs.declared.lists.Duty.{Duty}
+use Rattle.gt_run.specs.Printing.{Served}
+use Rattle.gt_run.specs.Serving.{IsServed, MakesCall, Outcome, Progress}
+
+-- the line asks for no access to bytes
+abbrev pub ReachesNoBytes : AccessCall → Type 0
+ReachesNoBytes (accesses.Unmap label) = Unit {0}
+ReachesNoBytes call = ⊥
+
+abbrev pub MakesNoAccess : ScriptCall → Type 0
+MakesNoAccess (calls.Access call) = ReachesNoBytes call
+MakesNoAccess call = Unit {0}
+
+-- Each call of the duty's list makes no access to bytes, and what it asks has the numbers that its types can hold,
+-- whatever its labels name
+abbrev pub IsQuiet : {P : Type 0} → Duty P → Type 0
+IsQuiet duty =
+    (task : Task) (call : ScriptCall) → IsIn task duty.part.tasks.now → (task.dom.0 == duty.part.dom.0) ≡ true
+    → task.deed ≡ Do call
+    → MakesNoAccess call
+    × ((named : List Named) (request : Request) → SaysRequest named duty.part.dom call request → FitsTypes request)
+
+-- a call with this outcome was answered so
+abbrev pub IsAnswerOf : CallOutcome → Answer → Type 0
+IsAnswerOf (Told verdict) answer = answer ≡ answer_of verdict
+IsAnswerOf (Kept handle p) answer = answer ≡ answers.Mapped handle
+IsAnswerOf Starved answer = answer ≡ answers.Denied (denial_of N26 NoFacts)
+
+-- the call m of a run is the one that a line of the duty's list made, and what came of that: its domain was asked what
+-- the line says, by what its labels stood for then, and its answer is what the line prints
+pub record IsCallOf {P : Type 0} (may : P → AllowRelation) (duty : Duty P) (m : CallMade) (o : Outcome)
+    : Type 0 where
+  pub call : ScriptCall
+  pub before : Progress
+  pub afterwards : Progress
+  pub made : MakesCall may duty o.line call before afterwards
+  pub request : m.request ≡ made.request
+  pub old : m.old ≡ before.domain
+  pub new : m.new ≡ afterwards.domain
+  pub answer : o.answer ≡ made.answer
+  pub answered : IsAnswerOf m.outcome o.answer
+
+-- these calls, the last one first, are those that the lines of the duty's list made, whose outcomes are in their order
+abbrev pub AreCallsOf : {P : Type 0} → (P → AllowRelation) → Duty P → List CallMade → List Outcome → Type 0
+AreCallsOf may duty [] outcomes = outcomes ≡ []
+AreCallsOf may duty (m ∷ ms) outcomes =
+    (before : List Outcome) × (o : Outcome) × (outcomes ≡ before ++ o ∷ []) × IsCallOf may duty m o
+    × AreCallsOf may duty ms before
+
+-- the list of the domain at the position i was served, and makes no access
+pub record HasList {P : Type 0} (may : P → AllowRelation) (m : Monitor P) (i : ℕ) (s : Served P) : Type 0 where
+  pub monitor : s.duty.monitor.now ≡ m
+  pub dom : s.duty.part.dom ≡ id_at m.words.layout.ids i
+  pub served : IsServed may s.duty s.outcomes s.text
+  pub quiet : IsQuiet s.duty
+
+-- the view is that of the domain where its list ended; or the domain has left since, and the policy
+-- lets it give each of its mappings up
+abbrev pub IsViewOf : Board → Config → AllowRelation → Domain → View → Type 0
+IsViewOf b c may d v =
+    (v ≡ d.seat.view) ⊎ ((l : Left) × HasLeft b.layout d l × MayUnmapAll c may d × (v ≡ l.seat.view))
+
+-- one of its calls is a call of its list, or an unmap with which it left
+pub record AreCallsOfList {P : Type 0} (may : P → AllowRelation) (s : Served P) (made : List CallMade) : Type 0 where
+  pub leaving : List CallMade
+  pub listed : List CallMade
+  pub all : made ≡ leaving ++ listed
+  pub unmaps : AreUnmaps leaving
+  pub lines : AreCallsOf may s.duty listed s.outcomes
+
+-- The text of the lists is that of a legal order: one list of items is legal for the run, has the steps of the history in
+-- their order, and has of each domain the calls of its list, with the answers that its lines print
+pub record AreOfALegalOrder {P : Type 0} (may : P → AllowRelation) (m : Monitor P) (h : History) (lists : ℕ → Served P)
+    : Type 0 where
+  pub items : Items
+  pub seats : ℕ → SeatRun
+  pub legal : IsLegalOrder m.config (may m.rights) m.words.layout h seats items
+  pub each : (i : ℕ) → i < length m.config.domains.items → AreCallsOfList may (lists i) (seats i).calls
+
+-- If each domain's list was served and makes no access, and words and views show a state in which each domain has the
+-- view with which its list ended or it left, the text of the lists is that of a legal order
+abbrev pub TextsAreOfALegalOrder : {P : Type 0} → (P → AllowRelation) → Monitor P → Type 0
+TextsAreOfALegalOrder {P} may m =
+    (lists : ℕ → Served P) (s : State (Unit {0}) View) (ends : ℕ → View)
+    → ((i : ℕ) → i < length m.config.domains.items → (l : HasList may m i (lists i))
+    × IsViewOf m.words m.config (may m.rights) l.served.left.domain (ends i) × (get_elem? s.views i ≡ some (ends i)))
+    → (shown : Shows m.words.layout s) → AreOfALegalOrder may m shown.history lists
