@@ -63,6 +63,11 @@ impl SharedLog {
         &self.entries.value(&pushed.token).told
     }
 
+    /// How many records are there by now.
+    pub fn count(&self) -> usize {
+        self.entries.count()
+    }
+
     /// A record of this domain under this number, if one is there by now: it walks over all records, the
     /// first pushed first.
     pub fn find(&self, dom: DomId, number: u64) -> Option<&Record>

@@ -8,7 +8,8 @@
 //! `--failing-audit` the same with the records. After the word `--policy` come policies: `x` is `data/x.te`, as
 //! `gthost` lists it. After `--beginnings` each beginning of a script is played, from no byte to the whole, and what it
 //! prints stands after its count of bytes if it differs from what one byte less prints; after
-//! `--policy-beginnings` those of a policy are listed. A script or policy is added by its file, its name in `args` and
+//! `--policy-beginnings` those of a policy are listed. After `--refusing`, `--refusing-audit` and `--policy-refusing`
+//! each request for memory is refused in turn, and a line says whether all of these were told. A script or policy is added by its file, its name in `args` and
 //! its lines in `stdout`; that costs no proof.
 //!
 //! If memory is refused, the program ends with status 1, and what it printed is a beginning of `stdout`.
@@ -17,12 +18,14 @@
 mod beginnings;
 mod failing;
 mod policies;
+mod refusing;
 mod scripts;
 
 use anyhow::bail;
 use beginnings::{policy_beginnings, script_beginnings};
 use failing::failing_said;
 use policies::policy_said;
+use refusing::{policy_refused, script_refused};
 use scripts::{Played, script_said};
 
 // What is done with the names that follow.
@@ -34,6 +37,8 @@ enum Mode {
     Beginnings,
     Policy,
     PolicyBeginnings,
+    Refusing(bool),
+    PolicyRefusing,
 }
 
 // The mode that a word names, if it is no name of a file.
@@ -45,6 +50,9 @@ fn mode_named(word: &str) -> Option<Mode> {
         "--beginnings" => Some(Mode::Beginnings),
         "--policy" => Some(Mode::Policy),
         "--policy-beginnings" => Some(Mode::PolicyBeginnings),
+        "--refusing" => Some(Mode::Refusing(false)),
+        "--refusing-audit" => Some(Mode::Refusing(true)),
+        "--policy-refusing" => Some(Mode::PolicyRefusing),
         _ => None,
     }
 }
@@ -73,6 +81,8 @@ fn main(rt: HostRuntime) -> anyhow::Result<()> {
             Mode::Beginnings => whole(script_beginnings(&rt, alloc, word.as_str())?),
             Mode::Policy => whole(policy_said(&rt, alloc, word.as_str())?),
             Mode::PolicyBeginnings => whole(policy_beginnings(&rt, alloc, word.as_str())?),
+            Mode::Refusing(audit) => whole(script_refused(&rt, alloc, word.as_str(), audit)?),
+            Mode::PolicyRefusing => whole(policy_refused(&rt, alloc, word.as_str())?),
         };
         let text = &said.text;
         print!(rt; "== {word}\n{text}")?;

@@ -1,0 +1,137 @@
+//! All memory of the allocator, and what is let through of it.
+use std::alloc::{AllocError, Global};
+
+// The first blocks have these many bytes, and each further one half of that: the largest that a system has addresses
+// for, down to those that only a freed block of the same size can serve.
+const LARGEST: usize = 1 << 40;
+
+// So many blocks can be held. A system with 2^47 bytes of addresses takes some 8,000 of 16 GiB.
+const BLOCKS: usize = 65_536;
+
+// The program's own room while the flood is open. The allocator maps such a block anew each time, and it has no place
+// for another heap of a thread.
+const WINDOW: usize = 48 << 20;
+
+// Blocks below this size are then served from one heap, without a map of their own each.
+const HEAP: usize = 4 << 20;
+
+// Blocks from this size on go by halves, and smaller ones by steps, since a small one may wait in a list of its size.
+const SMALL: usize = 2_040;
+
+const STEP: usize = 16;
+
+/// All memory that the allocator can give, once it is closed.
+#[derive(Drop)]
+pub struct Flood {
+    alloc: Global,
+    taken: Vec<Vec<u8>>,
+    base: usize,
+    gap: usize,
+    plug: Option<Vec<u8>>,
+}
+
+impl Flood {
+    /// A flood that is open: some 48 MiB are left to the program.
+    ///
+    /// # Errors
+    ///
+    /// If there is no room for the list of blocks, or the window.
+    pub fn new(alloc: Global) -> Result<Flood, AllocError> {
+        let taken = Vec::with_capacity(alloc, BLOCKS)?;
+        let heap: Vec<u8> = Vec::with_capacity(alloc, HEAP)?;
+        drop(heap);
+        let window: Vec<u8> = Vec::with_capacity(alloc, WINDOW)?;
+        let mut flood = Flood {
+            alloc,
+            taken,
+            base: 0,
+            gap: 0,
+            plug: None,
+        };
+        flood.take_by_halves(LARGEST, WINDOW);
+        flood.base = flood.taken.len();
+        drop(window);
+        Ok(flood)
+    }
+
+    /// Takes all that is left. From now on every request is refused, until some of the `gap` bytes are let through:
+    /// less than 4 MiB, which are held as one block.
+    ///
+    /// # Errors
+    ///
+    /// If there is no room for that block. Then the flood is open.
+    pub fn close(&mut self, gap: usize) -> Result<(), AllocError> {
+        self.open();
+        let plug = Vec::with_capacity(self.alloc, gap)?;
+        self.gap = gap;
+        self.plug = Some(plug);
+        self.take_by_halves(WINDOW, SMALL);
+        self.take_by_steps();
+        Ok(())
+    }
+
+    /// The same, but `room` bytes of addresses are left for the stacks of threads: 4 MiB or more.
+    ///
+    /// # Errors
+    ///
+    /// If there is no room for the gap, or for that. Then the flood is open.
+    pub fn close_with_room(&mut self, gap: usize, room: usize) -> Result<(), AllocError> {
+        self.open();
+        let stacks: Vec<u8> = Vec::with_capacity(self.alloc, room)?;
+        self.close(gap)?;
+        drop(stacks);
+        Ok(())
+    }
+
+    /// Lets so many bytes of the gap through, and answers whether the others are held back.
+    pub fn let_through(&mut self, bytes: usize) -> bool {
+        self.plug = None;
+        if bytes >= self.gap {
+            return false;
+        }
+        self.plug = Vec::with_capacity(self.alloc, self.gap - bytes).ok();
+        self.plug.is_some()
+    }
+
+    /// Gives back what was taken since it was made.
+    pub fn open(&mut self) {
+        self.plug = None;
+        self.taken.truncate(self.base);
+    }
+
+    // Takes blocks of this size until one is refused.
+    fn take_all(&mut self, size: usize) {
+        for _ in 0..BLOCKS {
+            if self.taken.len() >= BLOCKS {
+                return;
+            }
+            let Ok(block) = Vec::with_capacity(self.alloc, size) else {
+                return;
+            };
+            if self.taken.push(block).is_err() {
+                return;
+            }
+        }
+    }
+
+    // Takes all blocks of a size, and of each half of it down to another.
+    fn take_by_halves(&mut self, from: usize, to: usize) {
+        let mut size = from;
+        for _ in 0..usize::BITS {
+            if size < to {
+                return;
+            }
+            self.take_all(size);
+            size /= 2;
+        }
+    }
+
+    // Takes all small blocks, size by size.
+    fn take_by_steps(&mut self) {
+        let mut size = SMALL;
+        for _ in 0..SMALL / STEP {
+            self.take_all(size);
+            size = size.saturating_sub(STEP);
+        }
+    }
+}
