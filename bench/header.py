@@ -16,11 +16,15 @@ STRUCTS = {
     "Handle": "gthost_domain", "DomainSettings": "gthost_settings", "Fault": "gthost_fault", "Answer": "gthost_answer",
     "MapHandle": "gthost_handle", "Mapping": "gthost_mapping", "CopyEnd": "gthost_end", "CopySettings": "gthost_copy",
     "PlaceTold": "gthost_place", "PlacesTold": "gthost_places", "Record": "gthost_record",
+    "MappingTold": "gthost_found_mapping", "RecordTold": "gthost_found_record", "BegunTold": "gthost_begun_copy",
+    "EntryBytes": "gthost_entry_bytes", "FaultText": "gthost_text",
 }
 OF_RUST = {
     "Domain": "gthost_domain", "Settings": "gthost_settings", "Fault": "gthost_fault", "Answer": "gthost_answer",
     "Handle": "gthost_handle", "Mapping": "gthost_mapping", "End": "gthost_end", "Copying": "gthost_copy",
     "Place": "gthost_place", "Places": "gthost_places", "Record": "gthost_record",
+    "FoundMapping": "gthost_found_mapping", "FoundRecord": "gthost_found_record", "BegunCopy": "gthost_begun_copy",
+    "EntryBytes": "gthost_entry_bytes",
 }
 SCALARS = {
     "u8": ("uint8_t", 1), "u16": ("uint16_t", 2), "u32": ("uint32_t", 4), "u64": ("uint64_t", 8), "i32": ("int32_t", 4),
@@ -29,6 +33,13 @@ SCALARS = {
 EMPTY = {"Global"}  # the allocator: it takes no bytes
 KINDS = {"Mapped": "HANDLE"}  # a name of the header, where it is no other spelling of the Rattle side's word
 ZEROS = {"GTHOST_OK", "GTHOST_NOTHING", "GTHOST_FAULT_NONE"}
+# Functions that the header has itself: each tests pointers, and makes the call of the export beside it.
+INLINE = {"gthost_start": "gthost_start_at"}
+# The limits of gt_types that the header names.
+LIMITS = {
+    "MAX_DOMAINS", "MAX_FRAMES", "FRAME_SIZE", "MAX_TABLE_FRAMES", "LAST_VERSION", "MAX_MAPPINGS", "MAX_PINS",
+    "LAST_GENERATION", "DOMID_SELF",
+}
 # The numbers that Xen's public header has too, by its names.
 OF_XEN = {
     "GTHOST_MAP_WRITABLE": "GNTMAP_host_map", "GTHOST_MAP_READ_ONLY": "GNTMAP_host_map | GNTMAP_readonly",
@@ -64,6 +75,10 @@ def measure(all_structs, kind):
     if kind in SCALARS:
         size = SCALARS[kind][1]
         return size, size, [("", 0, size)]
+    array = re.fullmatch(r"\[(\w+); (\d+)\]", kind)
+    if array:
+        size, align, _ = measure(all_structs, array.group(1))
+        return size * int(array.group(2)), align, [("", 0, size * int(array.group(2)))]
     at, widest, places = 0, 1, []
     for field, inner in all_structs[kind]:
         size, align, inside = measure(all_structs, inner)
@@ -119,18 +134,19 @@ def declarations(found, names):
             field, kind = (one.strip() for one in param.split(":", 1))
             if kind not in EMPTY:
                 told += c_type(kind, field, names)
-        yield name, f"{SCALARS[result][0] if result else 'void'} {name}({', '.join(told)});"
+        answered = SCALARS[result][0] if result in SCALARS else f"struct {names[result]}"
+        yield name, f"{answered} {name}({', '.join(told)});"
 
 
 def exports(text):
-    found = re.findall(r'pub extern "C" fn (\w+)\((.*?)\)(?: -> (\w+))?\s*(?=\{|ensures|requires)', text, re.S)
+    found = re.findall(r'pub (?:unsafe )?extern "C" fn (\w+)\((.*?)\) -> (\w+)\s*(?=\{|ensures|ghost)', text, re.S)
     return dict(declarations(found, STRUCTS))
 
 
 def rust():
     text = "\n".join((TOP / "contrib" / "rust" / "src" / name).read_text(encoding="utf-8") for name in ("raw.rs", "lib.rs"))
     text = re.sub(r"//.*", "", text).replace("super::", "")
-    found = re.findall(r"^    pub fn (gthost_\w+)\((.*?)\)(?: -> (\w+))?;", text, re.S | re.M)
+    found = re.findall(r"^    pub fn (gthost_\w+)\((.*?)\) -> (\w+);", text, re.S | re.M)
     return structs(text), dict(declarations(found, OF_RUST))
 
 
@@ -142,12 +158,17 @@ def numbers(text):
         yield f"GTHOST_{spelled(word)}", number
     for word, number in re.findall(r"Field::(\w+) => (\d+),", text):
         yield f"GTHOST_FIELD_{spelled(word)}", number
-    for word, number in re.findall(r"pub const (NO_DOMAIN|BUSY|NO_MEMORY|NO_COPY|ABSENT): u32 = (\d+);", text):
+    for word, number in re.findall(r"pub const (NO_DOMAIN|BUSY|NO_MEMORY|NO_COPY|ABSENT|NULL_POINTER): u32 = (\d+);", text):
         yield f"GTHOST_{word}", number
     for word, number in re.findall(r"(?:PolicyFaultKind|ConfigFault)::(\w+)(?:\(\w+\))? => fault_at\((\d+),", text):
         yield f"GTHOST_FAULT_{spelled(word)}", number
     for word, number in re.findall(r"const (MEMORY|HANDLES): Fault = Fault \{\s*kind: (\d+),", text):
         yield f"GTHOST_FAULT_{word}", number
+    for number in re.findall(r'(\d+) => "a pointer is null",', text):
+        yield "GTHOST_FAULT_NULL_POINTER", number
+    for word, number in re.findall(r"pub const (\w+): u(?:16|32|size) = (\w+);", text):
+        if word in LIMITS:
+            yield f"GTHOST_{word}", number.replace("_", "")
     for number in re.findall(r"str::from_utf8\(policy\) else \{\s*return Err\(fault_at\((\d+),", text):
         yield "GTHOST_FAULT_TEXT", number
     for word, number in re.findall(r"Hypercall::(\w+)[^=]*=> Record \{\s*call: (\d+),", text):
@@ -173,7 +194,10 @@ def main():
     header = re.sub(r"/\*.*?\*/", "", (TOP / "include" / "gthost.h").read_text(encoding="utf-8"), flags=re.S)
     made, said, of_status = exports(text), dict(numbers(text)), dict(statuses(text))
     rust_structs, rust_made = rust()
-    compare_names("exports", set(re.findall(r"\b(gthost_\w+)\(", header)), set(made))
+    compare_names("exports", set(re.findall(r"\b(gthost_\w+)\(", header)), set(made) | set(INLINE))
+    for name, export in INLINE.items():
+        if not re.search(rf"static inline [^;{{}}]*\b{name}\([^;{{}}]*\)\s*\{{.*?return {export}\(", header, re.S):
+            raise SystemExit(f"header: {name} is no function of the header that calls {export}")
     compare_names("structs", set(re.findall(r"^struct (\w+) \{", header, re.M)), set(STRUCTS.values()))
     compare_names("numbers", set(re.findall(r"\b(GTHOST_\w+) =", header)), set(said) | ZEROS | set(OF_XEN))
     compare_order(header, made)

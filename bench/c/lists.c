@@ -12,7 +12,7 @@
 #include <stdlib.h>
 #include <string.h>
 
-enum { WORDS = 12, TYPES = 16, DOMAINS = 8, LABELS = 64, BYTES = 4096, ANSWER = 128, SELF = 0x7FF0, LAST = 100 };
+enum { WORDS = 12, TYPES = 16, DOMAINS = 8, LABELS = 64, ANSWER = 128, SELF = 0x7FF0, LAST = 100 };
 
 struct named {
     char label[32];
@@ -82,16 +82,16 @@ static uint32_t flags(size_t place)
     return is(place, "rw") ? GTHOST_MAP_WRITABLE : is(place, "ro") ? GTHOST_MAP_READ_ONLY : (uint32_t)number(place);
 }
 
-static size_t bytes(size_t place, uint8_t *out)
+static struct gthost_entry_bytes entry(size_t place)
 {
     const char *text = at(place);
-    size_t len = strcmp(text, "-") == 0 ? 0 : strlen(text) / 2;
-    for (size_t i = 0; i < len && i < BYTES; i++) {
+    struct gthost_entry_bytes entry = {strcmp(text, "-") == 0 ? 0 : strlen(text) / 2, {0}};
+    for (size_t i = 0; i < entry.len && i < sizeof entry.bytes; i++) {
         unsigned byte;
         sscanf(text + 2 * i, "%2x", &byte);
-        out[i] = (uint8_t)byte;
+        entry.bytes[i] = (uint8_t)byte;
     }
-    return len;
+    return entry;
 }
 
 /* --- answers --- */
@@ -215,14 +215,12 @@ static void put_record(const struct gthost_record *r)
 /* The records that have come since the last time. So the records of all domains are in the order of the answers. */
 static void take_records(struct member *member)
 {
-    struct gthost_record record;
-    struct gthost_answer answer;
     for (;;) {
-        gthost_record(member->domain, member->recorded, &record, &answer);
-        if (answer.rule != GTHOST_OK) {
+        const struct gthost_found_record found = gthost_record(member->domain, member->recorded);
+        if (found.answer.rule != GTHOST_OK) {
             return;
         }
-        put_record(&record);
+        put_record(&found.kept);
         member->recorded++;
     }
 }
@@ -255,29 +253,28 @@ static void grant(struct gthost_domain *domain, struct gthost_answer *answer)
     uint32_t gref = (uint32_t)number(3);
     bool ro = is(6, "ro");
     if (is(4, "page")) {
-        gthost_grant_page(domain, gref, dom(5), number(7), ro, answer);
+        *answer = gthost_grant_page(domain, gref, dom(5), number(7), ro);
     } else if (is(4, "sub")) {
-        gthost_grant_sub(domain, gref, dom(5), number(7), (uint16_t)number(8), (uint16_t)number(9), ro, answer);
+        *answer = gthost_grant_sub(domain, gref, dom(5), number(7), (uint16_t)number(8), (uint16_t)number(9), ro);
     } else {
-        gthost_grant_via(domain, gref, dom(5), dom(7), (uint32_t)number(8), ro, answer);
+        *answer = gthost_grant_via(domain, gref, dom(5), dom(7), (uint32_t)number(8), ro);
     }
 }
 
 static void copy_begin(struct gthost_domain *domain, struct gthost_answer *answer)
 {
-    struct gthost_places places;
-    struct gthost_copy copy = {
+    const struct gthost_copy copy = {
         {number(5), dom(4), (uint16_t)number(6)},
         {number(9), dom(8), (uint16_t)number(10)},
         (uint16_t)number(11),
         (uint16_t)((is(3, "gref") ? GTHOST_COPY_SOURCE_GREF : 0) | (is(7, "gref") ? GTHOST_COPY_DEST_GREF : 0)),
     };
-    gthost_copy_begin(domain, &copy, &places, answer);
+    *answer = gthost_copy_begin(domain, copy).answer;
 }
 
 static void map(struct member *member, struct gthost_answer *answer)
 {
-    gthost_map(member->domain, dom(4), (uint32_t)number(5), flags(6), answer);
+    *answer = gthost_map(member->domain, dom(4), (uint32_t)number(5), flags(6));
     if (answer->rule == GTHOST_OK) {
         struct gthost_handle *to = handle(member, at(3), true);
         to->serial = answer->value;
@@ -288,37 +285,35 @@ static void map(struct member *member, struct gthost_answer *answer)
 static void call(struct member *member, struct gthost_answer *answer)
 {
     struct gthost_domain *domain = member->domain;
-    uint8_t entry[BYTES];
     if (is(2, "grant")) {
         grant(domain, answer);
     } else if (is(2, "bytes")) {
-        size_t len = bytes(4, entry);
-        gthost_grant_bytes(domain, (uint32_t)number(3), entry, len, answer);
+        *answer = gthost_grant_bytes(domain, (uint32_t)number(3), entry(4));
     } else if (is(2, "revoke")) {
-        gthost_revoke(domain, (uint32_t)number(3), answer);
+        *answer = gthost_revoke(domain, (uint32_t)number(3));
     } else if (is(2, "withdraw")) {
-        gthost_withdraw(domain, (uint32_t)number(3), answer);
+        *answer = gthost_withdraw(domain, (uint32_t)number(3));
     } else if (is(2, "demote")) {
-        gthost_demote(domain, (uint32_t)number(3), answer);
+        *answer = gthost_demote(domain, (uint32_t)number(3));
     } else if (is(2, "promote")) {
-        gthost_promote(domain, (uint32_t)number(3), answer);
+        *answer = gthost_promote(domain, (uint32_t)number(3));
     } else if (is(2, "map")) {
         map(member, answer);
     } else if (is(2, "unmap")) {
-        gthost_unmap(domain, *handle(member, at(3), false), answer);
+        *answer = gthost_unmap(domain, *handle(member, at(3), false));
     } else if (is(2, "copy")) {
         copy_begin(domain, answer);
         if (answer->rule == GTHOST_OK) {
-            gthost_copy_end(domain, answer);
+            *answer = gthost_copy_end(domain);
         }
     } else if (is(2, "version")) {
-        gthost_set_version(domain, (uint32_t)number(3), answer);
+        *answer = gthost_set_version(domain, (uint32_t)number(3));
     } else if (is(2, "setup")) {
-        gthost_setup_table(domain, (uint32_t)number(3), answer);
+        *answer = gthost_setup_table(domain, (uint32_t)number(3));
     } else if (is(2, "size")) {
-        gthost_query_size(domain, dom(3), answer);
+        *answer = gthost_query_size(domain, dom(3));
     } else if (is(2, "getversion")) {
-        gthost_get_version(domain, dom(3), answer);
+        *answer = gthost_get_version(domain, dom(3));
     } else {
         stop("no such call");
     }
@@ -384,7 +379,7 @@ static void tick(struct member *member)
         if (!is_last) {
             return;
         }
-        gthost_copy_end(member->domain, &answer);
+        answer = gthost_copy_end(member->domain);
     }
     answered(member->open, member, &answer);
     take_records(member);
@@ -411,9 +406,9 @@ static void domain(void)
 
 static void start(void)
 {
-    struct gthost_fault fault;
-    if (!gthost_start(settings, member_count, first_gen, (const uint8_t *)policy, policy_len, handles, member_count,
-                      &fault)) {
+    const struct gthost_fault fault =
+        gthost_start(settings, member_count, first_gen, (const uint8_t *)policy, policy_len, handles, member_count);
+    if (fault.kind != GTHOST_FAULT_NONE) {
         printf("fault %u %u %u\n", fault.kind, fault.line, fault.dom);
         exit(1);
     }
@@ -453,7 +448,7 @@ static void finish(void)
     }
     fwrite(audit, 1, audit_len, stdout);
     for (size_t i = 0; i < member_count; i++) {
-        if (gthost_finish(members[i].domain) != 0) {
+        if (gthost_finish(members[i].domain).value != 0) {
             stop("records were lost");
         }
     }

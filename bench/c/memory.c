@@ -57,7 +57,8 @@ static int failures;
 static bool start(struct gthost_domain *domains, struct gthost_fault *fault)
 {
     const struct gthost_settings settings[] = {{1, 0, 8, 1, 2}, {2, 0, 8, 1, 2}};
-    return gthost_start(settings, 2, 0, (const uint8_t *)POLICY, strlen(POLICY), domains, 2, fault);
+    *fault = gthost_start(settings, 2, 0, (const uint8_t *)POLICY, strlen(POLICY), domains, 2);
+    return fault->kind == GTHOST_FAULT_NONE;
 }
 
 static struct gthost_answer answer;
@@ -82,7 +83,7 @@ static void wants(const char *what, uint32_t rule, long memory, long before)
 static struct gthost_handle mapped(struct gthost_domain *domain, long memory)
 {
     long before = taken;
-    gthost_map(domain, 1, 7, GTHOST_MAP_READ_ONLY, &answer);
+    answer = gthost_map(domain, 1, 7, GTHOST_MAP_READ_ONLY);
     wants("map", GTHOST_OK, memory, before);
     struct gthost_handle name = {answer.value, (size_t)answer.more};
     return name;
@@ -90,70 +91,67 @@ static struct gthost_handle mapped(struct gthost_domain *domain, long memory)
 
 static void calls(struct gthost_domain *one, struct gthost_domain *two)
 {
-    const uint8_t entry[16] = {1, 0, 2, 0, 0, 0, 0, 0, 3};
+    const struct gthost_entry_bytes entry = {16, {1, 0, 2, 0, 0, 0, 0, 0, 3}};
     const struct gthost_copy copy = {{10, 1, 0}, {1, 2, 0}, 16, GTHOST_COPY_SOURCE_GREF};
-    struct gthost_places places;
-    struct gthost_mapping mapping;
-    NONE(GTHOST_OK, gthost_grant_page(one, 7, 2, 5, 0, &answer));
-    NONE(GTHOST_OK, gthost_grant_sub(one, 8, 2, 5, 0, 64, 0, &answer));
-    NONE(GTHOST_OK, gthost_grant_via(one, 9, 2, 2, 3, 0, &answer));
-    NONE(GTHOST_OK, gthost_grant_bytes(one, 10, entry, 16, &answer));
+    NONE(GTHOST_OK, answer = gthost_grant_page(one, 7, 2, 5, 0));
+    NONE(GTHOST_OK, answer = gthost_grant_sub(one, 8, 2, 5, 0, 64, 0));
+    NONE(GTHOST_OK, answer = gthost_grant_via(one, 9, 2, 2, 3, 0));
+    NONE(GTHOST_OK, answer = gthost_grant_bytes(one, 10, entry));
     for (int i = 0; i < 3; i++) {
         struct gthost_handle name = mapped(two, 0);
-        NONE(GTHOST_OK, gthost_mapping(two, name, &mapping, &answer));
-        NONE(19, gthost_revoke(one, 7, &answer));
-        NONE(GTHOST_OK, gthost_unmap(two, name, &answer));
-        NONE(6, gthost_unmap(two, name, &answer));
+        NONE(GTHOST_OK, answer = gthost_mapping(two, name).answer);
+        NONE(19, answer = gthost_revoke(one, 7));
+        NONE(GTHOST_OK, answer = gthost_unmap(two, name));
+        NONE(6, answer = gthost_unmap(two, name));
     }
-    NONE(GTHOST_OK, gthost_demote(one, 7, &answer));
-    NONE(13, gthost_map(two, 1, 7, GTHOST_MAP_WRITABLE, &answer));
-    NONE(GTHOST_OK, gthost_promote(one, 7, &answer));
-    NONE(GTHOST_OK, gthost_copy_begin(two, &copy, &places, &answer));
-    NONE(GTHOST_BUSY, gthost_query_size(two, 1, &answer));
-    NONE(GTHOST_OK, gthost_copy_end(two, &answer));
-    NONE(GTHOST_NO_COPY, gthost_copy_end(two, &answer));
-    NONE(GTHOST_OK, gthost_query_size(two, 1, &answer));
-    NONE(GTHOST_OK, gthost_get_version(two, 1, &answer));
-    NONE(GTHOST_OK, gthost_setup_table(two, 2, &answer));
-    NONE(24, gthost_set_version(one, 1, &answer));
-    NONE(GTHOST_OK, gthost_withdraw(one, 7, &answer));
-    NONE(GTHOST_OK, gthost_revoke(one, 8, &answer));
-    NONE(GTHOST_OK, gthost_revoke(one, 9, &answer));
-    NONE(GTHOST_OK, gthost_revoke(one, 10, &answer));
-    NONE(GTHOST_OK, gthost_set_version(one, 1, &answer));
-    NONE(GTHOST_OK, gthost_set_version(one, 2, &answer));
+    NONE(GTHOST_OK, answer = gthost_demote(one, 7));
+    NONE(13, answer = gthost_map(two, 1, 7, GTHOST_MAP_WRITABLE));
+    NONE(GTHOST_OK, answer = gthost_promote(one, 7));
+    NONE(GTHOST_OK, answer = gthost_copy_begin(two, copy).answer);
+    NONE(GTHOST_BUSY, answer = gthost_query_size(two, 1));
+    NONE(GTHOST_OK, answer = gthost_copy_end(two));
+    NONE(GTHOST_NO_COPY, answer = gthost_copy_end(two));
+    NONE(GTHOST_OK, answer = gthost_query_size(two, 1));
+    NONE(GTHOST_OK, answer = gthost_get_version(two, 1));
+    NONE(GTHOST_OK, answer = gthost_setup_table(two, 2));
+    NONE(24, answer = gthost_set_version(one, 1));
+    NONE(GTHOST_OK, answer = gthost_withdraw(one, 7));
+    NONE(GTHOST_OK, answer = gthost_revoke(one, 8));
+    NONE(GTHOST_OK, answer = gthost_revoke(one, 9));
+    NONE(GTHOST_OK, answer = gthost_revoke(one, 10));
+    NONE(GTHOST_OK, answer = gthost_set_version(one, 1));
+    NONE(GTHOST_OK, answer = gthost_set_version(one, 2));
 }
 
 /* The first mapping of a domain takes memory, and each later one only if there are more than ever before. */
 static void warm(struct gthost_domain *one, struct gthost_domain *two)
 {
-    gthost_grant_page(one, 7, 2, 5, 0, &answer);
+    answer = gthost_grant_page(one, 7, 2, 5, 0);
     long before = taken;
     struct gthost_handle name = mapped(two, 9);
     printf("the first mapping of a domain takes %ld allocations\n", taken - before);
-    gthost_unmap(two, name, &answer);
-    gthost_revoke(one, 7, &answer);
+    answer = gthost_unmap(two, name);
+    answer = gthost_revoke(one, 7);
 }
 
 static void counts(bool is_ahead)
 {
     struct gthost_domain domains[2] = {{0}};
     struct gthost_fault fault;
-    struct gthost_record record;
     if (!start(domains, &fault)) {
         failures++;
         return;
     }
     for (int i = 0; i < 2; i++) {
         if (is_ahead) {
-            gthost_reserve_records(&domains[i], 100, &answer);
+            answer = gthost_reserve_records(&domains[i], 100);
         } else {
-            gthost_keep_at_most(&domains[i], 0, &answer);
+            answer = gthost_keep_at_most(&domains[i], 0);
         }
     }
     warm(&domains[0], &domains[1]);
     calls(&domains[0], &domains[1]);
-    NONE(is_ahead ? GTHOST_OK : GTHOST_ABSENT, gthost_record(&domains[1], 0, &record, &answer));
+    NONE(is_ahead ? GTHOST_OK : GTHOST_ABSENT, answer = gthost_record(&domains[1], 0).answer);
     gthost_finish(&domains[0]);
     gthost_finish(&domains[1]);
 }
@@ -167,14 +165,14 @@ static void refused(void)
         failures++;
         return;
     }
-    gthost_grant_page(&domains[0], 7, 2, 5, 0, &answer);
+    answer = gthost_grant_page(&domains[0], 7, 2, 5, 0);
     left = 0;
-    NONE(26, gthost_map(&domains[1], 1, 7, GTHOST_MAP_READ_ONLY, &answer));
-    NONE(GTHOST_NO_MEMORY, gthost_reserve_records(&domains[1], 100, &answer));
-    NONE(GTHOST_OK, gthost_query_size(&domains[1], 1, &answer));
+    NONE(26, answer = gthost_map(&domains[1], 1, 7, GTHOST_MAP_READ_ONLY));
+    NONE(GTHOST_NO_MEMORY, answer = gthost_reserve_records(&domains[1], 100));
+    NONE(GTHOST_OK, answer = gthost_query_size(&domains[1], 1));
     left = -1;
     gthost_finish(&domains[0]);
-    if (gthost_finish(&domains[1]) != 2) {
+    if (gthost_finish(&domains[1]).value != 2) {
         printf("not two records lost\n");
         failures++;
     }

@@ -34,7 +34,8 @@ static void wants(int line, const struct gthost_answer *answer, uint32_t rule, i
 static bool starts(const struct gthost_settings *settings, size_t count, const char *policy,
                    struct gthost_domain *out, size_t out_count, struct gthost_fault *fault)
 {
-    return gthost_start(settings, count, 0, (const uint8_t *)policy, strlen(policy), out, out_count, fault);
+    *fault = gthost_start(settings, count, 0, (const uint8_t *)policy, policy ? strlen(policy) : 0, out, out_count);
+    return fault->kind == GTHOST_FAULT_NONE;
 }
 
 static void faults(void)
@@ -53,6 +54,9 @@ static void faults(void)
     HOLDS(fault.kind == GTHOST_FAULT_NO_DOMAINS);
     HOLDS(!starts(two, 2, "\xff", out, 2, &fault));
     HOLDS(fault.kind == GTHOST_FAULT_TEXT);
+    HOLDS(!starts(NULL, 2, POLICY, out, 2, &fault) && fault.kind == GTHOST_FAULT_NULL_POINTER);
+    HOLDS(!starts(two, 2, NULL, out, 2, &fault) && fault.kind == GTHOST_FAULT_NULL_POINTER);
+    HOLDS(!starts(two, 2, POLICY, NULL, 2, &fault) && fault.kind == GTHOST_FAULT_NULL_POINTER);
     HOLDS(!out[0].is_live && !out[1].is_live);
 }
 
@@ -63,151 +67,195 @@ static void shares(void)
     struct gthost_fault fault;
     struct gthost_answer answer;
     struct gthost_handle name;
+    struct gthost_entry_bytes entry = {8, {1, 0, 2, 0, 5}};
     HOLDS(starts(two, COUNT(two), POLICY, domain, COUNT(domain), &fault));
     HOLDS(fault.kind == GTHOST_FAULT_NONE);
     HOLDS(!starts(two, COUNT(two), POLICY, domain, COUNT(domain), &fault) && fault.kind == GTHOST_FAULT_HANDLES);
-    gthost_map(&domain[1], 1, 7, GTHOST_MAP_WRITABLE, &answer);
+    answer = gthost_map(&domain[1], 1, 7, GTHOST_MAP_WRITABLE);
     WANT(10, -1, GTHOST_ENTRY);
     HOLDS(answer.dom == 1 && answer.gref == 7);
-    gthost_grant_page(&domain[0], 7, 2, 5, 0, &answer);
+    answer = gthost_grant_page(&domain[0], 7, 2, 5, 0);
     WANT(GTHOST_OK, 0, GTHOST_NOTHING);
-    gthost_grant_page(&domain[0], 7, 2, 5, 0, &answer);
+    answer = gthost_grant_page(&domain[0], 7, 2, 5, 0);
     WANT(20, -1, GTHOST_NOTHING);
-    gthost_map(&domain[1], 9, 7, GTHOST_MAP_WRITABLE, &answer);
+    answer = gthost_map(&domain[1], 9, 7, GTHOST_MAP_WRITABLE);
     WANT(1, -2, GTHOST_NOTHING);
-    gthost_map(&domain[1], 1, 7, 3, &answer);
+    answer = gthost_map(&domain[1], 1, 7, 3);
     WANT(2, -1, GTHOST_NOTHING);
-    gthost_map(&domain[0], 2, 7, GTHOST_MAP_WRITABLE, &answer);
+    answer = gthost_map(&domain[0], 2, 7, GTHOST_MAP_WRITABLE);
     WANT(5, -8, GTHOST_POLICY);
-    gthost_map(&domain[1], 1, 7, GTHOST_MAP_WRITABLE, &answer);
+    answer = gthost_map(&domain[1], 1, 7, GTHOST_MAP_WRITABLE);
     WANT(GTHOST_OK, 0, GTHOST_HANDLE);
     name.serial = answer.value;
     name.key = (size_t)answer.more;
-    gthost_revoke(&domain[0], 7, &answer);
+    answer = gthost_revoke(&domain[0], 7);
     WANT(19, -1, GTHOST_ENTRY);
-    gthost_unmap(&domain[1], name, &answer);
+    answer = gthost_unmap(&domain[1], name);
     WANT(GTHOST_OK, 0, GTHOST_NOTHING);
-    gthost_unmap(&domain[1], name, &answer);
+    answer = gthost_unmap(&domain[1], name);
     WANT(6, -4, GTHOST_NOTHING);
-    gthost_revoke(&domain[0], 7, &answer);
+    answer = gthost_revoke(&domain[0], 7);
     WANT(GTHOST_OK, 0, GTHOST_NOTHING);
-    gthost_grant_bytes(&domain[0], 8, (const uint8_t *)"\1\0\2\0\5", 5, &answer);
+    entry.len = 5;
+    answer = gthost_grant_bytes(&domain[0], 8, entry);
     WANT(25, -1, GTHOST_FIELD);
-    gthost_grant_bytes(&domain[0], 8, (const uint8_t *)"\1\0\2\0\5\0\0\0", 8, &answer);
+    entry.len = 17;
+    answer = gthost_grant_bytes(&domain[0], 8, entry);
+    WANT(25, -1, GTHOST_FIELD);
+    entry.len = 8;
+    answer = gthost_grant_bytes(&domain[0], 8, entry);
     WANT(GTHOST_OK, 0, GTHOST_NOTHING);
-    gthost_demote(&domain[0], 8, &answer);
+    answer = gthost_demote(&domain[0], 8);
     WANT(GTHOST_OK, 0, GTHOST_NOTHING);
-    gthost_map(&domain[1], 1, 8, GTHOST_MAP_WRITABLE, &answer);
+    answer = gthost_map(&domain[1], 1, 8, GTHOST_MAP_WRITABLE);
     WANT(13, -1, GTHOST_ENTRY);
-    gthost_query_size(&domain[0], 2, &answer);
+    answer = gthost_query_size(&domain[0], 2);
     WANT(GTHOST_OK, 0, GTHOST_SIZE);
     HOLDS(answer.value == 1 && answer.more == 16);
-    gthost_get_version(&domain[0], 2, &answer);
+    answer = gthost_get_version(&domain[0], 2);
     WANT(GTHOST_OK, 0, GTHOST_VERSION);
     HOLDS(answer.value == 1);
-    gthost_setup_table(&domain[0], 3, &answer);
+    answer = gthost_setup_table(&domain[0], 3);
     WANT(GTHOST_OK, 0, GTHOST_FRAMES);
     HOLDS(answer.value == 3);
-    gthost_set_version(&domain[0], 2, &answer);
+    answer = gthost_set_version(&domain[0], 2);
     WANT(24, -1, answer.kind);
-    gthost_withdraw(&domain[0], 8, &answer);
+    answer = gthost_withdraw(&domain[0], 8);
     WANT(GTHOST_OK, 0, GTHOST_NOTHING);
-    HOLDS(gthost_finish(&domain[0]) == 0 && !domain[0].is_live);
-    gthost_revoke(&domain[0], 8, &answer);
+    answer = gthost_finish(&domain[0]);
+    WANT(GTHOST_OK, 0, GTHOST_LOST);
+    HOLDS(answer.value == 0 && !domain[0].is_live);
+    answer = gthost_revoke(&domain[0], 8);
     WANT(GTHOST_NO_DOMAIN, 0, GTHOST_NOTHING);
-    HOLDS(gthost_finish(&domain[0]) == 0);
-    gthost_map(&domain[1], 1, 8, GTHOST_MAP_READ_ONLY, &answer);
+    answer = gthost_finish(&domain[0]);
+    WANT(GTHOST_NO_DOMAIN, 0, GTHOST_NOTHING);
+    answer = gthost_map(&domain[1], 1, 8, GTHOST_MAP_READ_ONLY);
     WANT(10, -1, GTHOST_ENTRY);
-    HOLDS(gthost_finish(&domain[1]) == 0);
+    HOLDS(gthost_finish(&domain[1]).rule == GTHOST_OK);
 }
 
 static void texts(void)
 {
-    uint8_t text[200];
-    size_t len = gthost_fault_text(GTHOST_FAULT_SYNTAX, text, sizeof text);
-    HOLDS(len == 6 && memcmp(text, "syntax", 6) == 0);
-    memset(text, '.', sizeof text);
-    HOLDS(gthost_fault_text(GTHOST_FAULT_SYNTAX, text, 3) == 6 && memcmp(text, "syn.", 4) == 0);
-    for (uint32_t kind = 0; kind <= GTHOST_FAULT_GENERATION; kind++) {
-        len = gthost_fault_text(kind, text, sizeof text);
-        HOLDS(len > 3 && len < sizeof text);
+    struct gthost_text text = gthost_fault_text(GTHOST_FAULT_SYNTAX);
+    HOLDS(text.len == 6 && strcmp((const char *)text.bytes, "syntax") == 0);
+    for (uint32_t kind = 0; kind <= GTHOST_FAULT_NULL_POINTER; kind++) {
+        text = gthost_fault_text(kind);
+        HOLDS(text.len > 3 && text.len == strlen((const char *)text.bytes));
     }
-    HOLDS(gthost_fault_text(99, text, sizeof text) == 13);
+    text = gthost_fault_text(99);
+    HOLDS(strcmp((const char *)text.bytes, "no such fault") == 0);
 }
 
 static void copies(void)
 {
     struct gthost_settings two[] = {{1, 0, 8, 1, 2}, {2, 1, 8, 1, 1}};
     struct gthost_domain domain[2] = {{0}};
-    struct gthost_copy copy = {{7, 1, 100}, {3, 0x7FF0, 20}, 30, GTHOST_COPY_SOURCE_GREF};
-    struct gthost_places places = {{0, 0, 0}, {0, 0, 0}, 9};
-    struct gthost_mapping mapping = {9, 9, 9, 9};
-    struct gthost_record record;
+    struct gthost_copy copy = {{7, 1, 100}, {3, GTHOST_DOMID_SELF, 20}, 30, GTHOST_COPY_SOURCE_GREF};
+    struct gthost_begun_copy begun;
+    struct gthost_found_mapping found;
+    struct gthost_found_record told;
     struct gthost_fault fault;
     struct gthost_answer answer;
     struct gthost_handle name = {0, 0};
     HOLDS(starts(two, COUNT(two), POLICY, domain, COUNT(domain), &fault));
-    gthost_copy_begin(&domain[1], &copy, &places, &answer);
+    begun = gthost_copy_begin(&domain[1], copy);
+    answer = begun.answer;
     WANT(10, -1, GTHOST_ENTRY);
-    HOLDS(places.len == 9);
-    gthost_grant_sub(&domain[0], 7, 2, 5, 100, 30, 1, &answer);
+    HOLDS(begun.places.len == 0);
+    answer = gthost_grant_sub(&domain[0], 7, 2, 5, 100, 30, 1);
     WANT(GTHOST_OK, 0, GTHOST_NOTHING);
-    gthost_copy_begin(&domain[1], &copy, &places, &answer);
+    begun = gthost_copy_begin(&domain[1], copy);
+    answer = begun.answer;
     WANT(GTHOST_OK, 0, GTHOST_NOTHING);
-    HOLDS(places.from.owner == 1 && places.from.frame == 5 && places.from.off == 100);
-    HOLDS(places.to.owner == 2 && places.to.frame == 3 && places.to.off == 20 && places.len == 30);
-    gthost_copy_begin(&domain[1], &copy, &places, &answer);
+    HOLDS(begun.places.from.owner == 1 && begun.places.from.frame == 5 && begun.places.from.off == 100);
+    HOLDS(begun.places.to.owner == 2 && begun.places.to.frame == 3 && begun.places.to.off == 20);
+    HOLDS(begun.places.len == 30);
+    begun = gthost_copy_begin(&domain[1], copy);
+    answer = begun.answer;
     WANT(GTHOST_BUSY, 0, GTHOST_NOTHING);
-    gthost_mapping(&domain[1], name, &mapping, &answer);
+    found = gthost_mapping(&domain[1], name);
+    answer = found.answer;
     WANT(GTHOST_BUSY, 0, GTHOST_NOTHING);
-    gthost_revoke(&domain[0], 7, &answer);
+    answer = gthost_revoke(&domain[0], 7);
     WANT(19, -1, GTHOST_ENTRY);
-    gthost_copy_end(&domain[1], &answer);
+    answer = gthost_copy_end(&domain[1]);
     WANT(GTHOST_OK, 0, GTHOST_NOTHING);
-    gthost_copy_end(&domain[1], &answer);
+    answer = gthost_copy_end(&domain[1]);
     WANT(GTHOST_NO_COPY, 0, GTHOST_NOTHING);
-    gthost_revoke(&domain[0], 7, &answer);
+    answer = gthost_revoke(&domain[0], 7);
     WANT(GTHOST_OK, 0, GTHOST_NOTHING);
-    gthost_record(&domain[1], 0, &record, &answer);
+    told = gthost_record(&domain[1], 0);
+    answer = told.answer;
     WANT(GTHOST_OK, 0, GTHOST_NOTHING);
-    HOLDS(record.call == GTHOST_CALL_COPY && record.caller == 2 && record.reply.rule == 10 && record.len == 30);
-    gthost_record(&domain[1], 1, &record, &answer);
-    HOLDS(record.source.ptr == 7 && record.source.dom == 1 && record.source.off == 100 && record.reply.rule == 0);
-    HOLDS(record.dest.ptr == 3 && record.dest.dom == 0x7FF0 && record.dest.off == 20 && record.flags == 1);
-    gthost_record(&domain[1], 2, &record, &answer);
+    HOLDS(told.kept.call == GTHOST_CALL_COPY && told.kept.caller == 2 && told.kept.reply.rule == 10 && told.kept.len == 30);
+    told = gthost_record(&domain[1], 1);
+    HOLDS(told.kept.source.ptr == 7 && told.kept.source.dom == 1 && told.kept.source.off == 100);
+    HOLDS(told.kept.dest.ptr == 3 && told.kept.dest.dom == GTHOST_DOMID_SELF && told.kept.dest.off == 20);
+    HOLDS(told.kept.flags == 1 && told.kept.reply.rule == GTHOST_OK);
+    told = gthost_record(&domain[1], 2);
+    answer = told.answer;
     WANT(GTHOST_ABSENT, 0, GTHOST_NOTHING);
-    gthost_mapping(&domain[1], name, &mapping, &answer);
+    found = gthost_mapping(&domain[1], name);
+    answer = found.answer;
     WANT(GTHOST_ABSENT, 0, GTHOST_NOTHING);
-    HOLDS(mapping.frame == 9);
-    gthost_grant_page(&domain[0], 7, 2, 6, 0, &answer);
-    gthost_map(&domain[1], 1, 7, GTHOST_MAP_WRITABLE, &answer);
+    HOLDS(found.mapping.frame == 0);
+    answer = gthost_grant_page(&domain[0], 7, 2, 6, 0);
+    answer = gthost_map(&domain[1], 1, 7, GTHOST_MAP_WRITABLE);
     name.serial = answer.value;
     name.key = (size_t)answer.more;
-    gthost_mapping(&domain[1], name, &mapping, &answer);
+    found = gthost_mapping(&domain[1], name);
+    answer = found.answer;
     WANT(GTHOST_OK, 0, GTHOST_NOTHING);
-    HOLDS(mapping.owner == 1 && mapping.gref == 7 && mapping.frame == 6 && mapping.writes == 1);
-    gthost_grant_via(&domain[0], 8, 2, 1, 7, 0, &answer);
+    HOLDS(found.mapping.owner == 1 && found.mapping.gref == 7 && found.mapping.frame == 6 && found.mapping.writes == 1);
+    answer = gthost_grant_via(&domain[0], 8, 2, 1, 7, 0);
     WANT(GTHOST_OK, 0, GTHOST_NOTHING);
-    gthost_promote(&domain[0], 7, &answer);
+    answer = gthost_promote(&domain[0], 7);
     WANT(GTHOST_OK, 0, GTHOST_NOTHING);
-    gthost_reserve_records(&domain[1], 10, &answer);
+    answer = gthost_reserve_records(&domain[1], 10);
     WANT(GTHOST_OK, 0, GTHOST_NOTHING);
-    gthost_keep_at_most(&domain[1], 0, &answer);
+    answer = gthost_keep_at_most(&domain[1], 0);
     WANT(GTHOST_OK, 0, GTHOST_NOTHING);
-    gthost_copy_begin(&domain[1], &copy, &places, &answer);
+    begun = gthost_copy_begin(&domain[1], copy);
+    answer = begun.answer;
     WANT(GTHOST_OK, 0, GTHOST_NOTHING);
-    HOLDS(gthost_finish(&domain[1]) == 1);
-    gthost_revoke(&domain[0], 7, &answer);
+    HOLDS(gthost_finish(&domain[1]).value == 1);
+    answer = gthost_revoke(&domain[0], 7);
     WANT(GTHOST_OK, 0, GTHOST_NOTHING);
-    gthost_copy_end(&domain[1], &answer);
+    answer = gthost_copy_end(&domain[1]);
     WANT(GTHOST_NO_DOMAIN, 0, GTHOST_NOTHING);
-    HOLDS(gthost_finish(&domain[0]) == 0);
+    HOLDS(gthost_finish(&domain[0]).value == 0);
+}
+
+/* Each call of a null pointer. */
+static void nulls(void)
+{
+    const struct gthost_handle name = {0, 0};
+    const struct gthost_copy copy = {{0, 0, 0}, {0, 0, 0}, 0, 0};
+    const struct gthost_entry_bytes entry = {8, {0}};
+    const struct gthost_answer answers[] = {
+        gthost_grant_page(NULL, 0, 0, 0, 0),   gthost_grant_sub(NULL, 0, 0, 0, 0, 0, 0),
+        gthost_grant_via(NULL, 0, 0, 0, 0, 0), gthost_grant_bytes(NULL, 0, entry),
+        gthost_revoke(NULL, 0),                gthost_withdraw(NULL, 0),
+        gthost_demote(NULL, 0),                gthost_promote(NULL, 0),
+        gthost_map(NULL, 0, 0, 0),             gthost_unmap(NULL, name),
+        gthost_set_version(NULL, 0),           gthost_setup_table(NULL, 0),
+        gthost_query_size(NULL, 0),            gthost_get_version(NULL, 0),
+        gthost_mapping(NULL, name).answer,     gthost_record(NULL, 0).answer,
+        gthost_keep_at_most(NULL, 0),          gthost_reserve_records(NULL, 0),
+        gthost_copy_begin(NULL, copy).answer,  gthost_copy_end(NULL),
+        gthost_finish(NULL),
+    };
+    for (size_t i = 0; i < COUNT(answers); i++) {
+        struct gthost_answer answer = answers[i];
+        WANT(GTHOST_NULL_POINTER, 0, GTHOST_NOTHING);
+    }
 }
 
 int main(void)
 {
     faults();
     texts();
+    nulls();
     shares();
     copies();
     printf(failures ? "FAILED\n" : "smoke ok\n");

@@ -23,26 +23,23 @@ static const char POLICY[] = "type a_t; allow a_t a_t:grant { map_read map_write
 
 static void record_calls(struct worker *worker)
 {
-    struct gthost_answer answer;
     if (strcmp(worker->audit, "ahead") == 0) {
-        gthost_reserve_records(&worker->domain, RECORDS_AHEAD, &answer);
+        gthost_reserve_records(&worker->domain, RECORDS_AHEAD);
     } else if (strcmp(worker->audit, "off") == 0) {
-        gthost_keep_at_most(&worker->domain, 0, &answer);
+        gthost_keep_at_most(&worker->domain, 0);
     }
 }
 
 static void *work(void *arg)
 {
     struct worker *worker = arg;
-    struct gthost_answer answer;
     unsigned long done = 0;
     record_calls(worker);
     while (done < worker->rounds) {
-        gthost_map(&worker->domain, OWNER, worker->gref, GTHOST_MAP_READ_ONLY, &answer);
-        if (answer.rule == GTHOST_OK) {
-            const struct gthost_handle name = {answer.value, (size_t)answer.more};
-            gthost_unmap(&worker->domain, name, &answer);
-            done += answer.rule == GTHOST_OK;
+        const struct gthost_answer mapped = gthost_map(&worker->domain, OWNER, worker->gref, GTHOST_MAP_READ_ONLY);
+        if (mapped.rule == GTHOST_OK) {
+            const struct gthost_handle name = {mapped.value, (size_t)mapped.more};
+            done += gthost_unmap(&worker->domain, name).rule == GTHOST_OK;
         }
     }
     worker->done = done;
@@ -55,7 +52,6 @@ int main(int argc, char **argv)
     struct gthost_settings settings[DOMAINS];
     struct gthost_domain domains[DOMAINS];
     struct gthost_fault fault;
-    struct gthost_answer answer;
     pthread_t threads[MOST];
     unsigned long done = 0;
     size_t count = argc == 5 ? strtoul(argv[2], NULL, 10) : 0;
@@ -68,7 +64,8 @@ int main(int argc, char **argv)
         const struct gthost_settings one = {(uint16_t)(i + 1), 0, 8, 16, 1};
         settings[i] = one;
     }
-    if (!gthost_start(settings, DOMAINS, 0, (const uint8_t *)POLICY, strlen(POLICY), domains, DOMAINS, &fault)) {
+    fault = gthost_start(settings, DOMAINS, 0, (const uint8_t *)POLICY, strlen(POLICY), domains, DOMAINS);
+    if (fault.kind != GTHOST_FAULT_NONE) {
         return 1;
     }
     for (size_t i = 0; i < count; i++) {
@@ -76,7 +73,7 @@ int main(int argc, char **argv)
         workers[i].gref = FIRST + (uint32_t)i * (strcmp(argv[1], "apart") == 0 ? APART : 1);
         workers[i].rounds = strtoul(argv[3], NULL, 10);
         workers[i].audit = argv[4];
-        gthost_grant_page(&domains[OWNER - 1], workers[i].gref, mapper, 5, false, &answer);
+        gthost_grant_page(&domains[OWNER - 1], workers[i].gref, mapper, 5, false);
         memcpy(&workers[i].domain, &domains[mapper - 1], sizeof domains[0]); /* the handle moves */
         memset(&domains[mapper - 1], 0, sizeof domains[0]);
     }

@@ -47,7 +47,7 @@ static void own(struct member *member)
     struct gthost_answer answer;
     uint32_t place = (uint32_t)draw(member, PAGES);
     if (member->is_granted[place]) {
-        gthost_revoke(&member->domain, place, &answer);
+        answer = gthost_revoke(&member->domain, place);
         if (answer.rule != GTHOST_OK) {
             member->faults += answer.rule != 19;
             member->refused++;
@@ -58,7 +58,7 @@ static void own(struct member *member)
         member->is_granted[place] = false;
     } else {
         uint16_t to = (uint16_t)(1 + draw(member, DOMAINS));
-        gthost_grant_page(&member->domain, place, to, place, false, &answer);
+        answer = gthost_grant_page(&member->domain, place, to, place, false);
         member->faults += answer.rule != GTHOST_OK;
         member->is_granted[place] = true;
     }
@@ -73,10 +73,9 @@ static bool is_refusal(uint32_t rule)
 static void map(struct member *member)
 {
     struct gthost_answer answer;
-    struct gthost_mapping mapping = {0, 0, 0, 0};
     struct gthost_handle name;
-    gthost_map(&member->domain, (uint16_t)(1 + draw(member, DOMAINS)), (uint32_t)draw(member, PAGES),
-               GTHOST_MAP_WRITABLE, &answer);
+    answer = gthost_map(&member->domain, (uint16_t)(1 + draw(member, DOMAINS)), (uint32_t)draw(member, PAGES),
+                        GTHOST_MAP_WRITABLE);
     if (answer.rule != GTHOST_OK) {
         member->faults += !is_refusal(answer.rule);
         member->refused++;
@@ -84,30 +83,29 @@ static void map(struct member *member)
     }
     name.serial = answer.value;
     name.key = (size_t)answer.more;
-    gthost_mapping(&member->domain, name, &mapping, &answer);
-    member->faults += answer.rule != GTHOST_OK || !mapping.writes;
-    mark(member, mapping.owner, mapping.frame);
-    gthost_unmap(&member->domain, name, &answer);
+    const struct gthost_found_mapping found = gthost_mapping(&member->domain, name);
+    member->faults += found.answer.rule != GTHOST_OK || !found.mapping.writes;
+    mark(member, found.mapping.owner, found.mapping.frame);
+    answer = gthost_unmap(&member->domain, name);
     member->faults += answer.rule != GTHOST_OK;
     member->mapped++;
 }
 
 static void copy(struct member *member)
 {
+    const struct gthost_copy copy = {{FRAMES - 1, member->id, 0},
+                                     {draw(member, PAGES), (uint16_t)(1 + draw(member, DOMAINS)), 0},
+                                     64,
+                                     GTHOST_COPY_DEST_GREF};
+    const struct gthost_begun_copy begun = gthost_copy_begin(&member->domain, copy);
     struct gthost_answer answer;
-    struct gthost_places places;
-    struct gthost_copy copy = {{FRAMES - 1, member->id, 0},
-                               {draw(member, PAGES), (uint16_t)(1 + draw(member, DOMAINS)), 0},
-                               64,
-                               GTHOST_COPY_DEST_GREF};
-    gthost_copy_begin(&member->domain, &copy, &places, &answer);
-    if (answer.rule != GTHOST_OK) {
-        member->faults += !is_refusal(answer.rule);
+    if (begun.answer.rule != GTHOST_OK) {
+        member->faults += !is_refusal(begun.answer.rule);
         member->refused++;
         return;
     }
-    mark(member, places.to.owner, places.to.frame);
-    gthost_copy_end(&member->domain, &answer);
+    mark(member, begun.places.to.owner, begun.places.to.frame);
+    answer = gthost_copy_end(&member->domain);
     member->faults += answer.rule != GTHOST_OK;
     member->copied++;
 }
@@ -125,7 +123,7 @@ static void *work(void *arg)
             copy(member);
             break;
         case 2:
-            gthost_query_size(&member->domain, (uint16_t)(1 + draw(member, DOMAINS)), &answer);
+            answer = gthost_query_size(&member->domain, (uint16_t)(1 + draw(member, DOMAINS)));
             member->faults += answer.rule != GTHOST_OK;
             break;
         default:
@@ -141,7 +139,6 @@ static bool start(struct member *members, uint64_t rounds)
     struct gthost_settings settings[DOMAINS];
     struct gthost_domain domains[DOMAINS];
     struct gthost_fault fault;
-    struct gthost_answer answer;
     memset(domains, 0, sizeof domains);
     for (uint16_t i = 0; i < DOMAINS; i++) {
         const struct gthost_settings one = {(uint16_t)(i + 1), 0, FRAMES, 1, 1};
@@ -153,12 +150,13 @@ static bool start(struct member *members, uint64_t rounds)
         members[i].seed = i + 1u;
         members[i].rounds = rounds;
     }
-    if (!gthost_start(settings, DOMAINS, 0, (const uint8_t *)POLICY, strlen(POLICY), domains, DOMAINS, &fault)) {
+    fault = gthost_start(settings, DOMAINS, 0, (const uint8_t *)POLICY, strlen(POLICY), domains, DOMAINS);
+    if (fault.kind != GTHOST_FAULT_NONE) {
         return false;
     }
     for (int i = 0; i < DOMAINS; i++) {
         memcpy(&members[i].domain, &domains[i], sizeof domains[i]); /* the handle moves: the old one is used no more */
-        gthost_keep_at_most(&members[i].domain, 0, &answer);
+        gthost_keep_at_most(&members[i].domain, 0);
     }
     return true;
 }
@@ -182,7 +180,7 @@ int main(int argc, char **argv)
     for (int i = 0; i < DOMAINS; i++) {
         struct gthost_answer answer;
         for (uint32_t place = 0; place < PAGES; place++) {
-            gthost_revoke(&members[i].domain, place, &answer);
+            answer = gthost_revoke(&members[i].domain, place);
             faults += answer.rule != (members[i].is_granted[place] ? GTHOST_OK : 10u);
         }
         faults += members[i].faults;

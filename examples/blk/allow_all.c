@@ -9,64 +9,62 @@ enum { REFERENCES = 512 };
 static const struct gthost_answer OK;
 static uint64_t frame_of[DOMAINS + 1][REFERENCES];
 
-static bool start(const struct gthost_settings *settings, size_t count, uint32_t first_gen, const uint8_t *policy,
-                  size_t policy_len, struct gthost_domain *out, size_t out_count, struct gthost_fault *fault)
+static struct gthost_fault start(const struct gthost_settings *settings, size_t count, uint32_t first_gen,
+                                 const uint8_t *policy, size_t policy_len, struct gthost_domain *out,
+                                 size_t out_count)
 {
+    const struct gthost_fault none = {GTHOST_FAULT_NONE, 0, 0};
     (void)first_gen, (void)policy, (void)policy_len;
-    memset(fault, 0, sizeof *fault);
     for (size_t i = 0; i < count && i < out_count; i++) {
         out[i].at = frame_of[settings[i].id];
         out[i].is_live = true;
     }
-    return true;
+    return none;
 }
 
-static uint64_t finish(struct gthost_domain *domain)
+static struct gthost_answer finish(struct gthost_domain *domain)
 {
     memset(domain, 0, sizeof *domain);
-    return 0;
+    return OK;
 }
 
-static void grant_page(struct gthost_domain *domain, uint32_t gref, uint16_t to, uint64_t frame, uint32_t ro,
-                       struct gthost_answer *answer)
+static struct gthost_answer grant_page(struct gthost_domain *domain, uint32_t gref, uint16_t to, uint64_t frame,
+                                       uint32_t ro)
 {
     uint64_t *frames = domain->at;
     (void)to, (void)ro;
     frames[gref] = frame;
-    *answer = OK;
+    return OK;
 }
 
-static void revoke(struct gthost_domain *domain, uint32_t gref, struct gthost_answer *answer)
+static struct gthost_answer revoke(struct gthost_domain *domain, uint32_t gref)
 {
     (void)domain, (void)gref;
-    *answer = OK;
+    return OK;
 }
 
-static void map(struct gthost_domain *domain, uint16_t dom, uint32_t gref, uint32_t flags,
-                struct gthost_answer *answer)
+static struct gthost_answer map(struct gthost_domain *domain, uint16_t dom, uint32_t gref, uint32_t flags)
 {
+    struct gthost_answer answer = OK;
     (void)domain, (void)flags;
-    *answer = OK;
-    answer->kind = GTHOST_HANDLE;
-    answer->value = dom;
-    answer->more = gref;
+    answer.kind = GTHOST_HANDLE;
+    answer.value = dom;
+    answer.more = gref;
+    return answer;
 }
 
-static void unmap(struct gthost_domain *domain, struct gthost_handle name, struct gthost_answer *answer)
+static struct gthost_answer unmap(struct gthost_domain *domain, struct gthost_handle name)
 {
     (void)domain, (void)name;
-    *answer = OK;
+    return OK;
 }
 
-static void mapping(struct gthost_domain *domain, struct gthost_handle name, struct gthost_mapping *mapping,
-                    struct gthost_answer *answer)
+static struct gthost_found_mapping mapping(struct gthost_domain *domain, struct gthost_handle name)
 {
+    const struct gthost_found_mapping found = {
+        OK, {frame_of[name.serial][name.key], (uint32_t)name.key, (uint16_t)name.serial, true}};
     (void)domain;
-    mapping->owner = (uint16_t)name.serial;
-    mapping->gref = (uint32_t)name.key;
-    mapping->frame = frame_of[name.serial][name.key];
-    mapping->writes = true;
-    *answer = OK;
+    return found;
 }
 
 static struct gthost_place place(const struct gthost_end *end, bool is_reference)
@@ -75,20 +73,19 @@ static struct gthost_place place(const struct gthost_end *end, bool is_reference
     return place;
 }
 
-static void copy_begin(struct gthost_domain *domain, const struct gthost_copy *copy, struct gthost_places *places,
-                       struct gthost_answer *answer)
+static struct gthost_begun_copy copy_begin(struct gthost_domain *domain, struct gthost_copy copy)
 {
+    const struct gthost_begun_copy begun = {OK,
+                                            {place(&copy.source, copy.flags & GTHOST_COPY_SOURCE_GREF),
+                                             place(&copy.dest, copy.flags & GTHOST_COPY_DEST_GREF), copy.len}};
     (void)domain;
-    places->from = place(&copy->source, copy->flags & GTHOST_COPY_SOURCE_GREF);
-    places->to = place(&copy->dest, copy->flags & GTHOST_COPY_DEST_GREF);
-    places->len = copy->len;
-    *answer = OK;
+    return begun;
 }
 
-static void copy_end(struct gthost_domain *domain, struct gthost_answer *answer)
+static struct gthost_answer copy_end(struct gthost_domain *domain)
 {
     (void)domain;
-    *answer = OK;
+    return OK;
 }
 
 const struct monitor allow_all = {

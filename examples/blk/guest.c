@@ -19,7 +19,8 @@ bool host_start(struct host *host, const struct monitor *monitor)
     struct gthost_fault fault;
     memset(domains, 0, sizeof domains);
     host->monitor = monitor;
-    if (!monitor->start(settings, DOMAINS, 0, (const uint8_t *)POLICY, strlen(POLICY), domains, DOMAINS, &fault)) {
+    fault = monitor->start(settings, DOMAINS, 0, (const uint8_t *)POLICY, strlen(POLICY), domains, DOMAINS);
+    if (fault.kind != GTHOST_FAULT_NONE) {
         fprintf(stderr, "blk: no run: fault %u, line %u\n", fault.kind, fault.line);
         return false;
     }
@@ -48,20 +49,18 @@ uint8_t *own_page(struct host *host, uint16_t dom, uint64_t frame)
 
 uint8_t *guest_page(struct host *host, uint16_t dom, struct gthost_handle name, bool writes)
 {
-    struct gthost_mapping mapping;
-    struct gthost_answer answer;
-    host->monitor->mapping(domain_of(host, dom), name, &mapping, &answer);
-    if (answer.rule != GTHOST_OK || (writes && !mapping.writes)) {
+    const struct gthost_found_mapping found = host->monitor->mapping(domain_of(host, dom), name);
+    if (found.answer.rule != GTHOST_OK || (writes && !found.mapping.writes)) {
         return NULL;
     }
-    return host->memory[mapping.owner][mapping.frame];
+    return host->memory[found.mapping.owner][found.mapping.frame];
 }
 
 bool guest_map(struct host *host, uint16_t dom, uint16_t owner, uint32_t gref, bool writes,
                struct gthost_handle *name)
 {
-    struct gthost_answer answer;
-    host->monitor->map(domain_of(host, dom), owner, gref, writes ? GTHOST_MAP_WRITABLE : GTHOST_MAP_READ_ONLY, &answer);
+    const struct gthost_answer answer =
+        host->monitor->map(domain_of(host, dom), owner, gref, writes ? GTHOST_MAP_WRITABLE : GTHOST_MAP_READ_ONLY);
     name->serial = answer.value;
     name->key = (size_t)answer.more;
     return answer.rule == GTHOST_OK;
@@ -69,35 +68,26 @@ bool guest_map(struct host *host, uint16_t dom, uint16_t owner, uint32_t gref, b
 
 bool guest_unmap(struct host *host, uint16_t dom, struct gthost_handle name)
 {
-    struct gthost_answer answer;
-    host->monitor->unmap(domain_of(host, dom), name, &answer);
-    return answer.rule == GTHOST_OK;
+    return host->monitor->unmap(domain_of(host, dom), name).rule == GTHOST_OK;
 }
 
 bool guest_copy(struct host *host, uint16_t dom, const struct gthost_copy *copy)
 {
-    struct gthost_places places;
-    struct gthost_answer answer;
-    host->monitor->copy_begin(domain_of(host, dom), copy, &places, &answer);
-    if (answer.rule != GTHOST_OK) {
+    const struct gthost_begun_copy begun = host->monitor->copy_begin(domain_of(host, dom), *copy);
+    if (begun.answer.rule != GTHOST_OK) {
         return false;
     }
-    memcpy(host->memory[places.to.owner][places.to.frame] + places.to.off,
-           host->memory[places.from.owner][places.from.frame] + places.from.off, places.len);
-    host->monitor->copy_end(domain_of(host, dom), &answer);
-    return answer.rule == GTHOST_OK;
+    memcpy(host->memory[begun.places.to.owner][begun.places.to.frame] + begun.places.to.off,
+           host->memory[begun.places.from.owner][begun.places.from.frame] + begun.places.from.off, begun.places.len);
+    return host->monitor->copy_end(domain_of(host, dom)).rule == GTHOST_OK;
 }
 
 bool guest_grant(struct host *host, uint16_t dom, uint32_t gref, uint64_t frame, bool read_only)
 {
-    struct gthost_answer answer;
-    host->monitor->grant_page(domain_of(host, dom), gref, BACK, frame, read_only, &answer);
-    return answer.rule == GTHOST_OK;
+    return host->monitor->grant_page(domain_of(host, dom), gref, BACK, frame, read_only).rule == GTHOST_OK;
 }
 
 uint32_t guest_revoke(struct host *host, uint16_t dom, uint32_t gref)
 {
-    struct gthost_answer answer;
-    host->monitor->revoke(domain_of(host, dom), gref, &answer);
-    return answer.rule;
+    return host->monitor->revoke(domain_of(host, dom), gref).rule;
 }

@@ -35,33 +35,33 @@ static void holds(const char *what, bool is_it)
 
 static void grants(struct host *host)
 {
-    gthost_grant_page(domain_of(host, FRONT), READ_ONLY, BACK, 4, true, &answer);
+    answer = gthost_grant_page(domain_of(host, FRONT), READ_ONLY, BACK, 4, true);
     wrong += answer.rule != GTHOST_OK;
-    gthost_grant_page(domain_of(host, FRONT), OF_OTHER, OTHER, 5, false, &answer);
+    answer = gthost_grant_page(domain_of(host, FRONT), OF_OTHER, OTHER, 5, false);
     wrong += answer.rule != GTHOST_OK;
-    gthost_grant_page(domain_of(host, FRONT), WRITABLE, BACK, 6, false, &answer);
+    answer = gthost_grant_page(domain_of(host, FRONT), WRITABLE, BACK, 6, false);
     wrong += answer.rule != GTHOST_OK;
-    gthost_grant_sub(domain_of(host, FRONT), BYTES, BACK, 7, 1024, 512, false, &answer);
+    answer = gthost_grant_sub(domain_of(host, FRONT), BYTES, BACK, 7, 1024, 512, false);
     wrong += answer.rule != GTHOST_OK;
-    gthost_grant_page(domain_of(host, OTHER), DENIED, BACK, 1, false, &answer);
+    answer = gthost_grant_page(domain_of(host, OTHER), DENIED, BACK, 1, false);
     wrong += answer.rule != GTHOST_OK;
 }
 
 static void maps(struct gthost_domain *back)
 {
-    gthost_map(back, FRONT, READ_ONLY, GTHOST_MAP_WRITABLE, &answer);
+    answer = gthost_map(back, FRONT, READ_ONLY, GTHOST_MAP_WRITABLE);
     wants("maps for writing what is granted for reading", 13);
-    gthost_map(back, FRONT, OF_OTHER, GTHOST_MAP_READ_ONLY, &answer);
+    answer = gthost_map(back, FRONT, OF_OTHER, GTHOST_MAP_READ_ONLY);
     wants("maps what is granted to another", 11);
-    gthost_map(back, FRONT, NEVER, GTHOST_MAP_READ_ONLY, &answer);
+    answer = gthost_map(back, FRONT, NEVER, GTHOST_MAP_READ_ONLY);
     wants("maps what is not granted", 10);
-    gthost_map(back, FRONT, PAST_TABLE, GTHOST_MAP_READ_ONLY, &answer);
+    answer = gthost_map(back, FRONT, PAST_TABLE, GTHOST_MAP_READ_ONLY);
     wants("maps past the end of the table", 9);
-    gthost_map(back, DOMAINS + 1, READ_ONLY, GTHOST_MAP_READ_ONLY, &answer);
+    answer = gthost_map(back, DOMAINS + 1, READ_ONLY, GTHOST_MAP_READ_ONLY);
     wants("maps of a domain that there is not", 1);
-    gthost_map(back, FRONT, READ_ONLY, 3, &answer);
+    answer = gthost_map(back, FRONT, READ_ONLY, 3);
     wants("maps with flags that there are not", 2);
-    gthost_map(back, OTHER, DENIED, GTHOST_MAP_READ_ONLY, &answer);
+    answer = gthost_map(back, OTHER, DENIED, GTHOST_MAP_READ_ONLY);
     wants("maps of a guest that the policy does not give it", 5);
 }
 
@@ -70,19 +70,19 @@ static void keeps(struct host *host)
     struct gthost_domain *front = domain_of(host, FRONT), *back = domain_of(host, BACK);
     struct gthost_handle name = {0, 0};
     guest_map(host, BACK, FRONT, WRITABLE, true, &name);
-    gthost_revoke(front, WRITABLE, &answer);
+    answer = gthost_revoke(front, WRITABLE);
     wants("keeps its mapping, and the front end revokes", 19);
-    gthost_withdraw(front, WRITABLE, &answer);
+    answer = gthost_withdraw(front, WRITABLE);
     wants("keeps its mapping, and the front end withdraws", GTHOST_OK);
-    gthost_map(back, FRONT, WRITABLE, GTHOST_MAP_READ_ONLY, &answer);
+    answer = gthost_map(back, FRONT, WRITABLE, GTHOST_MAP_READ_ONLY);
     wants("maps the withdrawn page once more", 10);
-    gthost_grant_page(front, WRITABLE, OTHER, 6, false, &answer);
+    answer = gthost_grant_page(front, WRITABLE, OTHER, 6, false);
     wants("keeps its mapping, and the front end grants to another", 19);
-    gthost_unmap(domain_of(host, OTHER), name, &answer);
+    answer = gthost_unmap(domain_of(host, OTHER), name);
     wants("lends its handle to another guest", 6);
-    gthost_unmap(back, name, &answer);
+    answer = gthost_unmap(back, name);
     wants("unmaps", GTHOST_OK);
-    gthost_unmap(back, name, &answer);
+    answer = gthost_unmap(back, name);
     wants("unmaps once more", 6);
     holds("uses the handle after that", !guest_page(host, BACK, name, false));
     guest_map(host, BACK, FRONT, READ_ONLY, false, &name);
@@ -93,15 +93,13 @@ static void keeps(struct host *host)
 static void copies_out(struct gthost_domain *back, uint32_t gref, uint16_t off, uint16_t len)
 {
     const struct gthost_copy copy = {{gref, FRONT, off}, {0, BACK, 0}, len, GTHOST_COPY_SOURCE_GREF};
-    struct gthost_places places;
-    gthost_copy_begin(back, &copy, &places, &answer);
+    answer = gthost_copy_begin(back, copy).answer;
 }
 
 static void copies_in(struct gthost_domain *back, uint32_t gref, uint64_t from, uint16_t from_dom, uint16_t len)
 {
     const struct gthost_copy copy = {{from, from_dom, 0}, {gref, FRONT, 1024}, len, GTHOST_COPY_DEST_GREF};
-    struct gthost_places places;
-    gthost_copy_begin(back, &copy, &places, &answer);
+    answer = gthost_copy_begin(back, copy).answer;
 }
 
 static void copies(struct host *host)
@@ -119,19 +117,19 @@ static void copies(struct host *host)
     wants("copies from a foreign frame by its number", 4);
     copies_in(back, WRITABLE, FRAMES, BACK, 16);
     wants("copies from a frame that it does not have", 16);
-    gthost_map(back, FRONT, BYTES, GTHOST_MAP_READ_ONLY, &answer);
+    answer = gthost_map(back, FRONT, BYTES, GTHOST_MAP_READ_ONLY);
     wants("maps the page of which some bytes are granted", 12);
-    gthost_copy_end(back, &answer);
+    answer = gthost_copy_end(back);
     wants("ends a copy that it has not begun", GTHOST_NO_COPY);
     copies_in(back, BYTES, 0, BACK, 512);
     wants("copies to the bytes that are granted", GTHOST_OK);
-    gthost_revoke(front, BYTES, &answer);
+    answer = gthost_revoke(front, BYTES);
     wants("is in its copy, and the front end revokes", 19);
-    gthost_map(back, FRONT, WRITABLE, GTHOST_MAP_WRITABLE, &answer);
+    answer = gthost_map(back, FRONT, WRITABLE, GTHOST_MAP_WRITABLE);
     wants("is in its copy, and maps", GTHOST_BUSY);
-    gthost_copy_end(back, &answer);
+    answer = gthost_copy_end(back);
     wants("ends its copy", GTHOST_OK);
-    gthost_revoke(front, BYTES, &answer);
+    answer = gthost_revoke(front, BYTES);
     wants("has ended its copy, and the front end revokes", GTHOST_OK);
 }
 

@@ -6,20 +6,18 @@
 
 struct monitor {
     const char *name;
-    bool (*start)(const struct gthost_settings *settings, size_t count, uint32_t first_gen, const uint8_t *policy,
-                  size_t policy_len, struct gthost_domain *out, size_t out_count, struct gthost_fault *fault);
-    uint64_t (*finish)(struct gthost_domain *domain);
-    void (*grant_page)(struct gthost_domain *domain, uint32_t gref, uint16_t to, uint64_t frame, uint32_t ro,
-                       struct gthost_answer *answer);
-    void (*revoke)(struct gthost_domain *domain, uint32_t gref, struct gthost_answer *answer);
-    void (*map)(struct gthost_domain *domain, uint16_t dom, uint32_t gref, uint32_t flags,
-                struct gthost_answer *answer);
-    void (*unmap)(struct gthost_domain *domain, struct gthost_handle name, struct gthost_answer *answer);
-    void (*mapping)(struct gthost_domain *domain, struct gthost_handle name, struct gthost_mapping *mapping,
-                    struct gthost_answer *answer);
-    void (*copy_begin)(struct gthost_domain *domain, const struct gthost_copy *copy, struct gthost_places *places,
-                       struct gthost_answer *answer);
-    void (*copy_end)(struct gthost_domain *domain, struct gthost_answer *answer);
+    struct gthost_fault (*start)(const struct gthost_settings *settings, size_t count, uint32_t first_gen,
+                                 const uint8_t *policy, size_t policy_len, struct gthost_domain *out,
+                                 size_t out_count);
+    struct gthost_answer (*finish)(struct gthost_domain *domain);
+    struct gthost_answer (*grant_page)(struct gthost_domain *domain, uint32_t gref, uint16_t to, uint64_t frame,
+                                       uint32_t ro);
+    struct gthost_answer (*revoke)(struct gthost_domain *domain, uint32_t gref);
+    struct gthost_answer (*map)(struct gthost_domain *domain, uint16_t dom, uint32_t gref, uint32_t flags);
+    struct gthost_answer (*unmap)(struct gthost_domain *domain, struct gthost_handle name);
+    struct gthost_found_mapping (*mapping)(struct gthost_domain *domain, struct gthost_handle name);
+    struct gthost_begun_copy (*copy_begin)(struct gthost_domain *domain, struct gthost_copy copy);
+    struct gthost_answer (*copy_end)(struct gthost_domain *domain);
 };
 
 /* The library. */

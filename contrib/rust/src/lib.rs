@@ -166,19 +166,27 @@ fn judged(answer: raw::Answer) -> Result<raw::Answer, Refusal> {
     }
 }
 
+// An entry of any other length than 8 or 16 bytes is refused, so no more of it is passed on.
+fn spelled(bytes: &[u8]) -> raw::EntryBytes {
+    let mut entry = raw::EntryBytes { len: bytes.len() as u64, bytes: [0; 16] };
+    for (to, from) in entry.bytes.iter_mut().zip(bytes) {
+        *to = *from;
+    }
+    entry
+}
+
 /// Starts a run under a policy's text; entries begin at the generation `first_gen`.
 pub fn start(settings: &[Settings], first_gen: u32, policy: &str) -> Result<Vec<Domain>, Fault> {
     let none = || raw::Domain { at: std::ptr::null_mut(), is_live: false };
     let mut out: Vec<raw::Domain> = settings.iter().map(|_| none()).collect();
-    let mut fault = raw::Fault::default();
-    // SAFETY: the pointers are those of slices, with their lengths, and of a value.
-    let started = unsafe {
-        raw::gthost_start(
-            settings.as_ptr(), settings.len(), first_gen, policy.as_ptr(), policy.len(), out.as_mut_ptr(), out.len(), &mut fault,
+    // SAFETY: the pointers are those of slices, with their lengths, so none is null.
+    let fault = unsafe {
+        raw::gthost_start_at(
+            settings.as_ptr(), settings.len(), first_gen, policy.as_ptr(), policy.len(), out.as_mut_ptr(), out.len(),
         )
     };
     match fault.kind {
-        _ if started => Ok(out.into_iter().map(|raw| Domain { raw }).collect()),
+        0 => Ok(out.into_iter().map(|raw| Domain { raw }).collect()),
         1 => Err(Fault::Memory),
         kind @ 2..=9 => Err(Fault::Policy { kind, line: fault.line }),
         kind => Err(Fault::Config { kind, dom: fault.dom }),
@@ -186,61 +194,57 @@ pub fn start(settings: &[Settings], first_gen: u32, policy: &str) -> Result<Vec<
 }
 
 impl Domain {
-    // SAFETY of each call below: `raw` is what the library wrote, `&mut self` makes it the only call, and the other
-    // pointers are those of values or of slices with their lengths.
-    fn call(&mut self, what: impl FnOnce(*mut raw::Domain, *mut raw::Answer)) -> Result<raw::Answer, Refusal> {
-        let mut answer = raw::Answer::default();
-        what(&mut self.raw, &mut answer);
-        judged(answer)
+    // SAFETY of each call below: `raw` is what the library wrote, and `&mut self` makes it the only call.
+    fn call(&mut self, what: impl FnOnce(*mut raw::Domain) -> raw::Answer) -> Result<raw::Answer, Refusal> {
+        judged(what(&mut self.raw))
     }
 
     pub fn grant(&mut self, gref: u32, entry: Entry<'_>) -> Result<(), Refusal> {
-        self.call(|d, a| unsafe {
+        self.call(|d| unsafe {
             match entry {
-                Entry::Page { to, frame, read_only } => raw::gthost_grant_page(d, gref, to, frame, read_only.into(), a),
+                Entry::Page { to, frame, read_only } => raw::gthost_grant_page(d, gref, to, frame, read_only.into()),
                 Entry::Sub { to, frame, off, len, read_only } => {
-                    raw::gthost_grant_sub(d, gref, to, frame, off, len, read_only.into(), a)
+                    raw::gthost_grant_sub(d, gref, to, frame, off, len, read_only.into())
                 }
                 Entry::Via { to, dom, gref: onward, read_only } => {
-                    raw::gthost_grant_via(d, gref, to, dom, onward, read_only.into(), a)
+                    raw::gthost_grant_via(d, gref, to, dom, onward, read_only.into())
                 }
-                Entry::Bytes(bytes) => raw::gthost_grant_bytes(d, gref, bytes.as_ptr(), bytes.len(), a),
+                Entry::Bytes(bytes) => raw::gthost_grant_bytes(d, gref, spelled(bytes)),
             }
         })
         .map(drop)
     }
 
     pub fn revoke(&mut self, gref: u32) -> Result<(), Refusal> {
-        self.call(|d, a| unsafe { raw::gthost_revoke(d, gref, a) }).map(drop)
+        self.call(|d| unsafe { raw::gthost_revoke(d, gref) }).map(drop)
     }
 
     pub fn withdraw(&mut self, gref: u32) -> Result<(), Refusal> {
-        self.call(|d, a| unsafe { raw::gthost_withdraw(d, gref, a) }).map(drop)
+        self.call(|d| unsafe { raw::gthost_withdraw(d, gref) }).map(drop)
     }
 
     pub fn demote(&mut self, gref: u32) -> Result<(), Refusal> {
-        self.call(|d, a| unsafe { raw::gthost_demote(d, gref, a) }).map(drop)
+        self.call(|d| unsafe { raw::gthost_demote(d, gref) }).map(drop)
     }
 
     pub fn promote(&mut self, gref: u32) -> Result<(), Refusal> {
-        self.call(|d, a| unsafe { raw::gthost_promote(d, gref, a) }).map(drop)
+        self.call(|d| unsafe { raw::gthost_promote(d, gref) }).map(drop)
     }
 
     pub fn map(&mut self, dom: u16, gref: u32, access: Access) -> Result<Handle, Refusal> {
         let flags = if access == Access::Write { 2 } else { 6 };
-        let answer = self.call(|d, a| unsafe { raw::gthost_map(d, dom, gref, flags, a) })?;
+        let answer = self.call(|d| unsafe { raw::gthost_map(d, dom, gref, flags) })?;
         Ok(Handle { serial: answer.value, key: answer.more as usize })
     }
 
     pub fn unmap(&mut self, handle: Handle) -> Result<(), Refusal> {
-        self.call(|d, a| unsafe { raw::gthost_unmap(d, handle, a) }).map(drop)
+        self.call(|d| unsafe { raw::gthost_unmap(d, handle) }).map(drop)
     }
 
     /// What is mapped under a handle; `None` if it is no mapping of this domain.
     pub fn mapping(&mut self, handle: Handle) -> Option<Mapping> {
-        let mut mapping = Mapping::default();
-        let answer = self.call(|d, a| unsafe { raw::gthost_mapping(d, handle, &mut mapping, a) });
-        answer.ok().map(|_| mapping)
+        let found = unsafe { raw::gthost_mapping(&mut self.raw, handle) };
+        judged(found.answer).ok().map(|_| found.mapping)
     }
 
     /// Comes to the access of a copy, and holds its pins until the guard is dropped.
@@ -251,49 +255,48 @@ impl Domain {
         };
         let ((source, by_source), (dest, by_dest)) = (end(from), end(to));
         let asked = raw::Copying { source, dest, len, flags: u16::from(by_source) | u16::from(by_dest) << 1 };
-        let mut places = Places::default();
-        self.call(|d, a| unsafe { raw::gthost_copy_begin(d, &asked, &mut places, a) })?;
-        Ok(Copying { domain: self, places })
+        let begun = unsafe { raw::gthost_copy_begin(&mut self.raw, asked) };
+        judged(begun.answer)?;
+        Ok(Copying { domain: self, places: begun.places })
     }
 
     pub fn set_version(&mut self, version: u32) -> Result<(), Refusal> {
-        self.call(|d, a| unsafe { raw::gthost_set_version(d, version, a) }).map(drop)
+        self.call(|d| unsafe { raw::gthost_set_version(d, version) }).map(drop)
     }
 
     /// How many frames the table then has.
     pub fn setup_table(&mut self, frames: u32) -> Result<u64, Refusal> {
-        self.call(|d, a| unsafe { raw::gthost_setup_table(d, frames, a) }).map(|answer| answer.value)
+        self.call(|d| unsafe { raw::gthost_setup_table(d, frames) }).map(|answer| answer.value)
     }
 
     pub fn query_size(&mut self, dom: u16) -> Result<Size, Refusal> {
-        let answer = self.call(|d, a| unsafe { raw::gthost_query_size(d, dom, a) })?;
+        let answer = self.call(|d| unsafe { raw::gthost_query_size(d, dom) })?;
         Ok(Size { frames: answer.value, most: answer.more })
     }
 
     pub fn get_version(&mut self, dom: u16) -> Result<u64, Refusal> {
-        self.call(|d, a| unsafe { raw::gthost_get_version(d, dom, a) }).map(|answer| answer.value)
+        self.call(|d| unsafe { raw::gthost_get_version(d, dom) }).map(|answer| answer.value)
     }
 
     /// The record of its calls at this place, from 0 on.
     pub fn record(&mut self, index: usize) -> Option<Record> {
-        let mut record = Record::default();
-        let answer = self.call(|d, a| unsafe { raw::gthost_record(d, index, &mut record, a) });
-        answer.ok().map(|_| record)
+        let found = unsafe { raw::gthost_record(&mut self.raw, index) };
+        judged(found.answer).ok().map(|_| found.kept)
     }
 
     /// From now on it keeps a record only while it has fewer than so many.
     pub fn keep_at_most(&mut self, records: usize) {
-        let _ = self.call(|d, a| unsafe { raw::gthost_keep_at_most(d, records, a) });
+        let _ = self.call(|d| unsafe { raw::gthost_keep_at_most(d, records) });
     }
 
     /// Makes room for so many records; false if memory is refused.
     pub fn reserve_records(&mut self, records: usize) -> bool {
-        self.call(|d, a| unsafe { raw::gthost_reserve_records(d, records, a) }).is_ok()
+        self.call(|d| unsafe { raw::gthost_reserve_records(d, records) }).is_ok()
     }
 
     /// Leaves the run, and answers how many records were lost.
     pub fn finish(mut self) -> u64 {
-        unsafe { raw::gthost_finish(&mut self.raw) } // and the drop that follows finds a handle of no domain
+        unsafe { raw::gthost_finish(&mut self.raw) }.value // and the drop that follows finds a handle of no domain
     }
 }
 
@@ -311,6 +314,6 @@ impl Copying<'_> {
 
 impl Drop for Copying<'_> {
     fn drop(&mut self) {
-        let _ = self.domain.call(|d, a| unsafe { raw::gthost_copy_end(d, a) });
+        let _ = self.domain.call(|d| unsafe { raw::gthost_copy_end(d) });
     }
 }

@@ -54,31 +54,59 @@ pub struct Record {
     pub reply: Answer,
 }
 
+#[repr(C)]
+#[derive(Clone, Copy)]
+pub struct FoundMapping {
+    pub answer: Answer,
+    pub mapping: super::Mapping,
+}
+
+#[repr(C)]
+#[derive(Clone, Copy)]
+pub struct FoundRecord {
+    pub answer: Answer,
+    pub kept: Record,
+}
+
+#[repr(C)]
+#[derive(Clone, Copy)]
+pub struct BegunCopy {
+    pub answer: Answer,
+    pub places: super::Places,
+}
+
+#[repr(C)]
+#[derive(Clone, Copy)]
+pub struct EntryBytes {
+    pub len: u64,
+    pub bytes: [u8; 16],
+}
+
 #[link(name = "gthost", kind = "static")]
 extern "C" {
-    pub fn gthost_start(
+    pub fn gthost_start_at(
         settings: *const super::Settings, count: usize, first_gen: u32, policy: *const u8, policy_len: usize,
-        out: *mut Domain, out_count: usize, fault: *mut Fault,
-    ) -> bool;
-    pub fn gthost_finish(domain: *mut Domain) -> u64;
-    pub fn gthost_grant_page(d: *mut Domain, gref: u32, to: u16, frame: u64, ro: u32, a: *mut Answer);
-    pub fn gthost_grant_sub(d: *mut Domain, gref: u32, to: u16, frame: u64, off: u16, len: u16, ro: u32, a: *mut Answer);
-    pub fn gthost_grant_via(d: *mut Domain, gref: u32, to: u16, dom2: u16, ref2: u32, ro: u32, a: *mut Answer);
-    pub fn gthost_grant_bytes(d: *mut Domain, gref: u32, bytes: *const u8, len: usize, a: *mut Answer);
-    pub fn gthost_revoke(d: *mut Domain, gref: u32, a: *mut Answer);
-    pub fn gthost_withdraw(d: *mut Domain, gref: u32, a: *mut Answer);
-    pub fn gthost_demote(d: *mut Domain, gref: u32, a: *mut Answer);
-    pub fn gthost_promote(d: *mut Domain, gref: u32, a: *mut Answer);
-    pub fn gthost_map(d: *mut Domain, dom: u16, gref: u32, flags: u32, a: *mut Answer);
-    pub fn gthost_unmap(d: *mut Domain, name: super::Handle, a: *mut Answer);
-    pub fn gthost_mapping(d: *mut Domain, name: super::Handle, mapping: *mut super::Mapping, a: *mut Answer);
-    pub fn gthost_copy_begin(d: *mut Domain, copy: *const Copying, places: *mut super::Places, a: *mut Answer);
-    pub fn gthost_copy_end(d: *mut Domain, a: *mut Answer);
-    pub fn gthost_set_version(d: *mut Domain, version: u32, a: *mut Answer);
-    pub fn gthost_setup_table(d: *mut Domain, frames: u32, a: *mut Answer);
-    pub fn gthost_query_size(d: *mut Domain, dom: u16, a: *mut Answer);
-    pub fn gthost_get_version(d: *mut Domain, dom: u16, a: *mut Answer);
-    pub fn gthost_record(d: *mut Domain, index: usize, record: *mut Record, a: *mut Answer);
-    pub fn gthost_keep_at_most(d: *mut Domain, records: usize, a: *mut Answer);
-    pub fn gthost_reserve_records(d: *mut Domain, records: usize, a: *mut Answer);
+        out: *mut Domain, out_count: usize,
+    ) -> Fault;
+    pub fn gthost_finish(d: *mut Domain) -> Answer;
+    pub fn gthost_grant_page(d: *mut Domain, gref: u32, to: u16, frame: u64, ro: u32) -> Answer;
+    pub fn gthost_grant_sub(d: *mut Domain, gref: u32, to: u16, frame: u64, off: u16, len: u16, ro: u32) -> Answer;
+    pub fn gthost_grant_via(d: *mut Domain, gref: u32, to: u16, dom2: u16, ref2: u32, ro: u32) -> Answer;
+    pub fn gthost_grant_bytes(d: *mut Domain, gref: u32, bytes: EntryBytes) -> Answer;
+    pub fn gthost_revoke(d: *mut Domain, gref: u32) -> Answer;
+    pub fn gthost_withdraw(d: *mut Domain, gref: u32) -> Answer;
+    pub fn gthost_demote(d: *mut Domain, gref: u32) -> Answer;
+    pub fn gthost_promote(d: *mut Domain, gref: u32) -> Answer;
+    pub fn gthost_map(d: *mut Domain, dom: u16, gref: u32, flags: u32) -> Answer;
+    pub fn gthost_unmap(d: *mut Domain, name: super::Handle) -> Answer;
+    pub fn gthost_mapping(d: *mut Domain, name: super::Handle) -> FoundMapping;
+    pub fn gthost_copy_begin(d: *mut Domain, copy: Copying) -> BegunCopy;
+    pub fn gthost_copy_end(d: *mut Domain) -> Answer;
+    pub fn gthost_set_version(d: *mut Domain, version: u32) -> Answer;
+    pub fn gthost_setup_table(d: *mut Domain, frames: u32) -> Answer;
+    pub fn gthost_query_size(d: *mut Domain, dom: u16) -> Answer;
+    pub fn gthost_get_version(d: *mut Domain, dom: u16) -> Answer;
+    pub fn gthost_record(d: *mut Domain, index: usize) -> FoundRecord;
+    pub fn gthost_keep_at_most(d: *mut Domain, records: usize) -> Answer;
+    pub fn gthost_reserve_records(d: *mut Domain, records: usize) -> Answer;
 }

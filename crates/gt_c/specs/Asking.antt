@@ -1,8 +1,9 @@
 -- What C asks, as the monitor knows it.
-use Rattle.std.specs.Prelude.{ℕ, Bool, true, false, ◌==◌, if◌then◌else◌}
+use Rattle.std.specs.Prelude.{ℕ, Bool, true, false, List, [], take, ◌==◌, if◌then◌else◌}
 use Rattle.gt_entry.specs.declared.entry.Entry.{Entry}
 use Rattle.gt_entry.specs.declared.entry.Entry.TheVariants.{Page, Sub, Via}
 use Rattle.gt_handles.specs.declared.handles.Handle.{Handle as Name}
+use Rattle.gt_c.specs.declared.calls.EntryBytes.{EntryBytes}
 use Rattle.gt_c.specs.declared.calls.MapHandle.{MapHandle}
 
 -- the name of a mapping
@@ -24,3 +25,7 @@ sub to frame off len ro = Sub (record { 0 = to }) (reads_only ro) frame off len
 -- another grant (grant_table.h, transitive)
 abbrev pub via : ℕ → ℕ → ℕ → ℕ → Entry
 via to dom2 gref ro = Via (record { 0 = to }) (reads_only ro) (record { 0 = dom2 }) (record { 0 = gref })
+
+-- the bytes of an entry: 8 or 16 of them, and none by any other length
+abbrev pub spelled : EntryBytes → List ℕ
+spelled b = if b.len == 16 then b.bytes else if b.len == 8 then take 8 b.bytes else []

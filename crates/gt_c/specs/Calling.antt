@@ -37,10 +37,9 @@ TurnedAway None after answer = (after ≡ None) × (answer ≡ encoded outcomes.
 TurnedAway (Some d) after answer =
     (after ≡ Some d) × IsSome d.guest.copying × (answer ≡ encoded outcomes.Busy)
 
--- a handle's domain was taken for a call, or the handle was turned away
-abbrev pub Enters : Option Here → Option Here → Answer → Option Here → Type 0
-Enters before after answer None = TurnedAway before after answer
-Enters before after answer (Some d) = (before ≡ Some d) × (after ≡ None) × (d.guest.copying ≡ None)
+-- a handle's domain was taken for a call; it is in no copy
+abbrev pub Enters : Option Here → Option Here → Here → Type 0
+Enters before after d = (before ≡ Some d) × (after ≡ None) × (d.guest.copying ≡ None)
 
 -- a call was made on the handle's domain, which was in no copy: the handle has it afterwards, and this holds of it
 -- before and after
@@ -152,10 +151,17 @@ pub record Leaves (s : Seated Table) (lost : ℕ) : Type 0 where
   pub leaves : HasLeft settled.monitor.words.layout settled.domain left
   pub lost_is : lost ≡ left.trail.lost
 
--- the domain of a handle left; or the handle had none
-abbrev pub Finishes : Option Here → Option Here → ℕ → Type 0
-Finishes None after lost = (after ≡ None) × (lost ≡ 0)
-Finishes (Some d) after lost = (after ≡ None) × Leaves d.guest lost
+-- the same, and the answer encodes how many records were lost
+pub record LeavesWith (s : Seated Table) (answer : Answer) : Type 0 where
+  pub lost : ℕ
+  pub encodes : answer ≡ encoded (outcomes.Lost lost)
+  pub leaves : Leaves s lost
+
+-- the domain of a handle left, and the answer encodes how many of its records were lost; or the handle had none, and
+-- the answer says so
+abbrev pub Finishes : Answer → Option Here → Option Here → Type 0
+Finishes answer None after = (after ≡ None) × (answer ≡ encoded outcomes.NoDomain)
+Finishes answer (Some d) after = (after ≡ None) × LeavesWith d.guest answer
 
 -- the reference of this number, and the domain
 abbrev pub at : ℕ → GrantRef

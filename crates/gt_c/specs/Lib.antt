@@ -1,4 +1,7 @@
 pub mod Asking
 pub mod Calling
+pub mod Faults
 pub mod Owning
+pub mod Pointing
+pub mod Promises
 pub mod Telling

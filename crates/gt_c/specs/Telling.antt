@@ -1,5 +1,5 @@
 -- What exports tell in layouts of C: the places of a copy, a mapping, a record.
-use Rattle.std.specs.Prelude.{◌≡◌, ◌⊎◌, ℕ, Option, Some, None, Result, Ok, Err}
+use Rattle.std.specs.Prelude.{◌≡◌, ◌⊎◌, ◌≤◌, ℕ, List, Option, Some, None, Result, Ok, Err}
 use Rattle.std.specs.List.{slice_get}
 use Rattle.gt_types.specs.declared.Dir.{Dir}
 use Rattle.gt_types.specs.declared.Dir.TheVariants.{Read, Write}
@@ -13,7 +13,7 @@ use Rattle.gt_entry.specs.Entries.{frame_of}
 use Rattle.gt_handles.specs.declared.handles.Handle.{Handle as Name}
 use Rattle.gt_handles.specs.Handles.{value_of}
 use Rattle.gt_seat.specs.Encoding.{encoded}
-use Rattle.gt_seat.specs.Recording.{recorded}
+use Rattle.gt_seat.specs.Recording.{no_end, recorded}
 use Rattle.gt_seat.specs.Seated.{Begins, Ends}
 use Rattle.gt_seat.specs.declared.answer.Answer.{Answer}
 use Rattle.gt_seat.specs.declared.answer.Outcome.{Outcome}
@@ -26,6 +26,7 @@ use Rattle.gt_c.specs.declared.copies.PlaceTold.{PlaceTold}
 use Rattle.gt_c.specs.declared.copies.PlacesTold.{PlacesTold}
 use Rattle.gt_c.specs.declared.telling.Mapping.{Mapping}
 use Rattle.gt_c.specs.declared.faults.Fault.{Fault}
+use Rattle.gt_c.specs.declared.handle.Handle.{Handle}
 use Rattle.gt_c.specs.declared.here.Here.{Here}
 use Rattle.gt_c.specs.Calling.{may}
 
@@ -41,10 +42,18 @@ copy_asked c = record { source = end_asked c.source; dest = end_asked c.dest; le
 abbrev pub place_told : Place → PlaceTold
 place_told p = record { frame = p.frame; owner = p.owner.0; off = p.off }
 
--- the places of a copy that began; what was there, if it was refused
-abbrev pub places_after : Result Places Denial → PlacesTold → PlacesTold
-places_after (Ok p) old = record { from = place_told p.from; to = place_told p.to; len = p.len }
-places_after (Err denial) old = old
+-- no place
+abbrev pub no_place : PlaceTold
+no_place = record { frame = 0; owner = 0; off = 0 }
+
+-- the places of a copy that did not begin
+abbrev pub no_places : PlacesTold
+no_places = record { from = no_place; to = no_place; len = 0 }
+
+-- the places of a copy that began; none, if it was refused
+abbrev pub places_told : Result Places Denial → PlacesTold
+places_told (Ok p) = record { from = place_told p.from; to = place_told p.to; len = p.len }
+places_told (Err denial) = no_places
 
 -- the outcome of a copy's beginning
 abbrev pub outcome_begun : Result Places Denial → Outcome
@@ -52,17 +61,17 @@ outcome_begun (Ok places) = outcomes.Done
 outcome_begun (Err denial) = outcomes.Denied denial
 
 -- a copy of the domain was begun so: the answer encodes whether, and its places are told
-pub record SaysBegun (copy : CopyArgs) (old new : PlacesTold) (answer : Answer) (d e : Here) : Type 0 where
+pub record SaysBegun (copy : CopyArgs) (places : PlacesTold) (answer : Answer) (d e : Here) : Type 0 where
   pub result : Result Places Denial
   pub encodes : answer ≡ encoded (outcome_begun result)
-  pub places : new ≡ places_after result old
+  pub told : places ≡ places_told result
   pub begins : Begins may d.guest copy result e.guest
 
 -- the copy of a handle's domain was ended; or there was none, or no domain, and the answer says so
-abbrev pub EndsCopy : Option Here → Option Here → Answer → Type 0
-EndsCopy None after answer = (after ≡ None) × (answer ≡ encoded outcomes.NoDomain)
-EndsCopy (Some d) None answer = ⊥
-EndsCopy (Some d) (Some e) answer =
+abbrev pub EndsCopy : Answer → Option Here → Option Here → Type 0
+EndsCopy answer None after = (after ≡ None) × (answer ≡ encoded outcomes.NoDomain)
+EndsCopy answer (Some d) None = ⊥
+EndsCopy answer (Some d) (Some e) =
     ((d.guest.copying ≡ None) × (e ≡ d) × (answer ≡ encoded outcomes.NoCopy))
     ⊎ (Ends d.guest e.guest × (answer ≡ encoded outcomes.Done))
 
@@ -71,10 +80,14 @@ abbrev pub writes : Dir → ℕ
 writes Read = 0
 writes Write = 1
 
+-- no mapping
+abbrev pub no_mapping : Mapping
+no_mapping = record { frame = 0; gref = 0; owner = 0; writes = 0 }
+
 -- a mapping as C reads it
-abbrev pub mapping_after : Option Mapped → Mapping → Mapping
-mapping_after None old = old
-mapping_after (Some p) old =
+abbrev pub mapping_told : Option Mapped → Mapping
+mapping_told None = no_mapping
+mapping_told (Some p) =
     record { frame = frame_of p.entry; gref = p.gref.0; owner = p.dom.0; writes = writes p.dir }
 
 -- whether there is one
@@ -83,22 +96,41 @@ outcome_present None = outcomes.Absent
 outcome_present (Some a) = outcomes.Done
 
 -- the mapping under this handle is told, if there is one, and nothing changed
-abbrev pub SaysMapping : Name → Mapping → Mapping → Answer → Here → Here → Type 0
-SaysMapping name old new answer d e =
+abbrev pub SaysMapping : Name → Mapping → Answer → Here → Here → Type 0
+SaysMapping name mapping answer d e =
     (answer ≡ encoded (outcome_present (value_of d.guest.domain.mappings name)))
-    × (new ≡ mapping_after (value_of d.guest.domain.mappings name) old) × (e ≡ d)
+    × (mapping ≡ mapping_told (value_of d.guest.domain.mappings name)) × (e ≡ d)
 
--- the record at this place, counted from 0, as C reads it
-abbrev pub record_after : Option Kept → Record → Record
-record_after None old = old
-record_after (Some r) old = recorded r
+-- no record
+abbrev pub no_record : Record
+no_record =
+    record {
+      call = 0;
+      caller = 0;
+      dom = 0;
+      gref = 0;
+      flags = 0;
+      len = 0;
+      source = no_end;
+      dest = no_end;
+      reply = encoded outcomes.Done;
+    }
+
+-- a record as C reads it
+abbrev pub record_told : Option Kept → Record
+record_told None = no_record
+record_told (Some r) = recorded r
 
 -- the record at this place is told, if there is one, and nothing changed
-abbrev pub SaysRecord : ℕ → Record → Record → Answer → Here → Here → Type 0
-SaysRecord index old new answer d e =
+abbrev pub SaysRecord : ℕ → Record → Answer → Here → Here → Type 0
+SaysRecord index kept answer d e =
     (answer ≡ encoded (outcome_present (slice_get d.guest.domain.trail.records index)))
-    × (new ≡ record_after (slice_get d.guest.domain.trail.records index) old) × (e ≡ d)
+    × (kept ≡ record_told (slice_get d.guest.domain.trail.records index)) × (e ≡ d)
 
 -- nothing is at fault
 abbrev pub no_fault : Fault
 no_fault = record { kind = 0; line = 0; dom = 0 }
+
+-- a run started; or it did not, a fault is told, and the handles are as they were
+abbrev pub Starts : Fault → List Handle → List Handle → Type 0
+Starts fault old new = (fault ≡ no_fault) ⊎ ((1 ≤ fault.kind) × (new ≡ old))

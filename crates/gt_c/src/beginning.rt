@@ -1,14 +1,14 @@
 //! How a run starts, and how a domain leaves it.
-ghost use Rattle.std.specs.Prelude.{◌≡◌, ◌≤◌, IfErr, true, false};
-ghost use Rattle.gt_c.specs.Calling.{Finishes, Leaves};
-ghost use Rattle.gt_c.specs.Telling.{no_fault};
+ghost use Rattle.std.specs.Prelude.{◌≡◌, ◌≤◌, IfErr};
+ghost use Rattle.gt_c.specs.Calling.{Finishes, Leaves, LeavesWith};
+ghost use Rattle.gt_c.specs.Telling.{Starts};
 
-use crate::faults::{Fault, HANDLES, MEMORY, config_fault, fault_at, policy_fault};
+use crate::faults::{Fault, HANDLES, MEMORY, NONE, config_fault, fault_at, policy_fault};
 use crate::handle::Handle;
 use crate::here::Here;
 use gt_allow::AllowTable;
 use gt_policy::Policy;
-use gt_seat::{Guest, start};
+use gt_seat::{Answer, Guest, Outcome, start};
 use gt_types::{Config, DomId, DomainConfig, TypeId};
 use std::alloc::{AllocError, Global};
 
@@ -103,38 +103,26 @@ fn hand_out(alloc: Global, all: Vec<Box<Here>>, out: &mut [Handle]) {
 }
 
 /// Starts a run of these domains, in order, under a policy's text. Each handle of `out` has to be one of none, and
-/// there have to be as many as domains. Answers whether the run started; if not, `fault` says why, and `out` is as it was.
+/// there have to be as many as domains. Answers no fault if the run started; otherwise why not, and `out` is as it was.
 #[unsafe(no_mangle)]
-pub extern "C" fn gthost_start(
+pub extern "C" fn gthost_start_at(
     alloc: Global,
     settings: &[DomainSettings],
     first_gen: u32,
     policy: &[u8],
     out: &mut [Handle],
-    fault: &mut Fault,
-) -> bool
-    ensures started { result ≡ true → fault.new ≡ no_fault }
-    ensures untouched { result ≡ false → out.new ≡ out.old }
-    ensures named { result ≡ false → 1 ≤ fault.new.kind }
+) -> Fault
+    ensures { Starts result out.old out.new }
 {
     if out.len() != settings.len() || out.iter().any(|handle| handle.is_live) {
-        *fault = HANDLES;
-        return false;
+        return HANDLES;
     }
     match begin(alloc, settings, first_gen, policy) {
         Ok(all) => {
             hand_out(alloc, all, out);
-            *fault = Fault {
-                kind: 0,
-                line: 0,
-                dom: 0,
-            };
-            true
+            NONE
         }
-        Err(refused) => {
-            *fault = refused;
-            false
-        }
+        Err(refused) => refused,
     }
 }
 
@@ -149,15 +137,22 @@ fn leave(mut guest: Guest<AllowTable>) -> u64
     guest.finish().lost()
 }
 
+// The same, and how many records were lost as an answer.
+fn left(guest: Guest<AllowTable>) -> Answer
+    ensures { LeavesWith guest result }
+{
+    let lost = leave(guest);
+    Answer::of(Outcome::Lost(lost))
+}
+
 /// The domain leaves its run: its mappings and their pins are given up, and the handle is one of none. The last one
-/// frees the monitor. Answers how many records were lost, 0 for a handle of none.
-#[unsafe(no_mangle)]
-pub extern "C" fn gthost_finish(alloc: Global, domain: &mut Handle) -> u64
-    ensures { Finishes domain.old.held.value domain.new.held.value result }
+/// frees the monitor. Answers how many records were lost.
+pub(crate) fn finish_on(alloc: Global, domain: &mut Handle) -> Answer
+    ensures { Finishes result domain.old.held.value domain.new.held.value }
 {
     let Some(here) = domain.take(alloc) else {
-        return 0;
+        return Answer::of(Outcome::NoDomain);
     };
     let here = Box::into_inner(here);
-    leave(here.guest)
+    left(here.guest)
 }

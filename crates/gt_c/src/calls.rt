@@ -1,12 +1,12 @@
 //! The calls of a domain on the entries of its table, and on those of others.
-ghost use Rattle.std.specs.Prelude.{◌≡◌};
-ghost use Rattle.std.specs.Option.{option_map};
-ghost use Rattle.gt_audit.specs.declared.record.Hypercall.TheVariants as Hypercall;
-ghost use Rattle.gt_calls.specs.declared.request.Request.TheVariants as Request;
-ghost use Rattle.gt_live.specs.Domains.{verdict_of, verdict_of_frames, verdict_of_size, verdict_of_version};
-ghost use Rattle.gt_c.specs.Calling.{Calls, Enters, SaysDone, SaysMapped, SaysTold, SaysUnmapped, at, dom_of};
-ghost use Rattle.gt_c.specs.Calling.{outcome, outcome_frames, outcome_mapped, outcome_size, outcome_version};
-ghost use Rattle.gt_c.specs.Asking.{name_of, page, sub, via};
+ghost use Rattle.std.specs.Prelude.{◌≡◌, IfOk, IfErr};
+ghost use Rattle.gt_seat.specs.Encoding.{encoded};
+ghost use Rattle.gt_seat.specs.declared.answer.Outcome.TheVariants as outcomes;
+ghost use Rattle.gt_c.specs.Asking.{page, spelled, sub, via};
+ghost use Rattle.gt_c.specs.Calling.{Enters, TurnedAway, outcome, outcome_frames, outcome_mapped, outcome_size};
+ghost use Rattle.gt_c.specs.Calling.{outcome_version};
+ghost use Rattle.gt_c.specs.Promises.{AsksSize, AsksVersion, Demotes, GrantsBytes, GrantsPage, GrantsSub, GrantsVia};
+ghost use Rattle.gt_c.specs.Promises.{Maps, Promotes, Revokes, SetsUp, SetsVersion, Unmaps, Withdraws};
 
 use crate::handle::Handle;
 use crate::here::Here;
@@ -24,21 +24,45 @@ pub struct MapHandle {
     pub key: usize,
 }
 
+/// The bytes of an entry: 8 or 16. By any other `len` they are none.
+#[repr(C)]
+#[derive(Clone, Copy)]
+pub struct EntryBytes {
+    pub len: u64,
+    pub bytes: [u8; 16],
+}
+
+fn spelled(bytes: &EntryBytes) -> &[u8]
+    ensures { result.now ≡ spelled bytes.now }
+{
+    match bytes.len {
+        8 => &bytes.bytes[..8],
+        16 => &bytes.bytes,
+        _ => &[],
+    }
+}
+
 // Takes the domain of a handle for a call. If it has none, or one in a copy, the answer says so, and the handle stays
 // as it was.
-pub(crate) fn enter(alloc: Global, domain: &mut Handle, answer: &mut Answer) -> Option<Box<Here>>
-    ensures { Enters domain.old.held.value domain.new.held.value answer.new (option_map (λ b. b.value) result) }
+pub(crate) fn enter(alloc: Global, domain: &mut Handle) -> Result<Box<Here>, Answer>
+    ensures ok { IfOk result (λ b. Enters domain.old.held.value domain.new.held.value b.value) }
+    ensures turned_away { IfErr result (λ a. TurnedAway domain.old.held.value domain.new.held.value a) }
 {
     let Some(here) = domain.take(alloc) else {
-        *answer = Answer::of(Outcome::NoDomain);
-        return None;
+        return Err(Answer::of(Outcome::NoDomain));
     };
     if here.guest.is_copying() {
-        *answer = Answer::of(Outcome::Busy);
         domain.put(here);
-        return None;
+        return Err(Answer::of(Outcome::Busy));
     }
-    Some(here)
+    Ok(here)
+}
+
+// The answer to a null pointer.
+pub(crate) fn nowhere() -> Answer
+    ensures { result ≡ encoded outcomes.NullPointer }
+{
+    Answer::of(Outcome::NullPointer)
 }
 
 fn done(answer: Result<(), Denial>) -> Outcome
@@ -121,29 +145,27 @@ fn via(to: u16, dom2: u16, ref2: u32, ro: u32) -> Entry
 }
 
 /// Grants a page of its own to a domain, for reading if `ro` is not 0.
-#[unsafe(no_mangle)]
-pub extern "C" fn gthost_grant_page(
+pub(crate) fn grant_page_on(
     alloc: Global,
     domain: &mut Handle,
     gref: u32,
     to: u16,
     frame: u64,
     ro: u32,
-    answer: &mut Answer,
-)
-    ensures { Calls domain.old.held.value domain.new.held.value answer.new
-        (SaysDone (Request.Grant (at gref) (page to frame ro)) answer.new) }
+) -> Answer
+    ensures { GrantsPage gref to frame ro result domain.old.held.value domain.new.held.value }
 {
-    let Some(mut here) = enter(alloc, domain, answer) else {
-        return;
+    let mut here = match enter(alloc, domain) {
+        Ok(here) => here,
+        Err(turned_away) => return turned_away,
     };
-    *answer = Answer::of(done(here.guest.grant(GrantRef(gref), &page(to, frame, ro))));
+    let answer = Answer::of(done(here.guest.grant(GrantRef(gref), &page(to, frame, ro))));
     domain.put(here);
+    answer
 }
 
 /// Grants bytes of a page of its own to a domain, for copies only.
-#[unsafe(no_mangle)]
-pub extern "C" fn gthost_grant_sub(
+pub(crate) fn grant_sub_on(
     alloc: Global,
     domain: &mut Handle,
     gref: u32,
@@ -152,24 +174,23 @@ pub extern "C" fn gthost_grant_sub(
     off: u16,
     len: u16,
     ro: u32,
-    answer: &mut Answer,
-)
-    ensures { Calls domain.old.held.value domain.new.held.value answer.new
-        (SaysDone (Request.Grant (at gref) (sub to frame off len ro)) answer.new) }
+) -> Answer
+    ensures { GrantsSub gref to frame off len ro result domain.old.held.value domain.new.held.value }
 {
-    let Some(mut here) = enter(alloc, domain, answer) else {
-        return;
+    let mut here = match enter(alloc, domain) {
+        Ok(here) => here,
+        Err(turned_away) => return turned_away,
     };
-    *answer = Answer::of(done(
+    let answer = Answer::of(done(
         here.guest
             .grant(GrantRef(gref), &sub(to, frame, off, len, ro)),
     ));
     domain.put(here);
+    answer
 }
 
 /// Lets a domain copy by the grant `ref2` of the domain `dom2`.
-#[unsafe(no_mangle)]
-pub extern "C" fn gthost_grant_via(
+pub(crate) fn grant_via_on(
     alloc: Global,
     domain: &mut Handle,
     gref: u32,
@@ -177,208 +198,166 @@ pub extern "C" fn gthost_grant_via(
     dom2: u16,
     ref2: u32,
     ro: u32,
-    answer: &mut Answer,
-)
-    ensures { Calls domain.old.held.value domain.new.held.value answer.new
-        (SaysDone (Request.Grant (at gref) (via to dom2 ref2 ro)) answer.new) }
+) -> Answer
+    ensures { GrantsVia gref to dom2 ref2 ro result domain.old.held.value domain.new.held.value }
 {
-    let Some(mut here) = enter(alloc, domain, answer) else {
-        return;
+    let mut here = match enter(alloc, domain) {
+        Ok(here) => here,
+        Err(turned_away) => return turned_away,
     };
-    *answer = Answer::of(done(here.guest.grant(GrantRef(gref), &via(to, dom2, ref2, ro))));
+    let answer = Answer::of(done(here.guest.grant(GrantRef(gref), &via(to, dom2, ref2, ro))));
     domain.put(here);
+    answer
 }
 
 /// Grants what the entry's bytes spell.
-#[unsafe(no_mangle)]
-pub extern "C" fn gthost_grant_bytes(
+pub(crate) fn grant_bytes_on(
     alloc: Global,
     domain: &mut Handle,
     gref: u32,
-    bytes: &[u8],
-    answer: &mut Answer,
-)
-    ensures { Calls domain.old.held.value domain.new.held.value answer.new
-        (SaysDone (Request.GrantBytes (at gref) bytes.entry) answer.new) }
+    bytes: EntryBytes,
+) -> Answer
+    ensures { GrantsBytes gref bytes result domain.old.held.value domain.new.held.value }
 {
-    let Some(mut here) = enter(alloc, domain, answer) else {
-        return;
+    let mut here = match enter(alloc, domain) {
+        Ok(here) => here,
+        Err(turned_away) => return turned_away,
     };
-    *answer = Answer::of(done(here.guest.grant_bytes(GrantRef(gref), bytes)));
+    let answer = Answer::of(done(here.guest.grant_bytes(GrantRef(gref), spelled(&bytes))));
     domain.put(here);
+    answer
 }
 
 /// Makes an entry of its own invalid, where it has no pins.
-#[unsafe(no_mangle)]
-pub extern "C" fn gthost_revoke(alloc: Global, domain: &mut Handle, gref: u32, answer: &mut Answer)
-    ensures { Calls domain.old.held.value domain.new.held.value answer.new
-        (SaysDone (Request.Revoke (at gref)) answer.new) }
+pub(crate) fn revoke_on(alloc: Global, domain: &mut Handle, gref: u32) -> Answer
+    ensures { Revokes gref result domain.old.held.value domain.new.held.value }
 {
-    let Some(mut here) = enter(alloc, domain, answer) else {
-        return;
+    let mut here = match enter(alloc, domain) {
+        Ok(here) => here,
+        Err(turned_away) => return turned_away,
     };
-    *answer = Answer::of(done(here.guest.revoke(GrantRef(gref))));
+    let answer = Answer::of(done(here.guest.revoke(GrantRef(gref))));
     domain.put(here);
+    answer
 }
 
 /// Makes an entry of its own invalid, with or without pins.
-#[unsafe(no_mangle)]
-pub extern "C" fn gthost_withdraw(
-    alloc: Global,
-    domain: &mut Handle,
-    gref: u32,
-    answer: &mut Answer,
-)
-    ensures { Calls domain.old.held.value domain.new.held.value answer.new
-        (SaysDone (Request.Withdraw (at gref)) answer.new) }
+pub(crate) fn withdraw_on(alloc: Global, domain: &mut Handle, gref: u32) -> Answer
+    ensures { Withdraws gref result domain.old.held.value domain.new.held.value }
 {
-    let Some(mut here) = enter(alloc, domain, answer) else {
-        return;
+    let mut here = match enter(alloc, domain) {
+        Ok(here) => here,
+        Err(turned_away) => return turned_away,
     };
-    *answer = Answer::of(done(here.guest.withdraw(GrantRef(gref))));
+    let answer = Answer::of(done(here.guest.withdraw(GrantRef(gref))));
     domain.put(here);
+    answer
 }
 
 /// Makes an entry of its own read-only, where it has no write pins.
-#[unsafe(no_mangle)]
-pub extern "C" fn gthost_demote(alloc: Global, domain: &mut Handle, gref: u32, answer: &mut Answer)
-    ensures { Calls domain.old.held.value domain.new.held.value answer.new
-        (SaysDone (Request.Demote (at gref)) answer.new) }
+pub(crate) fn demote_on(alloc: Global, domain: &mut Handle, gref: u32) -> Answer
+    ensures { Demotes gref result domain.old.held.value domain.new.held.value }
 {
-    let Some(mut here) = enter(alloc, domain, answer) else {
-        return;
+    let mut here = match enter(alloc, domain) {
+        Ok(here) => here,
+        Err(turned_away) => return turned_away,
     };
-    *answer = Answer::of(done(here.guest.demote(GrantRef(gref))));
+    let answer = Answer::of(done(here.guest.demote(GrantRef(gref))));
     domain.put(here);
+    answer
 }
 
 /// Makes an entry of its own writable.
-#[unsafe(no_mangle)]
-pub extern "C" fn gthost_promote(alloc: Global, domain: &mut Handle, gref: u32, answer: &mut Answer)
-    ensures { Calls domain.old.held.value domain.new.held.value answer.new
-        (SaysDone (Request.Promote (at gref)) answer.new) }
+pub(crate) fn promote_on(alloc: Global, domain: &mut Handle, gref: u32) -> Answer
+    ensures { Promotes gref result domain.old.held.value domain.new.held.value }
 {
-    let Some(mut here) = enter(alloc, domain, answer) else {
-        return;
+    let mut here = match enter(alloc, domain) {
+        Ok(here) => here,
+        Err(turned_away) => return turned_away,
     };
-    *answer = Answer::of(done(here.guest.promote(GrantRef(gref))));
+    let answer = Answer::of(done(here.guest.promote(GrantRef(gref))));
     domain.put(here);
+    answer
 }
 
 /// Maps an entry of a domain: flags 2 for reading and writing, 6 for reading.
-#[unsafe(no_mangle)]
-pub extern "C" fn gthost_map(
-    alloc: Global,
-    domain: &mut Handle,
-    dom: u16,
-    gref: u32,
-    flags: u32,
-    answer: &mut Answer,
-)
-    ensures { Calls domain.old.held.value domain.new.held.value answer.new
-        (SaysMapped (Request.Map (dom_of dom) (at gref) flags)
-        (Hypercall.Map (dom_of dom) (at gref) flags) answer.new) }
+pub(crate) fn map_on(alloc: Global, domain: &mut Handle, dom: u16, gref: u32, flags: u32) -> Answer
+    ensures { Maps dom gref flags result domain.old.held.value domain.new.held.value }
 {
-    let Some(mut here) = enter(alloc, domain, answer) else {
-        return;
+    let mut here = match enter(alloc, domain) {
+        Ok(here) => here,
+        Err(turned_away) => return turned_away,
     };
-    *answer = Answer::of(mapped(here.guest.map(DomId(dom), GrantRef(gref), flags)));
+    let answer = Answer::of(mapped(here.guest.map(DomId(dom), GrantRef(gref), flags)));
     domain.put(here);
+    answer
 }
 
 /// Gives a mapping up.
-#[unsafe(no_mangle)]
-pub extern "C" fn gthost_unmap(
-    alloc: Global,
-    domain: &mut Handle,
-    name: MapHandle,
-    answer: &mut Answer,
-)
-    ensures { Calls domain.old.held.value domain.new.held.value answer.new
-        (SaysUnmapped (Request.Unmap (name_of name)) Hypercall.Unmap (name_of name) answer.new) }
+pub(crate) fn unmap_on(alloc: Global, domain: &mut Handle, name: MapHandle) -> Answer
+    ensures { Unmaps name result domain.old.held.value domain.new.held.value }
 {
-    let Some(mut here) = enter(alloc, domain, answer) else {
-        return;
+    let mut here = match enter(alloc, domain) {
+        Ok(here) => here,
+        Err(turned_away) => return turned_away,
     };
     let name = Name {
         serial: name.serial,
         key: name.key,
     };
-    *answer = Answer::of(done(here.guest.unmap(name)));
+    let answer = Answer::of(done(here.guest.unmap(name)));
     domain.put(here);
+    answer
 }
 
 /// Gives its table this version, 1 or 2.
-#[unsafe(no_mangle)]
-pub extern "C" fn gthost_set_version(
-    alloc: Global,
-    domain: &mut Handle,
-    version: u32,
-    answer: &mut Answer,
-)
-    ensures { Calls domain.old.held.value domain.new.held.value answer.new
-        (SaysTold outcome verdict_of (Request.SetVersion version) (Hypercall.SetVersion version) answer.new) }
+pub(crate) fn set_version_on(alloc: Global, domain: &mut Handle, version: u32) -> Answer
+    ensures { SetsVersion version result domain.old.held.value domain.new.held.value }
 {
-    let Some(mut here) = enter(alloc, domain, answer) else {
-        return;
+    let mut here = match enter(alloc, domain) {
+        Ok(here) => here,
+        Err(turned_away) => return turned_away,
     };
-    *answer = Answer::of(done(here.guest.set_version(version)));
+    let answer = Answer::of(done(here.guest.set_version(version)));
     domain.put(here);
+    answer
 }
 
 /// Gives its table so many frames, where it has fewer.
-#[unsafe(no_mangle)]
-pub extern "C" fn gthost_setup_table(
-    alloc: Global,
-    domain: &mut Handle,
-    frames: u32,
-    answer: &mut Answer,
-)
-    ensures { Calls domain.old.held.value domain.new.held.value answer.new
-        (SaysTold outcome_frames verdict_of_frames (Request.SetupTable frames)
-        (Hypercall.SetupTable frames) answer.new) }
+pub(crate) fn setup_table_on(alloc: Global, domain: &mut Handle, frames: u32) -> Answer
+    ensures { SetsUp frames result domain.old.held.value domain.new.held.value }
 {
-    let Some(mut here) = enter(alloc, domain, answer) else {
-        return;
+    let mut here = match enter(alloc, domain) {
+        Ok(here) => here,
+        Err(turned_away) => return turned_away,
     };
-    *answer = Answer::of(frames_said(here.guest.setup_table(frames)));
+    let answer = Answer::of(frames_said(here.guest.setup_table(frames)));
     domain.put(here);
+    answer
 }
 
 /// The size of the table of a domain.
-#[unsafe(no_mangle)]
-pub extern "C" fn gthost_query_size(
-    alloc: Global,
-    domain: &mut Handle,
-    dom: u16,
-    answer: &mut Answer,
-)
-    ensures { Calls domain.old.held.value domain.new.held.value answer.new
-        (SaysTold outcome_size verdict_of_size (Request.QuerySize (dom_of dom))
-        (Hypercall.QuerySize (dom_of dom)) answer.new) }
+pub(crate) fn query_size_on(alloc: Global, domain: &mut Handle, dom: u16) -> Answer
+    ensures { AsksSize dom result domain.old.held.value domain.new.held.value }
 {
-    let Some(mut here) = enter(alloc, domain, answer) else {
-        return;
+    let mut here = match enter(alloc, domain) {
+        Ok(here) => here,
+        Err(turned_away) => return turned_away,
     };
-    *answer = Answer::of(size_said(here.guest.query_size(DomId(dom))));
+    let answer = Answer::of(size_said(here.guest.query_size(DomId(dom))));
     domain.put(here);
+    answer
 }
 
 /// The version of the table of a domain.
-#[unsafe(no_mangle)]
-pub extern "C" fn gthost_get_version(
-    alloc: Global,
-    domain: &mut Handle,
-    dom: u16,
-    answer: &mut Answer,
-)
-    ensures { Calls domain.old.held.value domain.new.held.value answer.new
-        (SaysTold outcome_version verdict_of_version (Request.GetVersion (dom_of dom))
-        (Hypercall.GetVersion (dom_of dom)) answer.new) }
+pub(crate) fn get_version_on(alloc: Global, domain: &mut Handle, dom: u16) -> Answer
+    ensures { AsksVersion dom result domain.old.held.value domain.new.held.value }
 {
-    let Some(mut here) = enter(alloc, domain, answer) else {
-        return;
+    let mut here = match enter(alloc, domain) {
+        Ok(here) => here,
+        Err(turned_away) => return turned_away,
     };
-    *answer = Answer::of(version_said(here.guest.get_version(DomId(dom))));
+    let answer = Answer::of(version_said(here.guest.get_version(DomId(dom))));
     domain.put(here);
+    answer
 }

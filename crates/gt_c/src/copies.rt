@@ -1,10 +1,11 @@
 //! A copy in two halves, for a program that keeps the frames: its beginning and its end.
 ghost use Rattle.std.specs.Prelude.{◌≡◌};
-ghost use Rattle.gt_c.specs.Calling.{Calls};
-ghost use Rattle.gt_c.specs.Telling.{EndsCopy, SaysBegun, copy_asked, end_asked, outcome_begun, place_told};
-ghost use Rattle.gt_c.specs.Telling.{places_after};
+ghost use Rattle.gt_seat.specs.Encoding.{encoded};
+ghost use Rattle.gt_seat.specs.declared.answer.Outcome.TheVariants as outcomes;
+ghost use Rattle.gt_c.specs.Promises.{BeginsCopy};
+ghost use Rattle.gt_c.specs.Telling.{EndsCopy, copy_asked, end_asked, no_places, outcome_begun, place_told, places_told};
 
-use crate::calls::enter;
+use crate::calls::{enter, nowhere};
 use crate::handle::Handle;
 use gt_calls::{CopyArgs, End, Place};
 use gt_seat::{Answer, CopyEnd, Outcome, Places};
@@ -39,6 +40,14 @@ pub struct PlacesTold {
     pub len: u16,
 }
 
+/// Whether a copy began, and what it may touch: all zeros if it did not.
+#[repr(C)]
+#[derive(Clone, Copy)]
+pub struct BegunTold {
+    pub answer: Answer,
+    pub places: PlacesTold,
+}
+
 fn end_asked(end: CopyEnd) -> End
     ensures { result ≡ end_asked end }
 {
@@ -49,8 +58,8 @@ fn end_asked(end: CopyEnd) -> End
     }
 }
 
-fn copy_asked(copy: &CopySettings) -> CopyArgs
-    ensures { result ≡ copy_asked copy.now }
+fn copy_asked(copy: CopySettings) -> CopyArgs
+    ensures { result ≡ copy_asked copy }
 {
     CopyArgs {
         source: end_asked(copy.source),
@@ -70,16 +79,34 @@ fn place_told(place: Place) -> PlaceTold
     }
 }
 
-// The places that are told, if the copy began.
-fn tell_places(begun: Result<Places, Denial>, places: &mut PlacesTold)
-    ensures { places.new ≡ places_after begun places.old }
+const NO_PLACE: PlaceTold = PlaceTold {
+    frame: 0,
+    owner: 0,
+    off: 0,
+};
+
+// The places of a copy that did not begin.
+fn no_places() -> PlacesTold
+    ensures { result ≡ no_places }
 {
-    if let Ok(told) = begun {
-        *places = PlacesTold {
+    PlacesTold {
+        from: NO_PLACE,
+        to: NO_PLACE,
+        len: 0,
+    }
+}
+
+// The places, if the copy began.
+fn places_told(begun: Result<Places, Denial>) -> PlacesTold
+    ensures { result ≡ places_told begun }
+{
+    match begun {
+        Ok(told) => PlacesTold {
             from: place_told(told.from),
             to: place_told(told.to),
             len: told.len,
-        };
+        },
+        Err(_) => no_places(),
     }
 }
 
@@ -92,43 +119,49 @@ fn begun(answer: Result<Places, Denial>) -> Outcome
     }
 }
 
-/// Begins a copy: the domain's pins for it are taken, and `places` says what may be touched until it ends. Refused, no
-/// pin is kept, and `places` is as it was.
-#[unsafe(no_mangle)]
-pub extern "C" fn gthost_copy_begin(
-    alloc: Global,
-    domain: &mut Handle,
-    copy: &CopySettings,
-    places: &mut PlacesTold,
-    answer: &mut Answer,
-)
-    ensures { Calls domain.old.held.value domain.new.held.value answer.new
-        (SaysBegun (copy_asked copy.now) places.old places.new answer.new) }
+// The answer to a null pointer.
+pub(crate) fn begun_nowhere() -> BegunTold
+    ensures { result.answer ≡ encoded outcomes.NullPointer }
 {
-    let Some(mut here) = enter(alloc, domain, answer) else {
-        return;
+    BegunTold {
+        answer: nowhere(),
+        places: no_places(),
+    }
+}
+
+/// Begins a copy: the domain's pins for it are taken, and `places` says what may be touched until it ends. Refused, no
+/// pin is kept.
+pub(crate) fn copy_begin_on(alloc: Global, domain: &mut Handle, copy: CopySettings) -> BegunTold
+    ensures { BeginsCopy copy result domain.old.held.value domain.new.held.value }
+{
+    let mut here = match enter(alloc, domain) {
+        Ok(here) => here,
+        Err(answer) => {
+            return BegunTold {
+                answer,
+                places: no_places(),
+            };
+        }
     };
     let result = here.guest.copy_begin(&copy_asked(copy));
-    tell_places(result, places);
-    *answer = Answer::of(begun(result));
+    let answer = Answer::of(begun(result));
+    let places = places_told(result);
     domain.put(here);
+    BegunTold { answer, places }
 }
 
 /// Ends the copy that the domain is in: its pins are given back, the last one first.
-#[unsafe(no_mangle)]
-pub extern "C" fn gthost_copy_end(alloc: Global, domain: &mut Handle, answer: &mut Answer)
-    ensures { EndsCopy domain.old.held.value domain.new.held.value answer.new }
+pub(crate) fn copy_end_on(alloc: Global, domain: &mut Handle) -> Answer
+    ensures { EndsCopy result domain.old.held.value domain.new.held.value }
 {
     let Some(mut here) = domain.take(alloc) else {
-        *answer = Answer::of(Outcome::NoDomain);
-        return;
+        return Answer::of(Outcome::NoDomain);
     };
     if !here.guest.is_copying() {
-        *answer = Answer::of(Outcome::NoCopy);
         domain.put(here);
-        return;
+        return Answer::of(Outcome::NoCopy);
     }
     here.guest.copy_end();
-    *answer = Answer::of(Outcome::Done);
     domain.put(here);
+    Answer::of(Outcome::Done)
 }

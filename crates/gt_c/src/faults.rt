@@ -1,5 +1,6 @@
 //! Why a run did not start.
-ghost use Rattle.std.specs.Prelude.{◌≡◌, ◌≤◌};
+ghost use Rattle.std.specs.Prelude.{◌≡◌, ◌≤◌, ◌<◌, ◌-◌, ◌++◌, length, replicate};
+ghost use Rattle.gt_c.specs.Faults.{fault_text};
 
 use gt_policy::{PolicyFault, PolicyFaultKind};
 use gt_types::{ConfigFault, DomId, StartFault};
@@ -8,12 +9,20 @@ use gt_types::{ConfigFault, DomId, StartFault};
 #[repr(C)]
 #[derive(Clone, Copy)]
 pub struct Fault {
-    /// 0: none. 1 memory; 2 the handles; 3 to 9 the policy; 10 to 17 the configuration.
+    /// 0: none. 1 memory; 2 the handles; 3 to 9 the policy; 10 to 17 the configuration; 18 a null pointer.
     pub kind: u32,
     /// The line of the policy that is at fault, from 1 on.
     pub line: u32,
     /// The domain that is at fault.
     pub dom: u32,
+}
+
+/// A text of `len` bytes, and zeros after them.
+#[repr(C)]
+#[derive(Clone, Copy)]
+pub struct FaultText {
+    pub len: usize,
+    pub bytes: [u8; 80],
 }
 
 pub(crate) fn fault_at(kind: u32, line: u32, dom: DomId) -> Fault
@@ -25,6 +34,13 @@ pub(crate) fn fault_at(kind: u32, line: u32, dom: DomId) -> Fault
         dom: u32::from(dom.0),
     }
 }
+
+// The run started.
+pub(crate) const NONE: Fault = Fault {
+    kind: 0,
+    line: 0,
+    dom: 0,
+};
 
 pub(crate) const MEMORY: Fault = Fault {
     kind: 1,
@@ -72,7 +88,10 @@ pub(crate) fn config_fault(refused: StartFault) -> Fault
     }
 }
 
-fn text_of(kind: u32) -> &'static str {
+fn text_of(kind: u32) -> &'static str
+    ensures says { result.now ≡ fault_text kind }
+    ensures fits { length result.now < 80 }
+{
     match kind {
         0 => "none",
         1 => "memory",
@@ -92,16 +111,30 @@ fn text_of(kind: u32) -> &'static str {
         15 => "table frames out of range",
         16 => "no such version",
         17 => "first generation out of range",
+        18 => "a pointer is null",
         _ => "no such fault",
     }
 }
 
-/// Writes what a kind of fault means, as far as it fits, without an end. Answers how long the whole text is.
+// The bytes, and zeros after them.
+fn padded(text: &[u8]) -> [u8; 80]
+    requires { length text.now < 80 }
+    ensures { result ≡ text.now ++ replicate (80 - length text.now) 0 }
+{
+    let mut all = [0; 80];
+    all[..text.len()].copy_from_slice(text);
+    all
+}
+
+/// What a kind of fault means: `len` bytes, and zeros after them.
 #[unsafe(no_mangle)]
-pub extern "C" fn gthost_fault_text(kind: u32, out: &mut [u8]) -> usize {
+pub extern "C" fn gthost_fault_text(kind: u32) -> FaultText
+    ensures len { result.len ≡ length (fault_text kind) }
+    ensures bytes { result.bytes ≡ fault_text kind ++ replicate (80 - length (fault_text kind)) 0 }
+{
     let text = text_of(kind).as_bytes();
-    for (to, from) in out.iter_mut().zip(text) {
-        *to = *from;
+    FaultText {
+        len: text.len(),
+        bytes: padded(text),
     }
-    text.len()
 }

@@ -21,7 +21,8 @@ mod handle;
 mod held;
 mod here;
 mod parts;
+mod seam;
 mod telling;
 
-pub use calls::MapHandle;
+pub use calls::{EntryBytes, MapHandle};
 pub use handle::Handle;

@@ -1,13 +1,15 @@
 //! What a domain has and keeps: its mappings, and the records of its calls.
 ghost use Rattle.std.specs.Prelude.{◌≡◌};
-ghost use Rattle.gt_c.specs.Asking.{name_of};
-ghost use Rattle.gt_c.specs.Calling.{Calls, KeepsAtMost, Reserves, outcome_reserved};
-ghost use Rattle.gt_c.specs.Telling.{SaysMapping, SaysRecord, mapping_after, outcome_present, record_after, writes};
+ghost use Rattle.gt_seat.specs.Encoding.{encoded};
+ghost use Rattle.gt_seat.specs.declared.answer.Outcome.TheVariants as outcomes;
+ghost use Rattle.gt_c.specs.Calling.{outcome_reserved};
+ghost use Rattle.gt_c.specs.Promises.{Bounds, MakesRoom, TellsMapping, TellsRecord};
+ghost use Rattle.gt_c.specs.Telling.{mapping_told, no_mapping, no_record, outcome_present, record_told, writes};
 
-use crate::calls::{MapHandle, enter};
+use crate::calls::{MapHandle, enter, nowhere};
 use crate::handle::Handle;
 use gt_calls::{Handle as Name, Held};
-use gt_seat::{Answer, Outcome, Record};
+use gt_seat::{Answer, CopyEnd, Outcome, Record};
 use gt_types::{Dir, Memory};
 use std::alloc::Global;
 
@@ -21,6 +23,22 @@ pub struct Mapping {
     pub writes: u16,
 }
 
+/// Whether there is such a mapping, and which: all zeros if there is none.
+#[repr(C)]
+#[derive(Clone, Copy)]
+pub struct MappingTold {
+    pub answer: Answer,
+    pub mapping: Mapping,
+}
+
+/// Whether there is such a record, and which: all zeros if there is none.
+#[repr(C)]
+#[derive(Clone, Copy)]
+pub struct RecordTold {
+    pub answer: Answer,
+    pub kept: Record,
+}
+
 fn writes(dir: Dir) -> u16
     ensures { result ≡ writes dir }
 {
@@ -30,26 +48,63 @@ fn writes(dir: Dir) -> u16
     }
 }
 
-// The mapping that is told, if there is one.
-fn tell_mapping(found: Option<Held>, mapping: &mut Mapping)
-    ensures { mapping.new ≡ mapping_after found mapping.old }
+// No mapping.
+fn no_mapping() -> Mapping
+    ensures { result ≡ no_mapping }
 {
-    if let Some(held) = found {
-        *mapping = Mapping {
+    Mapping {
+        frame: 0,
+        gref: 0,
+        owner: 0,
+        writes: 0,
+    }
+}
+
+// The mapping, if there is one.
+fn mapping_told(found: Option<Held>) -> Mapping
+    ensures { result ≡ mapping_told found }
+{
+    match found {
+        None => no_mapping(),
+        Some(held) => Mapping {
             frame: held.entry.frame(),
             gref: held.gref.0,
             owner: held.dom.0,
             writes: writes(held.dir),
-        };
+        },
     }
 }
 
-// The record that is told, if there is one.
-fn tell_record(found: Option<gt_audit::Record>, record_out: &mut Record)
-    ensures { record_out.new ≡ record_after found record_out.old }
+const NO_END: CopyEnd = CopyEnd {
+    ptr: 0,
+    dom: 0,
+    off: 0,
+};
+
+// No record.
+fn no_record() -> Record
+    ensures { result ≡ no_record }
 {
-    if let Some(told) = found {
-        *record_out = Record::of(told);
+    Record {
+        call: 0,
+        caller: 0,
+        dom: 0,
+        gref: 0,
+        flags: 0,
+        len: 0,
+        source: NO_END,
+        dest: NO_END,
+        reply: Answer::of(Outcome::Done),
+    }
+}
+
+// The record, if there is one.
+fn record_told(found: Option<gt_audit::Record>) -> Record
+    ensures { result ≡ record_told found }
+{
+    match found {
+        None => no_record(),
+        Some(told) => Record::of(told),
     }
 }
 
@@ -71,83 +126,92 @@ fn reserved(answer: Result<(), Memory>) -> Outcome
     }
 }
 
-/// The mapping under a handle. If there is none, `mapping` is as it was.
-#[unsafe(no_mangle)]
-pub extern "C" fn gthost_mapping(
-    alloc: Global,
-    domain: &mut Handle,
-    name: MapHandle,
-    mapping: &mut Mapping,
-    answer: &mut Answer,
-)
-    ensures { Calls domain.old.held.value domain.new.held.value answer.new
-        (SaysMapping (name_of name) mapping.old mapping.new answer.new) }
+// The answers to a null pointer.
+pub(crate) fn mapping_nowhere() -> MappingTold
+    ensures { result.answer ≡ encoded outcomes.NullPointer }
 {
-    let Some(here) = enter(alloc, domain, answer) else {
-        return;
+    MappingTold {
+        answer: nowhere(),
+        mapping: no_mapping(),
+    }
+}
+
+pub(crate) fn record_nowhere() -> RecordTold
+    ensures { result.answer ≡ encoded outcomes.NullPointer }
+{
+    RecordTold {
+        answer: nowhere(),
+        kept: no_record(),
+    }
+}
+
+/// The mapping under a handle.
+pub(crate) fn mapping_on(alloc: Global, domain: &mut Handle, name: MapHandle) -> MappingTold
+    ensures { TellsMapping name result domain.old.held.value domain.new.held.value }
+{
+    let here = match enter(alloc, domain) {
+        Ok(here) => here,
+        Err(answer) => {
+            return MappingTold {
+                answer,
+                mapping: no_mapping(),
+            };
+        }
     };
     let name = Name {
         serial: name.serial,
         key: name.key,
     };
     let found = here.guest.mapping(name);
-    tell_mapping(found, mapping);
-    *answer = Answer::of(present(&found));
+    let answer = Answer::of(present(&found));
+    let mapping = mapping_told(found);
     domain.put(here);
+    MappingTold { answer, mapping }
 }
 
-/// The record at a place, counted from 0, in the order of the calls. If there is none, `record_out` is as it was.
-#[unsafe(no_mangle)]
-pub extern "C" fn gthost_record(
-    alloc: Global,
-    domain: &mut Handle,
-    index: usize,
-    record_out: &mut Record,
-    answer: &mut Answer,
-)
-    ensures { Calls domain.old.held.value domain.new.held.value answer.new
-        (SaysRecord index record_out.old record_out.new answer.new) }
+/// The record at a place, counted from 0, in the order of the calls.
+pub(crate) fn record_on(alloc: Global, domain: &mut Handle, index: usize) -> RecordTold
+    ensures { TellsRecord index result domain.old.held.value domain.new.held.value }
 {
-    let Some(here) = enter(alloc, domain, answer) else {
-        return;
+    let here = match enter(alloc, domain) {
+        Ok(here) => here,
+        Err(answer) => {
+            return RecordTold {
+                answer,
+                kept: no_record(),
+            };
+        }
     };
     let found = here.guest.record_at(index);
-    tell_record(found, record_out);
-    *answer = Answer::of(present(&found));
+    let answer = Answer::of(present(&found));
+    let kept = record_told(found);
     domain.put(here);
+    RecordTold { answer, kept }
 }
 
 /// From now on the domain keeps a record only while it has fewer than so many; with 0 its calls are not recorded.
-#[unsafe(no_mangle)]
-pub extern "C" fn gthost_keep_at_most(
-    alloc: Global,
-    domain: &mut Handle,
-    records: usize,
-    answer: &mut Answer,
-)
-    ensures { Calls domain.old.held.value domain.new.held.value answer.new (KeepsAtMost records answer.new) }
+pub(crate) fn keep_at_most_on(alloc: Global, domain: &mut Handle, records: usize) -> Answer
+    ensures { Bounds records result domain.old.held.value domain.new.held.value }
 {
-    let Some(mut here) = enter(alloc, domain, answer) else {
-        return;
+    let mut here = match enter(alloc, domain) {
+        Ok(here) => here,
+        Err(turned_away) => return turned_away,
     };
     here.guest.keep_at_most(records);
-    *answer = Answer::of(Outcome::Done);
+    let answer = Answer::of(Outcome::Done);
     domain.put(here);
+    answer
 }
 
 /// Makes room for so many more records, which then take no memory.
-#[unsafe(no_mangle)]
-pub extern "C" fn gthost_reserve_records(
-    alloc: Global,
-    domain: &mut Handle,
-    records: usize,
-    answer: &mut Answer,
-)
-    ensures { Calls domain.old.held.value domain.new.held.value answer.new (Reserves records answer.new) }
+pub(crate) fn reserve_records_on(alloc: Global, domain: &mut Handle, records: usize) -> Answer
+    ensures { MakesRoom records result domain.old.held.value domain.new.held.value }
 {
-    let Some(mut here) = enter(alloc, domain, answer) else {
-        return;
+    let mut here = match enter(alloc, domain) {
+        Ok(here) => here,
+        Err(turned_away) => return turned_away,
     };
-    *answer = Answer::of(reserved(here.guest.reserve_records(records)));
+    let answer = Answer::of(reserved(here.guest.reserve_records(records)));
     domain.put(here);
+    answer
 }

@@ -13,7 +13,7 @@ use Rattle.gt_types.specs.declared.denial.Field.TheVariants as fields
 use Rattle.gt_types.specs.Denial.{rule_number, status_number}
 use Rattle.gt_seat.specs.declared.answer.Outcome.{Outcome}
 use Rattle.gt_seat.specs.declared.answer.Outcome.TheVariants.{Done, Mapped, Frames, Version, Size, Denied}
-use Rattle.gt_seat.specs.declared.answer.Outcome.TheVariants.{NoDomain, Busy, NoMemory, NoCopy, Absent}
+use Rattle.gt_seat.specs.declared.answer.Outcome.TheVariants.{NoDomain, Busy, NoMemory, NoCopy, Absent, NullPointer, Lost}
 use Rattle.gt_seat.specs.Encoding.{encoded, field_number}
 use Rattle.gt_seat.specs.Decoding.{AnswersAreReadBack, decoded, field_named, rule_named, status_named}
 
@@ -46,7 +46,8 @@ same r s f g e = λ i. Denied (record { rule = r; status = named_status s i; fac
 denied : (r : Rule) (s : Status) (f g : Facts) (x : Outcome) → f ≡ g
     → (if rule_number r == 256 then NoDomain else if rule_number r == 257 then Busy else
     if rule_number r == 258 then NoMemory else if rule_number r == 259 then NoCopy else
-    if rule_number r == 260 then Absent else if rule_number r == 0 then x else
+    if rule_number r == 260 then Absent else if rule_number r == 261 then NullPointer else
+    if rule_number r == 0 then x else
     Denied (record { rule = rule_named (rule_number r); status = status_named (status_number s); facts = f }))
     ≡ Denied (record { rule = r; status = s; facts = g })
 denied N1 s f g x e = same N1 s f g e
@@ -98,3 +99,5 @@ read_back Busy = refl
 read_back NoMemory = refl
 read_back NoCopy = refl
 read_back Absent = refl
+read_back NullPointer = refl
+read_back (Lost records) = refl

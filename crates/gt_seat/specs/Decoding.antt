@@ -12,7 +12,7 @@ use Rattle.gt_types.specs.declared.denial.Field.TheVariants as fields
 use Rattle.gt_seat.specs.declared.answer.Answer.{Answer}
 use Rattle.gt_seat.specs.declared.answer.Outcome.{Outcome}
 use Rattle.gt_seat.specs.declared.answer.Outcome.TheVariants.{Done, Mapped, Frames, Version, Size as SizeOf, Denied}
-use Rattle.gt_seat.specs.declared.answer.Outcome.TheVariants.{NoDomain, Busy, NoMemory, NoCopy, Absent}
+use Rattle.gt_seat.specs.declared.answer.Outcome.TheVariants.{NoDomain, Busy, NoMemory, NoCopy, Absent, NullPointer, Lost}
 use Rattle.gt_seat.specs.Encoding.{encoded}
 
 -- the rule of this number, the last one if there is none
@@ -92,6 +92,7 @@ given_in a =
     if a.kind == 2 then Frames a.value else
     if a.kind == 3 then Version a.value else
     if a.kind == 4 then SizeOf (record { frames = a.value; max = a.more }) else
+    if a.kind == 9 then Lost a.value else
     Done
 
 -- the outcome that an answer says
@@ -102,6 +103,7 @@ decoded a =
     if a.rule == 258 then NoMemory else
     if a.rule == 259 then NoCopy else
     if a.rule == 260 then Absent else
+    if a.rule == 261 then NullPointer else
     if a.rule == 0 then given_in a else
     Denied (record { rule = rule_named a.rule; status = status_named a.status; facts = facts_in a })
 

@@ -14,7 +14,7 @@ use Rattle.gt_types.specs.Denial.{rule_number, status_number}
 use Rattle.gt_seat.specs.declared.answer.Answer.{Answer}
 use Rattle.gt_seat.specs.declared.answer.Outcome.{Outcome}
 use Rattle.gt_seat.specs.declared.answer.Outcome.TheVariants.{Done, Mapped, Frames, Version, Size as SizeOf, Denied}
-use Rattle.gt_seat.specs.declared.answer.Outcome.TheVariants.{NoDomain, Busy, NoMemory, NoCopy, Absent}
+use Rattle.gt_seat.specs.declared.answer.Outcome.TheVariants.{NoDomain, Busy, NoMemory, NoCopy, Absent, NullPointer, Lost}
 
 -- the number of a field of an entry's bytes
 abbrev pub field_number : Field → ℕ
@@ -75,3 +75,5 @@ encoded Busy = bare 257 (pos 0)
 encoded NoMemory = bare 258 (pos 0)
 encoded NoCopy = bare 259 (pos 0)
 encoded Absent = bare 260 (pos 0)
+encoded NullPointer = bare 261 (pos 0)
+encoded (Lost records) = given 9 records 0

@@ -32,6 +32,10 @@ pub enum Outcome {
     NoCopy,
     /// There is no such mapping or record.
     Absent,
+    /// A pointer is null: the call was not made.
+    NullPointer,
+    /// Ok: the domain has left its run, and so many of its records were lost.
+    Lost(u64),
 }
 
 /// What a call answered, in a layout that C reads. A field that says nothing is 0.
@@ -39,12 +43,12 @@ pub enum Outcome {
 #[derive(Clone, Copy)]
 pub struct Answer {
     /// 0 if the call is Ok, the number of the rule from 1 to 26 if it is refused, or else one of [`NO_DOMAIN`],
-    /// [`BUSY`], [`NO_MEMORY`], [`NO_COPY`] and [`ABSENT`].
+    /// [`BUSY`], [`NO_MEMORY`], [`NO_COPY`], [`ABSENT`] and [`NULL_POINTER`].
     pub rule: u32,
     /// The status of the public header `grant_table.h`: 0, or below it.
     pub status: i32,
     /// What else it carries: 0 nothing, 1 a handle, 2 frames, 3 a version, 4 a size, 5 what the policy denies, 6 a field
-    /// of an entry's bytes, 7 a header's word, 8 an entry's word.
+    /// of an entry's bytes, 7 a header's word, 8 an entry's word, 9 lost records.
     pub kind: u32,
     /// The domain whose word it carries.
     pub dom: u32,
@@ -58,7 +62,7 @@ pub struct Answer {
     pub detail: u32,
     /// The word of the deciding look or exchange.
     pub word: u64,
-    /// The serial of a handle, a number of frames, or a version.
+    /// The serial of a handle, a number of frames or of lost records, or a version.
     pub value: u64,
     /// The key of a handle, or how many frames a table may have.
     pub more: u64,
@@ -78,6 +82,9 @@ pub const NO_COPY: u32 = 259;
 
 /// The rule of an answer that a mapping or a record would be told by, if there is none.
 pub const ABSENT: u32 = 260;
+
+/// The rule of an answer to a call that was not made, since a pointer is null.
+pub const NULL_POINTER: u32 = 261;
 
 const DONE: Answer = Answer {
     rule: 0,
@@ -192,6 +199,8 @@ impl Answer {
             Outcome::NoMemory => by_rule(NO_MEMORY),
             Outcome::NoCopy => by_rule(NO_COPY),
             Outcome::Absent => by_rule(ABSENT),
+            Outcome::NullPointer => by_rule(NULL_POINTER),
+            Outcome::Lost(records) => given(9, records, 0),
         }
     }
 }

@@ -1,0 +1,21 @@
+use Rattle.std.proofs.Common.{ap, ◌∙◌}
+use Rattle.gt_seat.specs.Encoding.{encoded}
+use Rattle.gt_calls.specs.declared.request.Request.TheVariants as requests
+use Rattle.gt_audit.specs.declared.record.Hypercall.TheVariants as hypercalls
+use Rattle.gt_live.specs.Domains.{verdict_of_version}
+use Rattle.gt_c.specs.Calling.{SaysTold, dom_of, outcome_version}
+use Rattle.gt_c.proofs.Made.{idle-there, made}
+use Rattle.gt_c.proofs.calls.get_version_on.Goals as goal
+
+pub get_version-requires : goal.get_version-requires
+get_version-requires c = record { idle = idle-there c.deref_mut.ensures.value c.in-Ok.ensures.ok.2 }
+
+pub returns : goal.returns
+returns c =
+    made c.of-answer.result (SaysTold outcome_version verdict_of_version (requests.GetVersion (dom_of c.args.dom)) (hypercalls.GetVersion (dom_of c.args.dom)) c.of-answer.result) c.deref_mut.ensures.value c.in-Ok.ensures.ok.0 c.put.ensures.1 c.in-Ok.ensures.ok.2
+    (record {
+      result = c.get_version.result;
+      encodes = c.of-answer.ensures ∙ ap encoded c.version_said.ensures;
+      stays = c.get_version.ensures.stays;
+      holds = (c.get_version.ensures.answered, c.get_version.ensures.kept, c.get_version.ensures.told);
+    })

@@ -1,0 +1,20 @@
+use Rattle.std.proofs.Common.{ap, ◌∙◌}
+use Rattle.gt_seat.specs.Encoding.{encoded}
+use Rattle.gt_calls.specs.declared.request.Request.TheVariants as requests
+use Rattle.gt_audit.specs.declared.record.Hypercall.TheVariants as hypercalls
+use Rattle.gt_c.specs.Calling.{SaysMapped, at, dom_of}
+use Rattle.gt_c.proofs.Made.{idle-there, made}
+use Rattle.gt_c.proofs.calls.map_on.Goals as goal
+
+pub map-requires : goal.map-requires
+map-requires c = record { idle = idle-there c.deref_mut.ensures.value c.in-Ok.ensures.ok.2 }
+
+pub returns : goal.returns
+returns c =
+    made c.of-answer.result (SaysMapped (requests.Map (dom_of c.args.dom) (at c.args.gref) c.args.flags) (hypercalls.Map (dom_of c.args.dom) (at c.args.gref) c.args.flags) c.of-answer.result) c.deref_mut.ensures.value c.in-Ok.ensures.ok.0 c.put.ensures.1 c.in-Ok.ensures.ok.2
+    (record {
+      result = c.map.result;
+      encodes = c.of-answer.ensures ∙ ap encoded c.mapped.ensures;
+      stays = c.map.ensures.stays;
+      holds = (c.map.ensures.answered, c.map.ensures.told);
+    })

@@ -1,0 +1,19 @@
+use Rattle.std.proofs.Common.{ap, ◌∙◌}
+use Rattle.gt_seat.specs.Encoding.{encoded}
+use Rattle.gt_calls.specs.declared.request.Request.TheVariants as requests
+use Rattle.gt_c.specs.Calling.{SaysDone, at}
+use Rattle.gt_c.proofs.Made.{idle-there, made}
+use Rattle.gt_c.proofs.calls.promote_on.Goals as goal
+
+pub promote-requires : goal.promote-requires
+promote-requires c = record { idle = idle-there c.deref_mut.ensures.value c.in-Ok.ensures.ok.2 }
+
+pub returns : goal.returns
+returns c =
+    made c.of-answer.result (SaysDone (requests.Promote (at c.args.gref)) c.of-answer.result) c.deref_mut.ensures.value c.in-Ok.ensures.ok.0 c.put.ensures.1 c.in-Ok.ensures.ok.2
+    (record {
+      result = c.promote.result;
+      encodes = c.of-answer.ensures ∙ ap encoded c.done.ensures;
+      stays = c.promote.ensures.stays;
+      holds = (c.promote.ensures.answered, c.promote.ensures.kept, c.promote.ensures.silent);
+    })

@@ -1,0 +1,21 @@
+use Rattle.std.proofs.Common.{ap, ◌∙◌}
+use Rattle.gt_seat.specs.Encoding.{encoded}
+use Rattle.gt_calls.specs.declared.request.Request.TheVariants as requests
+use Rattle.gt_audit.specs.declared.record.Hypercall.TheVariants as hypercalls
+use Rattle.gt_c.specs.Asking.{name_of}
+use Rattle.gt_c.specs.Calling.{SaysUnmapped}
+use Rattle.gt_c.proofs.Made.{idle-there, made}
+use Rattle.gt_c.proofs.calls.unmap_on.Goals as goal
+
+pub unmap-requires : goal.unmap-requires
+unmap-requires c = record { idle = idle-there c.deref_mut.ensures.value c.in-Ok.ensures.ok.2 }
+
+pub returns : goal.returns
+returns c =
+    made c.of-answer.result (SaysUnmapped (requests.Unmap (name_of c.args.name)) hypercalls.Unmap (name_of c.args.name) c.of-answer.result) c.deref_mut.ensures.value c.in-Ok.ensures.ok.0 c.put.ensures.1 c.in-Ok.ensures.ok.2
+    (record {
+      result = c.unmap.result;
+      encodes = c.of-answer.ensures ∙ ap encoded c.done.ensures;
+      stays = c.unmap.ensures.stays;
+      holds = (c.unmap.ensures.answered, c.unmap.ensures.removed, c.unmap.ensures.refused, c.unmap.ensures.told);
+    })

@@ -1,0 +1,18 @@
+use Rattle.std.proofs.Common.{ap, subst, ◌∙◌}
+use Rattle.gt_calls.specs.declared.request.CopyArgs.{CopyArgs}
+use Rattle.gt_seat.specs.Encoding.{encoded}
+use Rattle.gt_seat.specs.Seated.{Begins}
+use Rattle.gt_c.specs.Calling.{may}
+use Rattle.gt_c.specs.Telling.{SaysBegun, copy_asked}
+use Rattle.gt_c.proofs.Made.{made}
+use Rattle.gt_c.proofs.copies.copy_begin_on.Goals as goal
+
+pub returns : goal.returns
+returns c =
+    made c.of-answer.result (SaysBegun (copy_asked c.args.copy) c.places_told-places.result c.of-answer.result) c.deref_mut.ensures.value c.in-Ok.ensures.ok.0 c.put.ensures.1 c.in-Ok.ensures.ok.2
+    (record {
+      result = c.copy_begin-result.result;
+      encodes = c.of-answer.ensures ∙ ap encoded c.begun.ensures;
+      told = c.places_told-places.ensures;
+      begins = subst (λ (a : CopyArgs). Begins may c.deref_mut.result.now.guest a c.copy_begin-result.result c.copy_begin-result.new.self) c.copy_asked.ensures c.copy_begin-result.ensures.begins;
+    })

@@ -1,0 +1,25 @@
+-- What lies behind a pointer from C, which may be null.
+use Rattle.std.specs.Prelude.{◌≡◌, Option, Some, None}
+use base.Fml.{Fml, ftrue, ffalse}
+use base.Fraction.{full_share}
+use denote.RattleType.{RattleType}
+use denote.RawPtr.{Ptr, null_ptr, block_ptr, lies_at}
+use Rattle.gt_seat.specs.Encoding.{encoded}
+use Rattle.gt_seat.specs.declared.answer.Answer.{Answer}
+use Rattle.gt_seat.specs.declared.answer.Outcome.TheVariants as outcomes
+use Rattle.gt_c.specs.declared.handle.Handle.{Handle}
+use Rattle.gt_c.specs.declared.here.Here.{Here}
+
+-- the pointer is null, or this value lies there
+abbrev pub behind : (R : RattleType) → Ptr → Option R.Denot → Fml
+behind R null_ptr None = ftrue
+behind R null_ptr (Some x) = ffalse
+behind R (block_ptr b o) None = ffalse
+behind R (block_ptr b o) (Some x) = lies_at R full_share (block_ptr b o) x
+
+-- a call promises this of the domain of the handle behind a pointer, before and after; a null pointer is answered by
+-- its name
+abbrev pub Reaches : Option Handle → Option Handle → Answer → (Option Here → Option Here → Type 0) → Type 0
+Reaches None after answer Promises = (after ≡ None) × (answer ≡ encoded outcomes.NullPointer)
+Reaches (Some h) None answer Promises = ⊥
+Reaches (Some h) (Some k) answer Promises = Promises h.held.value k.held.value
