@@ -132,6 +132,14 @@ pub refused-first : {R : Type 0} (k : Layout) (c : CallerKnowledge) (caller : Do
     → AnsweredBy k (path_of c caller request) tells (Err denial) v v
 refused-first k c caller request tells denial v is = inl (refused-called k c caller request denial v is)
 
+-- a call with an access that is refused at its beginning, by the verdict there
+pub refused-begun : (k : Layout) (c : CallerKnowledge) (caller : DomId) (request : Request) (verdict : Verdict)
+    (denial : Denial) (v : View) → IsAccessing (asked request) → begun_of c caller request ≡ Some verdict
+    → denial ≡ refusal_of verdict → Called k (path_of c caller request) (Refused denial) v v
+refused-begun k c caller request verdict denial v is e said =
+    refused-called k c caller request denial v
+    (refuses c caller request verdict denial (refused-once c caller request verdict is e) e said)
+
 -- the same of a call with an access, by the verdict at its beginning
 pub refused-access : {R : Type 0} (k : Layout) (c : CallerKnowledge) (caller : DomId) (request : Request)
     (tells : Step → R → Type 0) (verdict : Verdict) (denial : Denial) (v : View) → IsAccessing (asked request)

@@ -1,6 +1,6 @@
 -- A copy at its access: what its routes reach, what the policy allows of it, and how it is answered.
 use Rattle.gt_live.proofs.Moments.{only-access, walk-moments}
-use Rattle.std.proofs.Common.{◌≡◌, ℕ, Bool, true, false, cond, refl, sym, ap, ◌∙◌, subst, List, [], ◌∷◌, ◌++◌, Option, Some, None, inl, inr}
+use Rattle.std.proofs.Common.{◌≡◌, ◌+◌, ◌≤◌, ℕ, Bool, true, false, cond, refl, sym, ap, ◌∙◌, subst, List, [], ◌∷◌, ◌++◌, Option, Some, None, inl, inr}
 use Rattle.std.specs.Prelude.{IfErr, IfOk, Result, Ok, Err, is_none}
 use Rattle.gt_types.specs.declared.DomId.{DomId}
 use Rattle.gt_types.specs.declared.TypeId.{TypeId}
@@ -34,12 +34,15 @@ use Rattle.gt_calls.specs.declared.held.Route.TheVariants.{Own, Direct, Through}
 use Rattle.gt_calls.specs.declared.request.CopyArgs.{CopyArgs}
 use Rattle.gt_calls.specs.declared.request.End.{End}
 use Rattle.gt_calls.specs.Holding.{frame_by, held_by, last_first, owner_by}
-use Rattle.gt_calls.specs.Opening.{IsAllowed, IsOwnEnd, OpensCopy}
-use Rattle.gt_calls.specs.Path.{Continuation, dest_pair, give_back, path, source_pair}
+use Rattle.gt_calls.specs.Opening.{IsAllowed, IsOwnEnd, OpensCopy, opens}
+use Rattle.gt_calls.specs.Path.{Continuation, dest_pair, give_back, path, place_of, source_pair}
 use Rattle.gt_calls.specs.declared.action.Seen.TheVariants.{Nothing}
 use Rattle.gt_calls.specs.declared.request.Asked.{Asked}
+use Rattle.gt_calls.specs.declared.request.Asked.TheVariants as asks
+use Rattle.gt_calls.specs.declared.call.Phase.TheVariants.{Accessing}
+use Rattle.gt_calls.specs.CopyCalls.{copy_call}
 use Rattle.gt_calls.specs.Resting.{IsReached, RestsOnWays}
-use Rattle.gt_calls.specs.Rules.{CallerKnowledge, denied, first, is_dest_granted, is_source_granted, label_of, refused_when, rights_to_copy, via_judged}
+use Rattle.gt_calls.specs.Rules.{CallerKnowledge, begun, copy_begun, denied, first, is_dest_granted, is_source_granted, label_of, refused_when, rights_to_copy, via_judged}
 use Rattle.gt_calls.specs.Standing.{pins_by_call}
 use Rattle.gt_live.specs.Accesses.{Accessed, AnsweredBy, IsCopiedBy, IsOfAccess, frame_named, onward, spot_of}
 use Rattle.gt_live.specs.Underway.{AreOfRun, AtAccess, GivesBack, HasTaken}
@@ -172,3 +175,49 @@ reaches-dest c k s request pins from to len v r x all =
     let at = reaches-end c k s (is_dest_granted r.copy) r.copy.dest Write r.copy.len (dest_pair s.dom pins.source) pins.dest (last_first pins) v r.dest_reached x all (λ p is. in-dest p (held_by pins.dest) (held_by pins.source) is) in
     subst (λ (n : ℕ). Reaches k s Write ForCopy (frame_named to.owner to.frame) to.off n pins.dest) (sym r.len_is)
     (subst (λ (p : Place). Reaches k s Write ForCopy (frame_named p.owner p.frame) p.off r.copy.len pins.dest) (sym r.to_is) at)
+
+-- a copy of this caller at its access, with these pins
+abbrev pub Access : CallerKnowledge → Layout → DomId → CopyArgs → Pins → View → View → Type 0
+Access c k caller copy pins v w =
+    AtAccess c k (copy_call caller copy (Accessing copy pins.source pins.dest))
+    (place_of caller copy.source pins.source) (place_of caller copy.dest pins.dest) copy.len v w
+
+module _ (c : CallerKnowledge) (k : Layout) (s : SeatOf) (caller : DomId) (copy : CopyArgs) (pins : Pins) (v : View)
+    (me : s.dom ≡ caller) (a : Access c k caller copy pins v s.view) where
+  abbrev pub from_place : Place
+  from_place = place_of caller copy.source pins.source
+
+  abbrev pub to_place : Place
+  to_place = place_of caller copy.dest pins.dest
+
+  access-rests : RestsOnWays c s.dom (asks.Copy copy) pins from_place to_place copy.len
+  access-rests =
+      subst (λ (x : DomId). RestsOnWays c x (asks.Copy copy) pins from_place to_place copy.len) (sym me) a.rests
+
+  pub access-source : (at : Place) → at ≡ from_place
+      → Reaches k s Read ForCopy (frame_named at.owner at.frame) at.off copy.len pins.source
+  access-source at e =
+      subst (λ (p : Place). Reaches k s Read ForCopy (frame_named p.owner p.frame) p.off copy.len pins.source) (sym e)
+      (reaches-source c k s (asks.Copy copy) pins from_place to_place copy.len v access-rests a.taken a.of_run)
+
+  pub access-dest : (at : Place) → at ≡ to_place
+      → Reaches k s Write ForCopy (frame_named at.owner at.frame) at.off copy.len pins.dest
+  access-dest at e =
+      subst (λ (p : Place). Reaches k s Write ForCopy (frame_named p.owner p.frame) p.off copy.len pins.dest) (sym e)
+      (reaches-dest c k s (asks.Copy copy) pins from_place to_place copy.len v access-rests a.taken a.of_run)
+
+  pub access-may : copy_begun c caller copy ≡ None → MayCopy c.domains c.may s.dom pins
+  access-may none =
+      let r = access-rests in
+      let here : begun c s.dom (asks.Copy r.copy) ≡ None =
+      subst (λ (x : DomId). begun c x (asks.Copy r.copy) ≡ None) (sym me)
+      (subst (λ (x : Asked). begun c caller x ≡ None) r.of_copy none) in
+      may-copy c s.dom r.copy pins (opens c s.dom (asks.Copy r.copy) here) r.source_reached r.dest_reached
+
+  pub access-source-range : (at : Place) → at ≡ from_place → at.off + copy.len ≤ 4096
+  access-source-range at e =
+      let r = access-rests in subst (λ (p : Place). p.off + copy.len ≤ 4096) (sym (e ∙ r.from_is)) r.source_range
+
+  pub access-dest-range : (at : Place) → at ≡ to_place → at.off + copy.len ≤ 4096
+  access-dest-range at e =
+      let r = access-rests in subst (λ (p : Place). p.off + copy.len ≤ 4096) (sym (e ∙ r.to_is)) r.dest_range

@@ -13,6 +13,7 @@ pub mod Labels
 pub mod Once
 pub mod Accessing
 pub mod Maps
+pub mod Legs
 pub mod Tries
 pub mod Visiting
 pub mod NewDomain
@@ -21,4 +22,7 @@ pub mod Copying
 pub mod Stopping
 pub mod Copied
 pub mod GivingUp
+pub mod Phases
+pub mod GivingBack
+pub mod Reaching
 mod Numbers

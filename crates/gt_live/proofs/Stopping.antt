@@ -1,7 +1,6 @@
 -- A copy driven to its access, and from there to its end.
 use Rattle.gt_live.proofs.Moments.{walk-moments}
-use Rattle.std.proofs.Common.{◌≡◌, ℕ, ◌<◌, Bool, true, false, cond, refl, sym, ap, ◌∙◌, subst, List, [], ◌∷◌, ◌++◌, length, Option, Some, None, inl, arith, append_assoc}
-use Rattle.std.proofs.lemmas.List.{append-nil}
+use Rattle.std.proofs.Common.{◌≡◌, ℕ, ◌<◌, Bool, true, false, cond, refl, sym, ap, ◌∙◌, subst, List, [], ◌∷◌, ◌++◌, Option, Some, None, append_assoc}
 use mathlib.Core.Path.{fun_ext}
 use Rattle.gt_types.specs.declared.DomId.{DomId}
 use Rattle.gt_types.specs.declared.denial.Denial.{Denial}
@@ -12,9 +11,9 @@ use Rattle.gt_calls.specs.declared.action.Action.{Action}
 use Rattle.gt_calls.specs.declared.action.Action.TheVariants.{Step as Makes, Done}
 use Rattle.gt_calls.specs.declared.action.Place.{Place}
 use Rattle.gt_calls.specs.declared.action.Seen.{Seen}
-use Rattle.gt_calls.specs.declared.action.Seen.TheVariants.{Nothing, Word, Taken, Missed}
+use Rattle.gt_calls.specs.declared.action.Seen.TheVariants.{Nothing}
 use Rattle.gt_calls.specs.declared.action.Step.{Step}
-use Rattle.gt_calls.specs.declared.action.Step.TheVariants.{Pin, Unpin, Copy as CopyBytes}
+use Rattle.gt_calls.specs.declared.action.Step.TheVariants.{Pin, Copy as CopyBytes}
 use Rattle.gt_calls.specs.declared.action.Verdict.{Verdict}
 use Rattle.gt_calls.specs.declared.action.Verdict.TheVariants.{Granted, Given, Mapped, Refused}
 use Rattle.gt_calls.specs.declared.call.Call.{Call}
@@ -31,22 +30,21 @@ use Rattle.gt_calls.specs.declared.leg.LegPhase.TheVariants.{Header, Look, Body,
 use Rattle.gt_calls.specs.declared.request.Asked.{Asked}
 use Rattle.gt_calls.specs.declared.request.Asked.TheVariants as asks
 use Rattle.gt_calls.specs.declared.request.CopyArgs.{CopyArgs}
-use Rattle.gt_calls.specs.declared.request.Holder.TheVariants.{Leg as ByLeg}
 use Rattle.gt_calls.specs.Counting.{steps_to_come}
 use Rattle.gt_calls.specs.Following.{FitsNext, Goes}
-use Rattle.gt_calls.specs.Holding.{last_first, without_last}
+use Rattle.gt_calls.specs.Holding.{last_first}
 use Rattle.gt_calls.specs.Machine.{action_at, at_dest, at_source, first_phase, leg_step, next_to_give, phase_after, standing_after}
-use Rattle.gt_calls.specs.Path.{Continuation, end_leg, give_back, path}
+use Rattle.gt_calls.specs.Path.{end_leg, give_back, path}
 use Rattle.gt_calls.specs.Resting.{Rests}
 use Rattle.gt_calls.specs.Rules.{CallerKnowledge, is_source_granted}
-use Rattle.gt_calls.specs.Standing.{IsAt, IsFresh, held_by_call, held_in, pins_at, pins_by_call}
+use Rattle.gt_calls.specs.Standing.{IsAt, IsFresh, held_in, pins_at, pins_by_call}
 use Rattle.gt_live.specs.Driving.{CanMake, Knows}
-use Rattle.gt_live.specs.Underway.{AreOfRun, AtAccess, EndsRefused, GivesBack, HasTaken, Returning, StandsWell, Underway}
+use Rattle.gt_live.specs.Underway.{AreOfRun, AtAccess, EndsRefused, HasTaken, StandsWell, Underway}
 use Rattle.gt_live.specs.Walks.{Called, Made, MakesStep, after, shown, shown_by}
 use Rattle.gt_live.proofs.Advancing.{same-call}
-use Rattle.gt_live.proofs.Copying.{IsCopy, Tries, can-walk, dest-stands, one-fewer, step-stands, tries-pin}
+use Rattle.gt_live.proofs.Copying.{IsCopy, Tries, can-walk, dest-stands, step-stands, tries-pin}
 use Rattle.gt_live.proofs.Making.{made-fits, made-gains, same-self}
-use Rattle.gt_live.proofs.Taking.{all-back, holds-taken, none-taken, taken-unpin}
+use Rattle.gt_live.proofs.Taking.{all-back, none-taken}
 
 -- the pins of a call, by where it stands
 held-there : (call : Call) (phase : Phase) → call.phase ≡ Some phase → pins_by_call call ≡ pins_at phase
@@ -165,7 +163,7 @@ ends-refused c k v w call verdict u = by u.phase u.acts u.stands
     by (Last step other) a well = absurd well.stays
 
 -- no leg makes an access
-no-leg : (l : Leg) (at : LegPhase) (from to : Place) (len : ℕ) → Makes (CopyBytes from to len) ≡ Makes (leg_step l at) → ⊥
+pub no-leg : (l : Leg) (at : LegPhase) (from to : Place) (len : ℕ) → Makes (CopyBytes from to len) ≡ Makes (leg_step l at) → ⊥
 no-leg l Header from to len e = cc
 no-leg l (Look more) from to len e = cc
 no-leg l (Body more word) from to len e = cc
@@ -209,105 +207,3 @@ comes-there c k v w call from to len u = by u.phase u.there u.acts u.stands
     by (Changing gref change more looked) there a well = absurd well.stays
     by (Asking dom question) there a well = absurd well.stays
     by (Last step other) there a well = absurd well.stays
-
--- pins given back
-
-pub returns-first : (c : CallerKnowledge) (k : Layout) (v : View) (call call' : Call) (action : Action) (copy : CopyArgs) → call.phase ≡ Some (Accessing copy (pins_by_call call).source (pins_by_call call).dest) → AreOfRun k (held_by_call call) → Goes c call Nothing call' action
-    → Returning k (pins_by_call call) v v call' action
-returns-first c k v call call' action copy there all goes =
-    let t = call.caller in let r = call.request in
-    record {
-      steps = [];
-      view = refl;
-      walked = tt;
-      left = pins_by_call call;
-      there = goes.moves ∙ ap (λ (o : Option Phase). Some (standing_after c t r o Nothing)) there;
-      acts = goes.acts ∙ ap (λ (o : Option Phase). action_at t (standing_after c t r o Nothing)) there;
-      leads = λ vs. refl;
-      back = λ base x. x;
-      of_run = all;
-    }
-
--- the next one to be given back
-pub record NextBack (k : Layout) (left : Pins) (s : Step) : Type 0 where
-  pub pin : Held
-  pub others : List Held
-  pub first : last_first left ≡ pin ∷ others
-  pub step : s ≡ Unpin pin (ByLeg (length others))
-
-pub next-back : (k : Layout) (left : Pins) (s : Step) → Makes s ≡ next_to_give (last_first left) Granted → NextBack k left s
-next-back k left s a = by (last_first left) refl a
-  where
-    by : (ps : List Held) → last_first left ≡ ps → Makes s ≡ next_to_give ps Granted → NextBack k left s
-    by [] e f = cc
-    by (p ∷ ps) e f = record { pin = p; others = ps; first = e; step = cc }
-
-pub can-return : (k : Layout) (routes : Pins) (base v w : View) (call : Call) (s : Step) → HasTaken k (last_first routes) base v → Returning k routes v w call (Makes s) → CanMake k w s
-can-return k routes base v w call s x g =
-    let n = next-back k g.left s g.acts in
-    let taken : HasTaken k (n.pin ∷ n.others) base w = subst (λ (ps : List Held). HasTaken k ps base w) n.first (g.back base x) in
-    let all : AreOfRun k (n.pin ∷ n.others) = subst (λ (ps : List Held). AreOfRun k ps) n.first g.of_run in
-    subst (λ (y : Step). CanMake k w y) (sym n.step) (all.0.0, all.0.1, holds-taken k (n.pin ∷ n.others) base w n.pin taken (inl refl))
-
-saw-nothing : (k : Layout) (p : Held) (place : ℕ) (x : Seen) (w w' : View) → Made k (Unpin p (ByLeg place)) x w w' → x ≡ Nothing
-saw-nothing k p place Nothing w w' m = refl
-saw-nothing k p place (Word n) w w' m = absurd m
-saw-nothing k p place Taken w w' m = absurd m
-saw-nothing k p place (Missed n) w w' m = absurd m
-
-left-to-come : (call : Call) (pins : Pins) → call.phase ≡ Some (Ending pins Granted) → steps_to_come call ≡ length (last_first pins)
-left-to-come call pins there = ap (λ (o : Option Phase). steps_to_come (record call { phase = o })) there
-
-pub returns-on : (c : CallerKnowledge) (k : Layout) (routes : Pins) (v w w' : View) (call call' : Call) (action : Action) (s : Step) (x : Seen) → Returning k routes v w call (Makes s) → Made k s x w w' → Goes c call x call' action
-    → Returning k routes v w' call' action × (steps_to_come call' < steps_to_come call)
-returns-on c k routes v w w' call call' action s x g m goes =
-    let n = next-back k g.left s g.acts in let p = n.pin in let place = length n.others in
-    let m0 : Made k (Unpin p (ByLeg place)) x w w' = subst (λ (y : Step). Made k y x w w') n.step m in
-    let none : x ≡ Nothing = saw-nothing k p place x w w' m0 in
-    let m1 : Made k (Unpin p (ByLeg place)) Nothing (after g.steps v) w' = subst (λ (z : View). Made k (Unpin p (ByLeg place)) Nothing z w') g.view (subst (λ (y : Seen). Made k (Unpin p (ByLeg place)) y w w') none m0) in
-    let gain = made-gains k (Unpin p (ByLeg place)) Nothing (after g.steps v) w' m1 in
-    let view : w' ≡ after (gain.step ∷ g.steps) v = gain.view in
-    let fewer = one-fewer g.left p n.others n.first in
-    let way : Continuation = give_back (last_first routes) Granted in
-    let next : way (shown g.steps) ≡ Some (Makes (Unpin p (ByLeg place))) =
-    ap way (sym (append-nil (shown g.steps))) ∙ (g.leads [] ∙ ap (λ (ps : List Held). give_back ps Granted []) n.first) in
-    let m2 : Made k (Unpin p (ByLeg place)) (shown_by gain.step) (after g.steps v) (after (gain.step ∷ g.steps) v) =
-    subst (λ (z : View). Made k (Unpin p (ByLeg place)) (shown_by gain.step) (after g.steps v) z) view (subst (λ (y : Seen). Made k (Unpin p (ByLeg place)) y (after g.steps v) w') (sym gain.shows) m1) in
-    let made : MakesStep k (way (shown g.steps)) (shown_by gain.step) (after g.steps v) (after (gain.step ∷ g.steps) v) =
-    subst (λ (o : Option Action). MakesStep k o (shown_by gain.step) (after g.steps v) (after (gain.step ∷ g.steps) v)) (sym next) m2 in
-    let there : call'.phase ≡ Some (Ending (without_last g.left) Granted) =
-    goes.moves ∙ (ap (λ (o : Option Phase). Some (standing_after c call.caller call.request o x)) g.there ∙ ap (λ (y : Seen). Some (phase_after c call.caller (Ending g.left Granted) y)) none) in
-    let acts : action ≡ next_to_give (last_first (without_last g.left)) Granted =
-    goes.acts ∙ (ap (λ (o : Option Phase). action_at call.caller (standing_after c call.caller call.request o x)) g.there ∙ ap (λ (y : Seen). action_at call.caller (phase_after c call.caller (Ending g.left Granted) y)) none) in
-    let before = left-to-come call g.left g.there ∙ ap {B = ℕ} (λ (ps : List Held). length ps) n.first in
-    let now = left-to-come call' (without_last g.left) there ∙ ap {B = ℕ} (λ (ps : List Held). length ps) fewer in
-    let m3 : Made k (Unpin p (ByLeg place)) Nothing w w' = subst (λ (y : Seen). Made k (Unpin p (ByLeg place)) y w w') none m0 in (
-      record {
-        steps = gain.step ∷ g.steps;
-        view = view;
-        walked = (made, g.walked);
-        left = without_last g.left;
-        there = there;
-        acts = acts;
-        leads = λ vs.
-            ap (λ (y : Seen). way ((shown g.steps ++ y ∷ []) ++ vs)) gain.shows
-            ∙ (ap way (append_assoc (shown g.steps) (Nothing ∷ []) vs) ∙ (g.leads (Nothing ∷ vs) ∙ (ap (λ (ps : List Held). give_back ps Granted (Nothing ∷ vs)) n.first ∙ ap (λ (ps : List Held). give_back ps Granted vs) (sym fewer))));
-        back = λ base y. subst (λ (ps : List Held). HasTaken k ps base w') (sym fewer) (taken-unpin k p n.others base w w' m3 (subst (λ (ps : List Held). HasTaken k ps base w) n.first (g.back base y)));
-        of_run = subst (λ (ps : List Held). AreOfRun k ps) (sym fewer) (subst (λ (ps : List Held). AreOfRun k ps) n.first g.of_run).1;
-      },
-      omega (arith, before, now),
-    )
-
-pub returned : (k : Layout) (routes : Pins) (v w : View) (call : Call) (action : Action) → Returning k routes v w call action → ((s : Step) → action ≡ Makes s → ⊥) → GivesBack k routes v w
-returned k routes v w call action g none = by (last_first g.left) refl g.acts
-  where
-    by : (ps : List Held) → last_first g.left ≡ ps → action ≡ next_to_give ps Granted → GivesBack k routes v w
-    by [] e a =
-        record {
-          steps = g.steps;
-          view = g.view;
-          walked = g.walked;
-          ended = ap (give_back (last_first routes) Granted) (sym (append-nil (shown g.steps))) ∙ (g.leads [] ∙ ap (λ (ps : List Held). give_back ps Granted []) e);
-          back = λ base x. subst (λ (ps : List Held). HasTaken k ps base w) e (g.back base x);
-        }
-    by (p ∷ ps) e a = absurd (none (Unpin p (ByLeg (length ps))) a)

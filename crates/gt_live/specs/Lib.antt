@@ -7,6 +7,9 @@ pub mod Effects
 pub mod Maps
 pub mod Driving
 pub mod Underway
+pub mod Legs
+pub mod Phases
+pub mod Copies
 pub mod Rows
 pub mod Domains
 pub mod Starting

@@ -12,7 +12,6 @@ use Rattle.gt_words.specs.declared.view.View.{View}
 use Rattle.gt_calls.specs.declared.action.Action.{Action}
 use Rattle.gt_calls.specs.declared.action.Action.TheVariants as actions
 use Rattle.gt_calls.specs.declared.action.Place.{Place}
-use Rattle.gt_calls.specs.declared.action.Seen.{Seen}
 use Rattle.gt_calls.specs.declared.action.Seen.TheVariants.{Nothing}
 use Rattle.gt_calls.specs.declared.action.Step.TheVariants.{Copy as CopyBytes}
 use Rattle.gt_calls.specs.declared.action.Verdict.{Verdict}
@@ -27,13 +26,11 @@ use Rattle.gt_calls.specs.declared.request.CopyArgs.{CopyArgs}
 use Rattle.gt_calls.specs.declared.request.Asked.TheVariants.{Copy}
 use Rattle.gt_calls.specs.Following.{GoesOn}
 use Rattle.gt_calls.specs.Holding.{last_first}
-use Rattle.gt_calls.specs.Machine.{action_at, next_to_give}
+use Rattle.gt_calls.specs.Machine.{action_at}
 use Rattle.gt_calls.specs.Path.{give_back, path}
 use Rattle.gt_calls.specs.Resting.{Rests, RestsOnWays}
 use Rattle.gt_calls.specs.Rules.{CallerKnowledge}
 use Rattle.gt_calls.specs.Standing.{IsAt, held_by_call, held_in, pins_by_call}
-use Rattle.gt_live.specs.declared.driving.Stop.{Stop}
-use Rattle.gt_live.specs.declared.driving.Stop.TheVariants.{Done, Access}
 use Rattle.gt_live.specs.Accesses.{ComesTo, onward}
 use Rattle.gt_live.specs.Driving.{IsSame}
 use Rattle.gt_live.specs.Mappings.{record_of}
@@ -112,11 +109,6 @@ pub record EndsRefused (c : CallerKnowledge) (k : Layout) (call : Call) (verdict
   pub called : Called k (path c call.caller call.request) verdict v w
   pub same : IsSame v w
 
--- where a copy stops
-abbrev pub Stops : CallerKnowledge → Layout → Call → Stop → View → View → Type 0
-Stops c k call (Done verdict) v w = EndsRefused c k call verdict v w
-Stops c k call (Access from to len) v w = AtAccess c k call from to len v w
-
 -- the pins that a copy held at its access were given back, one after another, and nothing else
 pub record GivesBack (k : Layout) (routes : Pins) (v w : View) : Type 0 where
   pub steps : List Moment
@@ -124,17 +116,3 @@ pub record GivesBack (k : Layout) (routes : Pins) (v w : View) : Type 0 where
   pub walked : IsWalk k (give_back (last_first routes) Granted) v steps
   pub ended : give_back (last_first routes) Granted (shown steps) ≡ Some (actions.Done Granted)
   pub back : (base : View) → HasTaken k (last_first routes) base v → HasTaken k [] base w
-
--- pins that a copy held at its access are being given back: those given
--- back are of the way, and the rest is what is left
-pub record Returning (k : Layout) (routes : Pins) (v w : View) (call : Call) (action : Action) : Type 0 where
-  pub steps : List Moment
-  pub view : w ≡ after steps v
-  pub walked : IsWalk k (give_back (last_first routes) Granted) v steps
-  pub left : Pins
-  pub there : call.phase ≡ Some (Ending left Granted)
-  pub acts : action ≡ next_to_give (last_first left) Granted
-  pub leads : (vs : List Seen) → give_back (last_first routes) Granted (shown steps ++ vs)
-      ≡ give_back (last_first left) Granted vs
-  pub back : (base : View) → HasTaken k (last_first routes) base v → HasTaken k (last_first left) base w
-  pub of_run : AreOfRun k (last_first left)

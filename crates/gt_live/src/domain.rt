@@ -119,7 +119,7 @@ fn frames_told(verdict: Verdict) -> Result<u32, Denial>
 }
 
 // The refusal of a call that was refused.
-fn refusal_of(verdict: Verdict) -> Denial
+pub(crate) fn refusal_of(verdict: Verdict) -> Denial
     ensures { result ≡ refusal_of verdict }
 {
     match verdict {

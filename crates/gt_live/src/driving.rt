@@ -9,18 +9,14 @@ ghost use Rattle.gt_live.specs.Walks.{Made, Called, ReadsBody};
 ghost use Rattle.gt_live.specs.Effects.{Answers, effect_of};
 ghost use Rattle.gt_live.specs.Ending.{IsAnswerTo, WaitsForNobody};
 ghost use Rattle.gt_live.specs.Driving.{CanMake, Knows, Leaves};
-ghost use Rattle.gt_live.specs.Underway.{AreOfRun, GivesBack, HasTaken, Stops};
+ghost use Rattle.gt_live.specs.Legs.{CanWalkLeg, WalksLeg, next_by};
 ghost use Rattle.gt_live.specs.Maps.{pin_effect, pin_of, pin_verdict};
-ghost use Rattle.gt_words.specs.declared.view.View.{View};
-ghost use Rattle.gt_calls.specs.declared.call.Phase.TheVariants.{Accessing};
 ghost use Rattle.gt_calls.specs.declared.request.Asked.TheVariants as asks;
-ghost use Rattle.gt_calls.specs.declared.request.CopyArgs.{CopyArgs};
-ghost use Rattle.gt_calls.specs.Standing.{held_by_call, pins_by_call};
 
 use gt_calls::{
-    Action, Call, Half, Held, Holder, Known, Leg, MORE_TRIES, Place, Seen, Step, Verdict,
-    entry_refusal, every_map_begins_with_its_header, every_map_goes_on_by_its_leg, has_entry,
-    header_refusal, judge_control, judge_words, map_leg, pinned,
+    Action, Call, Half, Held, Holder, Known, Leg, MORE_TRIES, Seen, Step, Verdict, entry_refusal,
+    every_map_begins_with_its_header, every_map_goes_on_by_its_leg, has_entry, header_refusal,
+    judge_control, judge_words, map_leg, pinned,
 };
 use gt_entry::{Change, Control, Header, Kind};
 use gt_handles::Handle;
@@ -46,15 +42,6 @@ pub enum Effect {
 pub struct Finished {
     pub verdict: Verdict,
     pub effect: Effect,
-}
-
-/// If a call stops that makes an access.
-#[derive(Clone, Copy)]
-pub enum Stop {
-    /// At its end, without the access.
-    Done(Verdict),
-    /// At its access: so many bytes are copied from the one place to the other.
-    Access { from: Place, to: Place, len: u16 },
 }
 
 // The header with these numbers.
@@ -269,8 +256,48 @@ fn take_pin(words: &Words, seat: &mut Seat, held: &Held) -> Result<(), u64>
     }
 }
 
-// Drives a map that no rule answered at its beginning to its end: the pin that it took, or its refusal. Most calls of a
-// run are maps, so their steps are written out here, and a map needs no room for a machine.
+// Walks a leg to its pin, or to its refusal. Most calls of a run are maps and copies, so the steps of a leg are written
+// out here, and they need no room for a machine.
+#[inline(always)]
+pub(crate) fn walk_leg(words: &Words, seat: &mut Seat, leg: &Leg) -> Result<Held, Denial>
+    requires seat { IsSeatOf words.now seat.old }
+    requires can { CanWalkLeg words.now.layout leg.now seat.old.view }
+    ensures seat { IsSameSeat seat.old seat.new }
+    ensures walked { WalksLeg words.now.layout leg.now seat.old.view (next_by result) seat.new.view }
+{
+    let header = look_at_header(words, seat, leg.dom);
+    if !has_entry(leg, header) {
+        return Err(header_refusal(leg.dom, header));
+    }
+    let mut more = MORE_TRIES;
+    'tries: loop {
+        let word = look_at_control(words, seat, leg.dom, leg.gref);
+        if let Some(rule) = judge_control(leg, word) {
+            return Err(entry_refusal(leg.dom, leg.gref, rule, word));
+        }
+        let body = look_at_body(words, seat, leg, word);
+        let held = pinned(leg, word, body.first, body.second);
+        let found = match judge_words(leg, word, body.first, body.second) {
+            Some(rule) => {
+                let found = look_at_control(words, seat, leg.dom, leg.gref);
+                if found == word {
+                    return Err(entry_refusal(leg.dom, leg.gref, rule, word));
+                }
+                found
+            }
+            None => match take_pin(words, seat, &held) {
+                Ok(()) => return Ok(held),
+                Err(found) => found,
+            },
+        };
+        if more == 0 {
+            return Err(entry_refusal(leg.dom, leg.gref, Rule::N18, found));
+        }
+        more -= 1;
+    }
+}
+
+// Drives a map that no rule answered at its beginning to its end: the pin that it took, or its refusal.
 pub(crate) fn drive_map<P: Allows>(
     words: &Words,
     known: &Known<'_, P>,
@@ -292,87 +319,5 @@ pub(crate) fn drive_map<P: Allows>(
     every_map_begins_with_its_header();
     every_map_goes_on_by_its_leg();
     let leg = map_leg(known, caller, dom, gref, flags);
-    let header = look_at_header(words, seat, leg.dom);
-    if !has_entry(&leg, header) {
-        return Err(header_refusal(leg.dom, header));
-    }
-    let mut more = MORE_TRIES;
-    'tries: loop {
-        let word = look_at_control(words, seat, leg.dom, leg.gref);
-        if let Some(rule) = judge_control(&leg, word) {
-            return Err(entry_refusal(leg.dom, leg.gref, rule, word));
-        }
-        let body = look_at_body(words, seat, &leg, word);
-        let held = pinned(&leg, word, body.first, body.second);
-        let found = match judge_words(&leg, word, body.first, body.second) {
-            Some(rule) => {
-                let found = look_at_control(words, seat, leg.dom, leg.gref);
-                if found == word {
-                    return Err(entry_refusal(leg.dom, leg.gref, rule, word));
-                }
-                found
-            }
-            None => match take_pin(words, seat, &held) {
-                Ok(()) => return Ok(held),
-                Err(found) => found,
-            },
-        };
-        if more == 0 {
-            return Err(entry_refusal(leg.dom, leg.gref, Rule::N18, found));
-        }
-        more -= 1;
-    }
-}
-
-// Drives a copy from its beginning to its access, or to its end if it is refused before.
-pub(crate) fn walk<P: Allows>(
-    words: &Words,
-    known: &Known<'_, P>,
-    seat: &mut Seat,
-    call: &mut Call,
-) -> Stop
-    requires seat { IsSeatOf words.now seat.old }
-    requires fresh { IsFresh (knows P.may known.now) call.old }
-    requires knows { Knows (knows P.may known.now) words.now.layout call.old.caller seat.old.view }
-    requires copies { (copy : CopyArgs) × (call.old.request ≡ asks.Copy copy) }
-    ensures seat { IsSameSeat seat.old seat.new }
-    ensures caller { call.new.caller ≡ call.old.caller }
-    ensures request { call.new.request ≡ call.old.request }
-    ensures stops { Stops (knows P.may known.now) words.now.layout call.new result seat.old.view seat.new.view }
-{
-    let mut action = call.next(known, Seen::Nothing);
-    'steps: loop {
-        match action {
-            Action::Done(verdict) => return Stop::Done(verdict),
-            Action::Step(step) => {
-                if let Step::Copy { from, to, len } = step {
-                    return Stop::Access { from, to, len };
-                }
-                let seen = perform(words, seat, &step);
-                action = call.next(known, seen);
-            }
-        }
-    }
-}
-
-// Gives back the pins that a copy held at its access, the last one first.
-pub(crate) fn give_back<P: Allows>(
-    words: &Words,
-    known: &Known<'_, P>,
-    seat: &mut Seat,
-    call: &mut Call,
-)
-    requires seat { IsSeatOf words.now seat.old }
-    requires accessing { (copy : CopyArgs)
-        × (call.old.phase ≡ Some (Accessing copy (pins_by_call call.old).source (pins_by_call call.old).dest)) }
-    requires taken { (base : View) × HasTaken words.now.layout (held_by_call call.old) base seat.old.view }
-    requires of_run { AreOfRun words.now.layout (held_by_call call.old) }
-    ensures seat { IsSameSeat seat.old seat.new }
-    ensures gives { GivesBack words.now.layout (pins_by_call call.old) seat.old.view seat.new.view }
-{
-    let mut action = call.next(known, Seen::Nothing);
-    'pins: while let Action::Step(step) = action {
-        let seen = perform(words, seat, &step);
-        action = call.next(known, seen);
-    }
+    walk_leg(words, seat, &leg)
 }

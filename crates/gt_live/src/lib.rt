@@ -2,8 +2,8 @@
 //!
 //! [`Monitor::new`] gives the monitor, which all threads share, and a [`Domain`] for each one
 //! configured. Each call makes the steps of its path in `gt_calls`, on the shared words of `gt_words`.
-//! Maps, unmaps and calls of one access make theirs themselves; all others ask the call's machine for
-//! the next one. Those that access bytes, and no others, take the lock of a frame for it (`gt_access`).
+//! Maps, copies, unmaps and calls of one access make theirs themselves; all others ask the call's machine
+//! for the next one. Those that access bytes, and no others, take the lock of a frame for it (`gt_access`).
 //!
 //! What holds: what a call adds to its domain's steps is, action by action, the path of that call, with
 //! the answer that the path gives (`specs/Walks.antt`). Between calls a domain has just the pins of its
@@ -18,6 +18,7 @@ mod domain;
 mod driving;
 mod laws;
 mod monitor;
+mod routes;
 mod start;
 
 pub use domain::{Domain, Halfway, Left};

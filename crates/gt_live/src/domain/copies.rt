@@ -1,5 +1,5 @@
 //! The call that copies bytes between frames, whole or in two halves.
-ghost use Rattle.std.specs.Prelude.{◌≡◌, ◌+◌, ◌≤◌, Err, IfOk, IfErr, OnErr, Some};
+ghost use Rattle.std.specs.Prelude.{◌≡◌, ◌+◌, ◌≤◌, Err, IfOk, IfErr, None, OnErr};
 ghost use Rattle.gt_types.specs.declared.Dir.TheVariants as dirs;
 ghost use Rattle.gt_types.specs.declared.Use.TheVariants as uses;
 ghost use Rattle.gt_words.specs.Conditions.{IsSameSeat, IsSeatOf};
@@ -8,27 +8,29 @@ ghost use Rattle.gt_access.specs.Accesses.{copying_at};
 ghost use Rattle.gt_access.specs.Routes.{MayCopy, Reaches};
 ghost use Rattle.gt_audit.specs.Telling.{Tells};
 ghost use Rattle.gt_calls.specs.declared.action.Verdict.TheVariants.{Refused};
-ghost use Rattle.gt_calls.specs.declared.call.Phase.TheVariants.{Accessing};
-ghost use Rattle.gt_calls.specs.declared.request.Asked.TheVariants as asks;
-ghost use Rattle.gt_calls.specs.declared.request.CopyArgs.{CopyArgs};
-ghost use Rattle.gt_calls.specs.Standing.{held_by_call, pins_by_call};
+ghost use Rattle.gt_calls.specs.declared.request.Request.TheVariants as requests;
+ghost use Rattle.gt_calls.specs.Holding.{last_first};
+ghost use Rattle.gt_calls.specs.Rules.{copy_begun};
 ghost use Rattle.gt_live.specs.Accesses.{IsCopiedBy, IsOfAccess, spot_of};
-ghost use Rattle.gt_live.specs.Domains.{Accesses, Answered, IsOf, IsOpened, IsRefused, IsUnsettled, KeepsPinned, Opens, known};
+ghost use Rattle.gt_live.specs.Domains.{Accesses, Answered, IsOf, IsUnsettled, KeepsPinned, known};
 ghost use Rattle.gt_live.specs.Domains.{told_copy, told_end};
 ghost use Rattle.gt_live.specs.Halves.{copy_told};
+ghost use Rattle.gt_live.specs.Copies.{StopsSo, halfway_with};
 ghost use Rattle.gt_live.specs.Halves.{ComesHalfway, EndsHalfway, IsHalfway, done_copy};
-ghost use Rattle.gt_live.specs.Underway.{AreOfRun, GivesBack, HasTaken, Stops};
+ghost use Rattle.gt_live.specs.Underway.{AreOfRun, GivesBack, HasTaken};
 ghost use Rattle.gt_live.specs.Visiting.{HasVisited, WasCopied};
 
 use super::bytes::not_made;
 use super::{Domain, outcome_reply, refusal_of};
-use crate::driving::{Stop, give_back, walk};
 use crate::monitor::Monitor;
+use crate::routes::{drive_copy, give_back};
 use gt_access::{Run, copy_by};
 use gt_audit::{CopyEnd, Hypercall, Record, Reply};
-use gt_calls::{Call, CopyArgs, End, Known, Pins, Place, Request, Start};
+use gt_calls::{
+    Asked, Call, CopyArgs, End, Known, Phase, Pins, Place, Verdict, judge_copy, place_of,
+};
 use gt_frames::{Copied, FrameName, Spot, Visits};
-use gt_types::{Allows, Denial};
+use gt_types::{Allows, Denial, DomId};
 use gt_words::Seat;
 use std::sync::Wait;
 
@@ -62,17 +64,17 @@ fn copy_through<R: Wait, P: Allows>(
     monitor: &Monitor<P>,
     seat: &Seat,
     visits: &mut Visits,
-    routes: Pins,
+    routes: &Pins,
     from: Place,
     to: Place,
     len: u16,
 ) -> Result<Copied, Denial>
     requires seat { IsSeatOf monitor.now.words seat.now }
     requires source { Reaches monitor.now.words.layout seat.now dirs.Read uses.Copy
-        (spot_of from).frame from.off len routes.source }
+        (spot_of from).frame from.off len routes.now.source }
     requires dest { Reaches monitor.now.words.layout seat.now dirs.Write uses.Copy
-        (spot_of to).frame to.off len routes.dest }
-    requires may { MayCopy monitor.now.config.domains.items (P.may monitor.now.rights) seat.now.dom routes }
+        (spot_of to).frame to.off len routes.now.dest }
+    requires may { MayCopy monitor.now.config.domains.items (P.may monitor.now.rights) seat.now.dom routes.now }
     requires source_range { from.off + len ≤ 4096 }
     requires dest_range { to.off + len ≤ 4096 }
     ensures copied { IfOk result (λ r. r ≡ copying_at (spot_of from) (spot_of to) len seat.now.dom) }
@@ -86,7 +88,7 @@ fn copy_through<R: Wait, P: Allows>(
         pool: &monitor.pool,
     };
     let (from, to) = (spot_of(from), spot_of(to));
-    match copy_by(rt, &run, seat, visits, routes, from, to, len) {
+    match copy_by(rt, &run, seat, visits, *routes, from, to, len) {
         Ok(copied) => Ok(copied),
         Err(refused) => Err(not_made(refused)),
     }
@@ -103,6 +105,28 @@ pub struct Halfway {
     pub len: u16,
 }
 
+// A copy at its access, with the pins that it holds.
+fn at_access(caller: DomId, copy: CopyArgs, pins: Pins) -> Halfway
+    ensures { result ≡ halfway_with caller copy pins }
+{
+    let phase = Phase::Accessing {
+        copy,
+        source: pins.source,
+        dest: pins.dest,
+    };
+    Halfway {
+        call: Call {
+            caller,
+            request: Asked::Copy(copy),
+            phase: Some(phase),
+        },
+        copy,
+        from: place_of(caller, copy.source, pins.source),
+        to: place_of(caller, copy.dest, pins.dest),
+        len: copy.len,
+    }
+}
+
 // What a record keeps of a copy.
 fn copy_told(copy: CopyArgs) -> Hypercall
     ensures { result ≡ copy_told copy }
@@ -116,29 +140,24 @@ fn copy_told(copy: CopyArgs) -> Hypercall
 }
 
 impl Domain {
-    // Judges a copy at its beginning.
-    fn judge_copy<P: Allows>(&self, monitor: &Monitor<P>, copy: CopyArgs) -> Result<Call, Denial>
-        ensures opened { IfOk result
-            (λ call. Opens (known P.may monitor.now self.now) self.now.seat.dom (Request.Copy copy) call) }
-        ensures refused { IfErr result
-            (λ denial. IsRefused (known P.may monitor.now self.now) self.now.seat.dom (Request.Copy copy) denial) }
+    // The verdict at the beginning of a copy, if one is given there.
+    fn judge_copy<P: Allows>(&self, monitor: &Monitor<P>, copy: &CopyArgs) -> Option<Verdict>
+        ensures { result ≡ copy_begun (known P.may monitor.now self.now) self.now.seat.dom copy.now }
     {
-        match self.begin(monitor, Request::Copy(copy)) {
-            Start::Open(call) => Ok(call),
-            Start::Done(verdict) => Err(refusal_of(verdict)),
-        }
+        judge_copy(&self.known(monitor), self.seat.dom(), copy)
     }
 
-    // Drives an open copy to its access, or to its end if it is refused before.
-    fn walk<P: Allows>(&mut self, monitor: &Monitor<P>, call: &mut Call) -> Stop
+    // Drives a copy that no rule answered at its beginning to its access, or to its end if it is refused before.
+    fn drive_copy<P: Allows>(
+        &mut self,
+        monitor: &Monitor<P>,
+        copy: &CopyArgs,
+    ) -> Result<Pins, Denial>
         requires mine { IsOf P.may monitor.now self.old }
-        requires opened { IsOpened (known P.may monitor.now self.old) self.old.seat.dom call.old }
-        requires copies { (copy : CopyArgs) × (call.old.request ≡ asks.Copy copy) }
+        requires unanswered { copy_begun (known P.may monitor.now self.old) self.old.seat.dom copy.now ≡ None }
         ensures kept { IsUnsettled self.old self.new }
-        ensures caller { call.new.caller ≡ self.old.seat.dom }
-        ensures request { call.new.request ≡ call.old.request }
-        ensures stops { Stops (known P.may monitor.now self.old) monitor.now.words.layout
-            call.new result self.old.seat.view self.new.seat.view }
+        ensures stops { StopsSo (known P.may monitor.now self.old) monitor.now.words.layout
+            self.old.seat.dom copy.now result self.old.seat.view self.new.seat.view }
     {
         let known = Known {
             config: &monitor.config,
@@ -147,29 +166,20 @@ impl Domain {
             header: self.seat.header(),
             mappings: &self.mappings,
         };
-        walk(&monitor.words, &known, &mut self.seat, call)
+        let caller = self.seat.dom();
+        drive_copy(&monitor.words, &known, &mut self.seat, caller, copy)
     }
 
     // Gives back the pins that a copy held at its access.
-    fn give_back<P: Allows>(&mut self, monitor: &Monitor<P>, call: &mut Call)
+    fn give_back<P: Allows>(&mut self, monitor: &Monitor<P>, pins: &Pins)
         requires seat { IsSeatOf monitor.now.words self.old.seat }
-        requires accessing { (copy : CopyArgs)
-            × (call.old.phase ≡ Some (Accessing copy (pins_by_call call.old).source (pins_by_call call.old).dest)) }
         requires taken { (base : View)
-            × HasTaken monitor.now.words.layout (held_by_call call.old) base self.old.seat.view }
-        requires of_run { AreOfRun monitor.now.words.layout (held_by_call call.old) }
+            × HasTaken monitor.now.words.layout (last_first pins.now) base self.old.seat.view }
+        requires of_run { AreOfRun monitor.now.words.layout (last_first pins.now) }
         ensures kept { IsUnsettled self.old self.new }
-        ensures gives { GivesBack monitor.now.words.layout
-            (pins_by_call call.old) self.old.seat.view self.new.seat.view }
+        ensures gives { GivesBack monitor.now.words.layout pins.now self.old.seat.view self.new.seat.view }
     {
-        let known = Known {
-            config: &monitor.config,
-            rights: &monitor.rights,
-            own: &self.own,
-            header: self.seat.header(),
-            mappings: &self.mappings,
-        };
-        give_back(&monitor.words, &known, &mut self.seat, call);
+        give_back(&monitor.words, &mut self.seat, pins);
     }
 
     // Copies, without a record.
@@ -177,30 +187,31 @@ impl Domain {
         &mut self,
         rt: &R,
         monitor: &Monitor<P>,
-        copy: CopyArgs,
+        copy: &CopyArgs,
     ) -> Result<Copied, Denial>
         requires mine { IsOf P.may monitor.now self.old }
         ensures mine { IsOf P.may monitor.now self.new }
         ensures seat { IsSameSeat self.old.seat self.new.seat }
         ensures answered { Accesses P.may monitor.now self.old
-            (Request.Copy copy) (IsCopiedBy self.old.seat.dom) result self.new }
+            (requests.Copy copy.now) (IsCopiedBy self.old.seat.dom) result self.new }
         ensures kept { KeepsPinned self.old self.new }
         ensures silent { self.new.trail ≡ self.old.trail }
         ensures visited { HasVisited WasCopied result self.old.visits self.new.visits }
     {
-        let mut call = match self.judge_copy(monitor, copy) {
-            Ok(call) => call,
+        if let Some(verdict) = self.judge_copy(monitor, copy) {
+            return Err(refusal_of(verdict));
+        }
+        let pins = match self.drive_copy(monitor, copy) {
+            Ok(pins) => pins,
             Err(denial) => return Err(denial),
         };
-        match self.walk(monitor, &mut call) {
-            Stop::Done(verdict) => Err(refusal_of(verdict)),
-            Stop::Access { from, to, len } => {
-                let (seat, visits) = (&self.seat, &mut self.visits);
-                let copied = copy_through(rt, monitor, seat, visits, call.pins(), from, to, len);
-                self.give_back(monitor, &mut call);
-                copied
-            }
-        }
+        let caller = self.seat.dom();
+        let from = place_of(caller, copy.source, pins.source);
+        let to = place_of(caller, copy.dest, pins.dest);
+        let (seat, visits) = (&self.seat, &mut self.visits);
+        let copied = copy_through(rt, monitor, seat, visits, &pins, from, to, copy.len);
+        self.give_back(monitor, &pins);
+        copied
     }
 
     /// Copies bytes between frames, of its own or by grants, transitive ones too. The pins that it takes
@@ -219,14 +230,13 @@ impl Domain {
         ensures mine { IsOf P.may monitor.now self.new }
         ensures seat { IsSameSeat self.old.seat self.new.seat }
         ensures answered { Accesses P.may monitor.now self.old
-            (Request.Copy copy.now) (IsCopiedBy self.old.seat.dom) result self.new }
+            (requests.Copy copy.now) (IsCopiedBy self.old.seat.dom) result self.new }
         ensures kept { KeepsPinned self.old self.new }
         ensures told { Tells self.old.trail (told_copy self.old copy.now result) self.new.trail }
         ensures visited { HasVisited WasCopied result self.old.visits self.new.visits }
     {
-        let copy = *copy;
         let result = self.make_copy(rt, monitor, copy);
-        let call = copy_told(copy);
+        let call = copy_told(*copy);
         let dom = self.seat.dom();
         let reply = outcome_reply(&result);
         self.trail.push(Record { dom, call, reply });
@@ -237,31 +247,24 @@ impl Domain {
     fn come_halfway<P: Allows>(
         &mut self,
         monitor: &Monitor<P>,
-        copy: CopyArgs,
+        copy: &CopyArgs,
     ) -> Result<Halfway, Denial>
         requires mine { IsOf P.may monitor.now self.old }
-        ensures comes { IfOk result (λ h. ComesHalfway P.may monitor.now self.old copy h self.new) }
+        ensures comes { IfOk result (λ h. ComesHalfway P.may monitor.now self.old copy.now h self.new) }
         ensures mine { OnErr result (IsOf P.may monitor.now self.new) }
         ensures refused { IfErr result
-            (λ denial. Answered P.may monitor.now self.old (Request.Copy copy) (Refused denial) self.new) }
+            (λ denial. Answered P.may monitor.now self.old (requests.Copy copy.now) (Refused denial) self.new) }
         ensures kept { OnErr result (KeepsPinned self.old self.new) }
         ensures seat { IsSameSeat self.old.seat self.new.seat }
         ensures silent { self.new.trail ≡ self.old.trail }
         ensures untouched { self.new.visits ≡ self.old.visits }
     {
-        let mut call = match self.judge_copy(monitor, copy) {
-            Ok(call) => call,
-            Err(denial) => return Err(denial),
-        };
-        match self.walk(monitor, &mut call) {
-            Stop::Done(verdict) => Err(refusal_of(verdict)),
-            Stop::Access { from, to, len } => Ok(Halfway {
-                call,
-                copy,
-                from,
-                to,
-                len,
-            }),
+        if let Some(verdict) = self.judge_copy(monitor, copy) {
+            return Err(refusal_of(verdict));
+        }
+        match self.drive_copy(monitor, copy) {
+            Ok(pins) => Ok(at_access(self.seat.dom(), *copy, pins)),
+            Err(denial) => Err(denial),
         }
     }
 
@@ -281,21 +284,20 @@ impl Domain {
         ensures comes { IfOk result (λ h. ComesHalfway P.may monitor.now self.old copy.now h self.new) }
         ensures mine { OnErr result (IsOf P.may monitor.now self.new) }
         ensures refused { IfErr result
-            (λ denial. Answered P.may monitor.now self.old (Request.Copy copy.now) (Refused denial) self.new) }
+            (λ denial. Answered P.may monitor.now self.old (requests.Copy copy.now) (Refused denial) self.new) }
         ensures kept { OnErr result (KeepsPinned self.old self.new) }
         ensures seat { IsSameSeat self.old.seat self.new.seat }
         ensures told { IfErr result (λ denial.
             Tells self.old.trail (told_copy self.old copy.now (Err denial)) self.new.trail) }
         ensures untouched { self.new.visits ≡ self.old.visits }
     {
-        let copy = *copy;
         match self.come_halfway(monitor, copy) {
             Ok(halfway) => Ok(halfway),
             Err(denial) => {
                 let dom = self.seat.dom();
                 self.trail.push(Record {
                     dom,
-                    call: copy_told(copy),
+                    call: copy_told(*copy),
                     reply: Reply::Denied(denial),
                 });
                 Err(denial)
@@ -311,8 +313,8 @@ impl Domain {
         ensures silent { self.new.trail ≡ self.old.trail }
         ensures untouched { self.new.visits ≡ self.old.visits }
     {
-        let mut call = halfway.call;
-        self.give_back(monitor, &mut call);
+        let pins = halfway.call.pins();
+        self.give_back(monitor, &pins);
     }
 
     /// The second half of a copy: its pins are given back, the last one first, and its record is kept.

@@ -5,7 +5,7 @@ use Rattle.gt_entry.specs.declared.control.Kind.{Kind}
 use Rattle.gt_entry.specs.declared.control.Kind.TheVariants.{Sub}
 use Rattle.gt_live.specs.Walks.{ReadsSecond}
 use Rattle.gt_live.proofs.Making.{same_seat-then}
-use Rattle.gt_live.proofs.Tries.{no-sub}
+use Rattle.gt_live.proofs.Legs.{no-sub}
 use Rattle.gt_live.proofs.driving.look_at_body.Goals as goal
 
 pub returns-in-Sub : goal.returns-in-Sub

@@ -1,74 +1,70 @@
-use Rattle.std.proofs.Common.{◌≡◌, ◌∙◌, refl, sym, ap, subst, None}
-use Rattle.std.specs.Prelude.{◌≤◌, ◌+◌}
+use Rattle.std.proofs.Common.{◌∙◌, refl, sym, ap, subst}
 use Rattle.gt_types.specs.declared.DomId.{DomId}
-use Rattle.gt_types.specs.declared.denial.Denial.{Denial}
-use Rattle.gt_calls.specs.declared.action.Place.{Place}
-use Rattle.gt_calls.specs.declared.action.Verdict.{Verdict}
-use Rattle.gt_calls.specs.declared.action.Verdict.TheVariants.{Refused}
 use Rattle.gt_calls.specs.declared.held.Held.{Held}
-use Rattle.gt_calls.specs.declared.request.Asked.{Asked}
-use Rattle.gt_calls.specs.declared.request.Asked.TheVariants as asks
 use Rattle.gt_calls.specs.declared.request.Request.TheVariants as requests
-use Rattle.gt_calls.specs.Opening.{opens}
-use Rattle.gt_calls.specs.Path.{Continuation, path, path_of}
-use Rattle.gt_calls.specs.Resting.{RestsOnWays}
-use Rattle.gt_calls.specs.Rules.{begun}
-use Rattle.gt_calls.specs.Standing.{pins_by_call}
 use Rattle.gt_handles.specs.Handles.{HandleMap}
-use Rattle.gt_live.specs.Domains.{knowledge, refusal_of}
-use Rattle.gt_live.specs.Walks.{Called}
-use Rattle.gt_live.proofs.Copied.{may-copy, reaches-dest, reaches-source}
+use Rattle.gt_live.specs.Domains.{knowledge}
+use Rattle.gt_live.specs.declared.domain.copies.Halfway.{Halfway}
+use Rattle.gt_live.specs.Copies.{halfway_with}
+use Rattle.gt_live.specs.Halves.{ComesHalfway}
+use Rattle.gt_live.proofs.Accessing.{refused-begun}
+use Rattle.gt_live.proofs.Copied.{access-dest, access-dest-range, access-may, access-source, access-source-range}
 use Rattle.gt_live.proofs.Kept.{looked}
-use Rattle.gt_live.proofs.Accessing.{refused-called}
 use Rattle.gt_live.proofs.Making.{still_seat}
 use Rattle.gt_live.proofs.domain.Domain.come_halfway.Goals as goal
 
-pub returns-in-Err-clause-refused : goal.returns-in-Err-clause-refused
-returns-in-Err-clause-refused g c =
+pub drive_copy-requires-clause-unanswered : goal.drive_copy-requires-clause-unanswered
+drive_copy-requires-clause-unanswered g c = sym c.judge_copy.ensures ∙ c.in_default.is
+
+pub returns-in-Some-clause-refused : goal.returns-in-Some-clause-refused
+returns-in-Some-clause-refused g c =
     let m = c.args.monitor.now in let d = c.args.self.now in
-    refused-called m.words.layout (knowledge m.config (g.P.Allows.may m.rights) d) d.seat.dom (requests.Copy c.args.copy) c.in-Err.denial d.seat.view c.in-Err.ensures.refused
+    refused-begun m.words.layout (knowledge m.config (g.P.Allows.may m.rights) d) d.seat.dom
+    (requests.Copy c.args.copy.now) c.in-Some.verdict c.refusal_of.result d.seat.view tt
+    (sym c.judge_copy.ensures ∙ c.in-Some.is) c.refusal_of.ensures
+
+pub returns-in-Some-clause-kept : goal.returns-in-Some-clause-kept
+returns-in-Some-clause-kept g c = (record { slots = refl; given = refl }, λ t q. refl)
+
+pub returns-in-Err-clause-mine : goal.returns-in-Err-clause-mine
+returns-in-Err-clause-mine g c =
+    let m = c.args.monitor.now in let d = c.args.self.now in let may = g.P.Allows.may m.rights in
+    let f = c.drive_copy.new.self in let kept = c.drive_copy.ensures.kept in
+    looked m.words m.config may d f c.requires.mine (still_seat m.words d.seat f.seat c.requires.mine.seat kept.seat)
+    kept.seat.dom (ap (λ v. v.items) kept.own) (ap (λ (z : HandleMap Held). z.slots) kept.mappings)
+    c.in-Err.ensures.stops.same
+
+pub returns-in-Err-clause-refused : goal.returns-in-Err-clause-refused
+returns-in-Err-clause-refused g c = c.in-Err.ensures.stops.called
 
 pub returns-in-Err-clause-kept : goal.returns-in-Err-clause-kept
-returns-in-Err-clause-kept g c = (record { slots = refl; given = refl }, λ t q. refl)
+returns-in-Err-clause-kept g c =
+    let one = c.drive_copy.ensures.kept in (
+      record {
+        slots = ap (λ (z : HandleMap Held). z.slots) one.mappings;
+        given = ap (λ (z : HandleMap Held). z.given) one.mappings;
+      },
+      c.in-Err.ensures.stops.same.pins,
+    )
 
-pub returns-in-Done-clause-mine : goal.returns-in-Done-clause-mine
-returns-in-Done-clause-mine g c =
-    let m = c.args.monitor.now in let d = c.args.self.now in let may = g.P.Allows.may m.rights in let f = c.walk.new.self in let kept = c.walk.ensures.kept in
-    looked m.words m.config may d f c.requires.mine (still_seat m.words d.seat f.seat c.requires.mine.seat kept.seat) kept.seat.dom (ap (λ v. v.items) kept.own) (ap (λ (z : HandleMap Held). z.slots) kept.mappings) c.in-Done.ensures.stops.same
-
-pub returns-in-Done-clause-refused : goal.returns-in-Done-clause-refused
-returns-in-Done-clause-refused g c =
-    let m = c.args.monitor.now in let d = c.args.self.now in let may = g.P.Allows.may m.rights in let k = m.words.layout in let c0 = knowledge m.config may d in
-    let f = c.walk.new.self in let call = c.walk.new.call in let o = c.in-Ok.ensures.opened in let s = c.in-Done.ensures.stops in
-    let same : path_of c0 d.seat.dom (requests.Copy c.args.copy) ≡ path c0 call.caller call.request =
-    o.same_way ∙ (ap (λ (x : DomId). path c0 x c.in-Ok.call.request) (sym c.walk.ensures.caller) ∙ ap (λ (x : Asked). path c0 call.caller x) (sym c.walk.ensures.request)) in
-    let said : c.in-Done.verdict ≡ Refused c.refusal_of.result =
-    s.refused ∙ ap (λ (x : Denial). Refused x) (sym (c.refusal_of.ensures ∙ ap (λ (v : Verdict). refusal_of v) s.refused)) in
-    subst (λ (w : Continuation). Called k w (Refused c.refusal_of.result) d.seat.view f.seat.view) (sym same)
-    (subst (λ (v : Verdict). Called k (path c0 call.caller call.request) v d.seat.view f.seat.view) said s.called)
-
-pub returns-in-Done-clause-kept : goal.returns-in-Done-clause-kept
-returns-in-Done-clause-kept g c =
-    let one = c.walk.ensures.kept in
-    (record { slots = ap (λ (z : HandleMap Held). z.slots) one.mappings; given = ap (λ (z : HandleMap Held). z.given) one.mappings }, c.in-Done.ensures.stops.same.pins)
-
-pub returns-in-Access-clause-comes : goal.returns-in-Access-clause-comes
-returns-in-Access-clause-comes g c =
-    let m = c.args.monitor.now in let d = c.args.self.now in let may = g.P.Allows.may m.rights in let k = m.words.layout in let c0 = knowledge m.config may d in
-    let f = c.walk.new.self in let call = c.walk.new.call in let kept = c.walk.ensures.kept in let a = c.in-Access.ensures.stops in let pins = pins_by_call call in let o = c.in-Ok.ensures.opened in
-    let rests : RestsOnWays c0 f.seat.dom call.request pins c.in-Access.from c.in-Access.to c.in-Access.len =
-    subst (λ (x : DomId). RestsOnWays c0 x call.request pins c.in-Access.from c.in-Access.to c.in-Access.len) (c.walk.ensures.caller ∙ sym kept.seat.dom) a.rests in
-    let none : begun c0 f.seat.dom (asks.Copy rests.copy) ≡ None =
-    subst (λ (x : DomId). begun c0 x (asks.Copy rests.copy) ≡ None) (sym kept.seat.dom)
-    (subst (λ (x : Asked). begun c0 d.seat.dom x ≡ None) (sym o.asks ∙ (sym c.walk.ensures.request ∙ rests.of_copy)) o.unanswered) in
-    record {
+pub returns-in-Ok-clause-comes : goal.returns-in-Ok-clause-comes
+returns-in-Ok-clause-comes g c =
+    let m = c.args.monitor.now in let d = c.args.self.now in let may = g.P.Allows.may m.rights in
+    let copy = c.args.copy.now in let pins = c.in-Ok.pins in let k = m.words.layout in
+    let c0 = knowledge m.config may d in let f = c.drive_copy.new.self in let kept = c.drive_copy.ensures.kept in
+    let me = kept.seat.dom in let a = c.in-Ok.ensures.stops in
+    let half = halfway_with d.seat.dom copy pins in
+    let comes : ComesHalfway g.P.Allows.may m d copy half f = record {
       asked = refl;
-      way = o.same_way ∙ (ap (λ (x : DomId). path c0 x c.in-Ok.call.request) (sym c.walk.ensures.caller) ∙ ap (λ (x : Asked). path c0 call.caller x) (sym c.walk.ensures.request));
+      way = refl;
       access = a;
-      source = reaches-source c0 k f.seat call.request pins c.in-Access.from c.in-Access.to c.in-Access.len d.seat.view rests a.taken a.of_run;
-      dest = reaches-dest c0 k f.seat call.request pins c.in-Access.from c.in-Access.to c.in-Access.len d.seat.view rests a.taken a.of_run;
-      allowed = may-copy c0 f.seat.dom rests.copy pins (opens c0 f.seat.dom (asks.Copy rests.copy) none) rests.source_reached rests.dest_reached;
-      source_range = subst (λ (p : Place). p.off + c.in-Access.len ≤ 4096) (sym rests.from_is) rests.source_range;
-      dest_range = subst (λ (p : Place). p.off + c.in-Access.len ≤ 4096) (sym rests.to_is) rests.dest_range;
+      source = access-source c0 k f.seat d.seat.dom copy pins d.seat.view me a half.from refl;
+      dest = access-dest c0 k f.seat d.seat.dom copy pins d.seat.view me a half.to refl;
+      allowed = access-may c0 k f.seat d.seat.dom copy pins d.seat.view me a
+          (sym c.judge_copy.ensures ∙ c.in_default.is);
+      source_range = access-source-range c0 k f.seat d.seat.dom copy pins d.seat.view me a half.from refl;
+      dest_range = access-dest-range c0 k f.seat d.seat.dom copy pins d.seat.view me a half.to refl;
       kept = kept;
-    }
+    } in
+    subst (λ (h : Halfway). ComesHalfway g.P.Allows.may m d copy h f)
+    (sym (c.at_access.ensures ∙ ap (λ (x : DomId). halfway_with x copy pins) (c.dom.ensures ∙ me))) comes

@@ -1,4 +1,9 @@
-use Rattle.std.proofs.Common.{ap, ◌∙◌}
+use Rattle.std.proofs.Common.{ap, ◌∙◌, subst, sym}
+use Rattle.gt_calls.specs.declared.held.Pins.{Pins}
+use Rattle.gt_calls.specs.Holding.{last_first}
+use Rattle.gt_calls.specs.Standing.{pins_by_call}
+use Rattle.gt_live.specs.Underway.{AreOfRun, HasTaken}
+use Rattle.gt_live.proofs.GivingBack.{gives-routes}
 use Rattle.gt_calls.specs.declared.held.Held.{Held}
 use Rattle.gt_handles.specs.Handles.{HandleMap}
 use Rattle.gt_live.proofs.Kept.{looked}
@@ -8,23 +13,27 @@ use Rattle.gt_live.proofs.domain.Domain.end_halfway.Goals as goal
 
 pub give_back-requires : goal.give_back-requires
 give_back-requires g c =
-    let m = c.args.monitor.now in let e = c.args.self.now in let d = c.requires.halfway.0 in let mine = c.requires.halfway.1 in let h = c.requires.halfway.2 in
+    let m = c.args.monitor.now in let e = c.args.self.now in let d = c.requires.halfway.0 in
+    let mine = c.requires.halfway.1 in let h = c.requires.halfway.2 in
     record {
       seat = still_seat m.words d.seat e.seat mine.seat h.kept.seat;
-      accessing = (h.access.copy, h.access.there);
-      taken = (d.seat.view, h.access.taken);
-      of_run = h.access.of_run;
+      taken = (
+        d.seat.view,
+        subst (λ (p : Pins). HasTaken m.words.layout (last_first p) d.seat.view e.seat.view) (sym c.pins-pins.ensures)
+            h.access.taken,
+      );
+      of_run = subst (λ (p : Pins). AreOfRun m.words.layout (last_first p)) (sym c.pins-pins.ensures) h.access.of_run;
     }
 
 pub returns-clause-mine : goal.returns-clause-mine
 returns-clause-mine g c =
     let m = c.args.monitor.now in let e = c.args.self.now in let f = c.give_back.new.self in let d = c.requires.halfway.0 in let mine = c.requires.halfway.1 in let h = c.requires.halfway.2 in
     let one = h.kept in let two = c.give_back.ensures.kept in let may = g.P.Allows.may m.rights in
-    let same = all-back m.words.layout d.seat.view f.seat.view (c.give_back.ensures.gives.back d.seat.view h.access.taken) in
+    let same = all-back m.words.layout d.seat.view f.seat.view ((gives-routes m.words.layout c.pins-pins.result (pins_by_call c.args.halfway.call) e.seat.view f.seat.view c.pins-pins.ensures c.give_back.ensures.gives).back d.seat.view h.access.taken) in
     let seat = same_seat-then d.seat e.seat f.seat one.seat two.seat in
     looked m.words m.config may d f mine (still_seat m.words d.seat f.seat mine.seat seat) seat.dom (ap (λ v. v.items) (two.own ∙ one.own)) (ap (λ (z : HandleMap Held). z.slots) (two.mappings ∙ one.mappings)) same
 
 pub returns-clause-ends : goal.returns-clause-ends
 returns-clause-ends g c =
     let two = c.give_back.ensures.kept in
-    record { gives = c.give_back.ensures.gives; seat = two.seat; own = two.own; mappings = two.mappings }
+    record { gives = gives-routes c.args.monitor.now.words.layout c.pins-pins.result (pins_by_call c.args.halfway.call) c.args.self.now.seat.view c.give_back.new.self.seat.view c.pins-pins.ensures c.give_back.ensures.gives; seat = two.seat; own = two.own; mappings = two.mappings }

@@ -1,7 +1,6 @@
-use Rattle.std.proofs.Common.{◌≡◌, ◌∙◌, sym, ap, subst, refl, length, List}
+use Rattle.std.proofs.Common.{◌≡◌, ◌∙◌, sym, ap, subst, refl, length}
 use Rattle.std.specs.Prelude.{IfOk}
 use Rattle.gt_types.specs.declared.DomId.{DomId}
-use Rattle.gt_types.specs.declared.config.DomainConfig.{DomainConfig}
 use Rattle.gt_calls.specs.Rules.{own_access_begun}
 use Rattle.gt_calls.specs.declared.action.Step.TheVariants as steps
 use Rattle.gt_calls.specs.declared.request.Request.TheVariants as requests

@@ -1,0 +1,154 @@
+-- A leg on the words: what each of its steps makes of it.
+use Rattle.std.proofs.Common.{◌≡◌, ◌∙◌, ◌==◌, ◌-◌, ◌<◌, ℕ, Bool, true, false, nat_lt, if◌then◌else◌, refl, sym, ap, subst, [], ◌∷◌, Option, Some, None, arith}
+use Rattle.std.proofs.lemmas.Bool.{lt-ltb}
+use Rattle.gt_types.specs.declared.denial.Denial.{Denial}
+use Rattle.gt_types.specs.declared.denial.Facts.TheVariants.{Header as HeaderFacts}
+use Rattle.gt_types.specs.declared.denial.Rule.{Rule}
+use Rattle.gt_types.specs.declared.denial.Rule.TheVariants.{N9, N18}
+use Rattle.gt_types.specs.Denial.{denial_of}
+use Rattle.gt_entry.specs.Words.{control_of, header_of, is_kind, size_of}
+use Rattle.gt_entry.specs.declared.control.Kind.{Kind}
+use Rattle.gt_entry.specs.declared.control.Kind.TheVariants.{Invalid, Page, Sub, Via}
+use Rattle.gt_words.specs.Rule.{Layout}
+use Rattle.gt_words.specs.declared.view.View.{View}
+use Rattle.gt_calls.specs.Machine.{after_header, after_look, after_miss, after_relook, after_words, leg_after, leg_step}
+use Rattle.gt_calls.specs.Path.{entry_refusal, held_of, rule_of_try}
+use Rattle.gt_calls.specs.Rules.{first_look}
+use Rattle.gt_calls.specs.declared.action.Seen.{Seen}
+use Rattle.gt_calls.specs.declared.action.Seen.TheVariants.{Missed, Word}
+use Rattle.gt_calls.specs.declared.action.Step.TheVariants.{LookControl, Pin}
+use Rattle.gt_calls.specs.declared.held.Held.{Held}
+use Rattle.gt_calls.specs.declared.leg.Leg.{Leg}
+use Rattle.gt_calls.specs.declared.leg.LegNext.{LegNext}
+use Rattle.gt_calls.specs.declared.leg.LegNext.TheVariants.{Going as GoesTo, Refused as LegRefused}
+use Rattle.gt_calls.specs.declared.leg.LegPhase.{LegPhase}
+use Rattle.gt_calls.specs.declared.leg.LegPhase.TheVariants.{Header, Look, Body, Second, Pinning, Relook}
+use Rattle.gt_calls.specs.declared.leg.TheConstants.{MORE_TRIES}
+use Rattle.gt_live.specs.Legs.{WalksLeg}
+use Rattle.gt_live.specs.Walks.{Made, ReadsBody, ReadsSecond}
+
+-- what follows a look at the header
+pub header-refuses : (l : Leg) (word : ℕ) (has : Bool) (denial : Denial)
+    → has ≡ nat_lt l.gref.0 (size_of (header_of word)) → has ≡ false → denial ≡ denial_of N9 (HeaderFacts l.dom word)
+    → after_header l word ≡ LegRefused denial
+header-refuses l word has denial has_is lacks is =
+    ap (λ (b : Bool). if b then GoesTo (Look MORE_TRIES) else LegRefused (denial_of N9 (HeaderFacts l.dom word)))
+    (sym has_is ∙ lacks)
+    ∙ ap (λ (d : Denial). LegRefused d) (sym is)
+
+pub header-passes : (l : Leg) (word : ℕ) (has : Bool) → has ≡ nat_lt l.gref.0 (size_of (header_of word))
+    → has ≡ true → after_header l word ≡ GoesTo (Look MORE_TRIES)
+header-passes l word has has_is holds =
+    ap (λ (b : Bool). if b then GoesTo (Look MORE_TRIES) else LegRefused (denial_of N9 (HeaderFacts l.dom word)))
+    (sym has_is ∙ holds)
+
+-- what follows a first look at the control word
+pub look-refuses : (l : Leg) (more word : ℕ) (judged found : Option Rule) (rule : Rule) (denial : Denial)
+    → judged ≡ found → judged ≡ Some rule → denial ≡ entry_refusal l.dom l.gref rule word
+    → after_look l more word found ≡ LegRefused denial
+look-refuses l more word judged found rule denial judged_is some is =
+    ap (λ (o : Option Rule). after_look l more word o) (sym judged_is ∙ some)
+    ∙ ap (λ (d : Denial). LegRefused d) (sym is)
+
+pub look-passes : (l : Leg) (more word : ℕ) (judged found : Option Rule) → judged ≡ found → judged ≡ None
+    → after_look l more word found ≡ GoesTo (Body more word)
+look-passes l more word judged found judged_is none =
+    ap (λ (o : Option Rule). after_look l more word o) (sym judged_is ∙ none)
+
+-- what follows a missed try
+pub relook-misses : (l : Leg) (more word : ℕ) (rule : Rule) (found : ℕ) → (found == word) ≡ false
+    → after_relook l more word rule found ≡ after_miss l more found
+relook-misses l more word rule found other =
+    ap (λ (b : Bool). if b then LegRefused (entry_refusal l.dom l.gref rule word) else after_miss l more found) other
+
+pub relook-refuses : (l : Leg) (more word : ℕ) (rule : Rule) (found : ℕ) (denial : Denial) → (found == word) ≡ true
+    → denial ≡ entry_refusal l.dom l.gref rule word → after_relook l more word rule found ≡ LegRefused denial
+relook-refuses l more word rule found denial same is =
+    ap (λ (b : Bool). if b then LegRefused (entry_refusal l.dom l.gref rule word) else after_miss l more found) same
+    ∙ ap (λ (d : Denial). LegRefused d) (sym is)
+
+pub last-miss : (l : Leg) (more found : ℕ) (denial : Denial) → more ≡ 0
+    → denial ≡ entry_refusal l.dom l.gref N18 found → after_miss l more found ≡ LegRefused denial
+last-miss l more found denial none is =
+    ap (λ (n : ℕ). after_miss l n found) none ∙ ap (λ (d : Denial). LegRefused d) (sym is)
+
+pub next-try : (l : Leg) (more found : ℕ) → (more ≡ 0 → ⊥) → after_miss l more found ≡ GoesTo (Look (more - 1))
+next-try l more found some =
+    let positive : 0 < more = omega (arith, some) in
+    ap (λ (b : Bool). if b then GoesTo (Look (more - 1)) else LegRefused (entry_refusal l.dom l.gref N18 found))
+    (lt-ltb _ _ positive)
+
+-- the kind of an entry that is no sub-page
+pub no-sub : (kind : Kind) → (kind ≡ Sub → ⊥) → is_kind kind Sub ≡ false
+no-sub Invalid other = refl
+no-sub Page other = refl
+no-sub Sub other = absurd (other refl)
+no-sub Via other = refl
+
+module _ (k : Layout) (l : Leg) (v : View) where
+  -- a leg at its header has been walked so far
+  pub walk-begins : WalksLeg k l v (GoesTo Header) v
+  walk-begins = ([], (refl, refl))
+
+  -- after a step that was made the leg has come to what it goes on with
+  pub walk-on : (at : LegPhase) (seen : Seen) (u w : View) → WalksLeg k l v (GoesTo at) u
+      → Made k (leg_step l at) seen u w → WalksLeg k l v (leg_after l at seen) w
+  walk-on at seen u w x made = ((at, seen, u) ∷ x.0, (made, refl, x.1))
+
+  -- the same, by what that is
+  pub walk-to : (next other : LegNext) (w : View) → next ≡ other → WalksLeg k l v next w → WalksLeg k l v other w
+  walk-to next other w is x = subst (λ (n : LegNext). WalksLeg k l v n w) is x
+
+  second-read : (more word first second : ℕ) (u w : View) (is_sub : Bool)
+      → WalksLeg k l v (if is_sub then GoesTo (Second more word first)
+      else after_words more word first 0 (rule_of_try l word first 0)) u
+      → ReadsSecond is_sub k l second u w
+      → WalksLeg k l v (after_words more word first second (rule_of_try l word first second)) w
+  second-read more word first second u w true x read = walk-on (Second more word first) (Word second) u w x read
+  second-read more word first second u w false x read =
+      subst (λ (z : View). WalksLeg k l v (after_words more word first second (rule_of_try l word first second)) z)
+      (sym read.1)
+      (subst (λ (s : ℕ). WalksLeg k l v (after_words more word first s (rule_of_try l word first s)) u)
+      (sym read.0) x)
+
+  -- what follows the body words
+  body-read : (more word first second : ℕ) (u w : View) → WalksLeg k l v (GoesTo (Body more word)) u
+      → ReadsBody k l word first second u w
+      → WalksLeg k l v (after_words more word first second (rule_of_try l word first second)) w
+  body-read more word first second u w x read =
+      second-read more word first second read.0 w (is_kind (control_of word).kind Sub)
+      (walk-on (Body more word) (Word first) u read.0 x read.1) read.2
+
+  -- a first look that no rule stands on
+  pub looked : (more word : ℕ) (judged : Option Rule) (u w : View) → WalksLeg k l v (GoesTo (Look more)) u
+      → Made k (LookControl l.dom l.gref) (Word word) u w
+      → judged ≡ first_look l (control_of word) → judged ≡ None → WalksLeg k l v (GoesTo (Body more word)) w
+  looked more word judged u w x made judged_is none =
+      walk-to _ (GoesTo (Body more word)) w (look-passes l more word judged _ judged_is none)
+      (walk-on (Look more) (Word word) u w x made)
+
+  -- all the words of a try, and whether a rule stands on them
+  pub tried : (more word first second : ℕ) (judged judged' next : Option Rule) (u w1 w2 : View)
+      → WalksLeg k l v (GoesTo (Look more)) u → Made k (LookControl l.dom l.gref) (Word word) u w1
+      → judged ≡ first_look l (control_of word) → judged ≡ None → ReadsBody k l word first second w1 w2
+      → judged' ≡ rule_of_try l word first second → judged' ≡ next
+      → WalksLeg k l v (after_words more word first second next) w2
+  tried more word first second judged judged' next u w1 w2 x made judged_is none read rule_is is =
+      subst (λ (o : Option Rule). WalksLeg k l v (after_words more word first second o) w2) (sym rule_is ∙ is)
+      (body-read more word first second w1 w2 (looked more word judged u w1 x made judged_is none) read)
+
+  -- a second look that found another word
+  pub relook-missed : (more word : ℕ) (rule : Rule) (found : ℕ) (u w : View)
+      → WalksLeg k l v (GoesTo (Relook more word rule)) u → Made k (LookControl l.dom l.gref) (Word found) u w
+      → (found == word) ≡ false → WalksLeg k l v (after_miss l more found) w
+  relook-missed more word rule found u w x made other =
+      walk-to _ (after_miss l more found) w (relook-misses l more word rule found other)
+      (walk-on (Relook more word rule) (Word found) u w x made)
+
+  -- a pin that was missed
+  pub pin-missed : (more word first second found : ℕ) (held : Held) (u w : View)
+      → WalksLeg k l v (GoesTo (Pinning more word first second)) u → held ≡ held_of l word first second
+      → Made k (Pin held) (Missed found) u w → WalksLeg k l v (after_miss l more found) w
+  pin-missed more word first second found held u w x is made =
+      walk-on (Pinning more word first second) (Missed found) u w x
+      (subst (λ (p : Held). Made k (Pin p) (Missed found) u w) is made)

@@ -1,0 +1,93 @@
+-- A copy whose steps are written out: what each part of its walk leads to. The code's own representation. It is in
+-- specs/ because contracts cite it.
+use Rattle.std.specs.Prelude.{◌≡◌, List, [], ◌∷◌, None, Result, Ok, Err}
+use Rattle.gt_types.specs.declared.DomId.{DomId}
+use Rattle.gt_types.specs.declared.Dir.TheVariants.{Read, Write}
+use Rattle.gt_types.specs.declared.GrantRef.{GrantRef}
+use Rattle.gt_types.specs.declared.denial.Denial.{Denial}
+use Rattle.gt_words.specs.Rule.{Layout}
+use Rattle.gt_words.specs.declared.view.View.{View}
+use Rattle.gt_calls.specs.declared.action.Seen.TheVariants.{Nothing}
+use Rattle.gt_calls.specs.declared.action.Step.TheVariants.{Unpin}
+use Rattle.gt_calls.specs.declared.action.Verdict.TheVariants.{Refused}
+use Rattle.gt_calls.specs.declared.call.Phase.{Phase}
+use Rattle.gt_calls.specs.declared.call.Phase.TheVariants.{Accessing, Ending, Walking}
+use Rattle.gt_calls.specs.declared.copying.Aim.{Aim}
+use Rattle.gt_calls.specs.declared.copying.Aim.TheVariants.{Source, Dest}
+use Rattle.gt_calls.specs.declared.held.Held.{Held}
+use Rattle.gt_calls.specs.declared.held.Pins.{Pins}
+use Rattle.gt_calls.specs.declared.held.Route.{Route}
+use Rattle.gt_calls.specs.declared.held.Route.TheVariants.{Own}
+use Rattle.gt_calls.specs.declared.leg.Leg.{Leg}
+use Rattle.gt_calls.specs.declared.leg.LegPhase.TheVariants.{Header}
+use Rattle.gt_calls.specs.declared.request.CopyArgs.{CopyArgs}
+use Rattle.gt_calls.specs.declared.request.Holder.TheVariants.{Leg as ByLeg}
+use Rattle.gt_calls.specs.CopyCalls.{copy_call, unmoved_copy}
+use Rattle.gt_calls.specs.Holding.{last_first, no_pins, pins_so_far, without_last}
+use Rattle.gt_calls.specs.Machine.{after_pin_of, at_dest}
+use Rattle.gt_calls.specs.Path.{end_leg, place_of, second_leg}
+use Rattle.gt_calls.specs.Rules.{CallerKnowledge}
+use Rattle.gt_live.specs.declared.domain.copies.Halfway.{Halfway}
+use Rattle.gt_live.specs.Driving.{CanMake}
+use Rattle.gt_live.specs.Underway.{AtAccess, EndsRefused}
+use Rattle.gt_live.specs.Walks.{Made}
+
+-- the pin of this Via is the last that is held for the aim
+abbrev pub IsLastOf : Held → Aim → Type 0
+IsLastOf via aim = (others : List Held) × (last_first (pins_so_far aim) ≡ via ∷ others)
+
+-- what follows the second leg of an end: what follows its pin, or the end of the call once the pin of the Via is given
+-- back
+abbrev pub after_through : CallerKnowledge → DomId → Aim → Leg → DomId → GrantRef → Result Held Denial → Phase
+after_through c caller aim first dom gref (Ok p) = after_pin_of c caller aim (second_leg c first dom gref) p
+after_through c caller aim first dom gref (Err denial) = Ending (without_last (pins_so_far aim)) (Refused denial)
+
+-- a copy before the leg to its source, and after it
+abbrev pub source_leg : CallerKnowledge → DomId → CopyArgs → Phase
+source_leg c caller copy = Walking (Source copy None) (end_leg c caller copy.source Read copy.len) Header
+
+abbrev pub after_source : CallerKnowledge → DomId → CopyArgs → Result Route Denial → Phase
+after_source c caller copy (Ok source) = at_dest c caller copy source
+after_source c caller copy (Err denial) = Ending no_pins (Refused denial)
+
+-- a copy before the leg to its destination, and after it
+abbrev pub dest_leg : CallerKnowledge → DomId → CopyArgs → Route → Phase
+dest_leg c caller copy source = Walking (Dest copy source None) (end_leg c caller copy.dest Write copy.len) Header
+
+abbrev pub after_dest : CopyArgs → Route → Result Route Denial → Phase
+after_dest copy source (Ok dest) = Accessing copy source dest
+after_dest copy source (Err denial) = Ending (record { source = source; dest = Own }) (Refused denial)
+
+-- a copy at its access, or at its end if it was refused before
+abbrev pub after_copy : CopyArgs → Result Pins Denial → Phase
+after_copy copy (Ok pins) = Accessing copy pins.source pins.dest
+after_copy copy (Err denial) = Ending no_pins (Refused denial)
+
+-- where a copy stops: at its access with these pins, or refused before it
+abbrev pub StopsSo : CallerKnowledge → Layout → DomId → CopyArgs → Result Pins Denial → View → View → Type 0
+StopsSo c k caller copy (Ok pins) v w =
+    AtAccess c k (copy_call caller copy (Accessing copy pins.source pins.dest))
+    (place_of caller copy.source pins.source) (place_of caller copy.dest pins.dest) copy.len v w
+StopsSo c k caller copy (Err denial) v w = EndsRefused c k (unmoved_copy caller copy) (Refused denial) v w
+
+-- these pins were given back, the first of them first, and nothing else was done
+abbrev pub IsGivenBack : Layout → List Held → View → View → Type 0
+IsGivenBack k [] v w = w ≡ v
+IsGivenBack k (p ∷ ps) v w = (u : View) × Made k (Unpin p (ByLeg 0)) Nothing v u × IsGivenBack k ps u w
+
+-- these pins can be given back, the first of them first
+abbrev pub CanGiveBack : Layout → List Held → View → Type 0
+CanGiveBack k [] v = Unit {0}
+CanGiveBack k (p ∷ ps) v =
+    CanMake k v (Unpin p (ByLeg 0)) × ((u : View) → Made k (Unpin p (ByLeg 0)) Nothing v u → CanGiveBack k ps u)
+
+-- a copy of this caller at its access, with these pins
+abbrev pub halfway_with : DomId → CopyArgs → Pins → Halfway
+halfway_with caller copy pins =
+    record {
+      call = copy_call caller copy (Accessing copy pins.source pins.dest);
+      copy = copy;
+      from = place_of caller copy.source pins.source;
+      to = place_of caller copy.dest pins.dest;
+      len = copy.len;
+    }

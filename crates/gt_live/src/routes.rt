@@ -1,0 +1,247 @@
+//! A copy walked to its access, each of its steps made on the words, and its pins given back.
+ghost use Rattle.std.specs.Prelude.{◌≡◌, ℕ, None};
+ghost use Rattle.gt_words.specs.Conditions.{IsSeatOf, IsSameSeat};
+ghost use Rattle.gt_words.specs.declared.view.View.{View};
+ghost use Rattle.gt_calls.specs.declared.copying.Aim.{Aim};
+ghost use Rattle.gt_calls.specs.Holding.{held_by, last_first};
+ghost use Rattle.gt_calls.specs.Machine.{at_dest, at_source, through_via};
+ghost use Rattle.gt_calls.specs.Rules.{copy_begun, knows};
+ghost use Rattle.gt_live.specs.Copies.{CanGiveBack, IsGivenBack, IsLastOf, StopsSo, dest_leg, source_leg};
+ghost use Rattle.gt_live.specs.Copies.{after_copy, after_dest, after_source, after_through};
+ghost use Rattle.gt_live.specs.Driving.{CanMake, Knows};
+ghost use Rattle.gt_live.specs.Phases.{CanRun, Runs};
+ghost use Rattle.gt_live.specs.Underway.{AreOfRun, GivesBack, HasTaken};
+ghost use Rattle.gt_live.specs.Walks.{Made};
+
+use crate::domain::refusal_of;
+use crate::driving::{pin_of, walk_leg};
+use gt_calls::{
+    CopyArgs, Held, Holder, Known, Leg, Pins, Route, Seen, Step, end_leg,
+    every_copy_begins_at_its_source, every_copy_goes_on_by_its_phase, judge_via, resolve,
+    second_leg,
+};
+use gt_entry::Entry;
+use gt_types::{Allows, Denial, Dir, DomId, GrantRef};
+use gt_words::{Seat, Words};
+
+// Gives a pin back that a copy took, whatever its place among the copy's pins.
+#[inline(always)]
+fn give_pin_back(words: &Words, seat: &mut Seat, held: &Held)
+    requires seat { IsSeatOf words.now seat.old }
+    requires can { CanMake words.now.layout seat.old.view (Step.Unpin held.now (Holder.Leg 0)) }
+    ensures seat { IsSameSeat seat.old seat.new }
+    ensures made { (place : ℕ) → Made words.now.layout (Step.Unpin held.now (Holder.Leg place)) Seen.Nothing
+        seat.old.view seat.new.view }
+{
+    words.unpin(seat, pin_of(*held));
+}
+
+// Goes on from the pin of a Via, which leads to an entry of this domain: judges the pair that it asks for, and walks the
+// second leg. The pin of the Via is given back if either refuses.
+fn go_through<P: Allows>(
+    words: &Words,
+    known: &Known<'_, P>,
+    seat: &mut Seat,
+    first: &Leg,
+    via: &Held,
+    pair: (DomId, DomId),
+    dom: DomId,
+    gref: GrantRef,
+) -> Result<Held, Denial>
+    requires seat { IsSeatOf words.now seat.old }
+    requires can { (caller : DomId) × (aim : Aim) × IsLastOf via.now aim
+        × CanRun (knows P.may known.now) words.now.layout caller
+        (through_via (knows P.may known.now) aim first.now pair dom gref) seat.old.view }
+    ensures seat { IsSameSeat seat.old seat.new }
+    ensures goes { (caller : DomId) (aim : Aim) → IsLastOf via.now aim
+        → Runs (knows P.may known.now) words.now.layout caller
+        (through_via (knows P.may known.now) aim first.now pair dom gref) seat.old.view
+        (after_through (knows P.may known.now) caller aim first.now dom gref result) seat.new.view }
+{
+    if let Some(verdict) = judge_via(known, pair, dom) {
+        give_pin_back(words, seat, via);
+        return Err(refusal_of(verdict));
+    }
+    let second = second_leg(known, *first, dom, gref);
+    match walk_leg(words, seat, &second) {
+        Ok(held) => Ok(held),
+        Err(denial) => {
+            give_pin_back(words, seat, via);
+            Err(denial)
+        }
+    }
+}
+
+// The route to the source of a copy, whose pins are taken.
+fn reach_source<P: Allows>(
+    words: &Words,
+    known: &Known<'_, P>,
+    seat: &mut Seat,
+    caller: DomId,
+    copy: &CopyArgs,
+) -> Result<Route, Denial>
+    requires seat { IsSeatOf words.now seat.old }
+    requires can { CanRun (knows P.may known.now) words.now.layout caller
+        (source_leg (knows P.may known.now) caller copy.now) seat.old.view }
+    ensures seat { IsSameSeat seat.old seat.new }
+    ensures goes { Runs (knows P.may known.now) words.now.layout caller
+        (source_leg (knows P.may known.now) caller copy.now) seat.old.view
+        (after_source (knows P.may known.now) caller copy.now result) seat.new.view }
+{
+    let leg = end_leg(known, caller, copy.source, Dir::Read, copy.len);
+    let first = match walk_leg(words, seat, &leg) {
+        Ok(held) => held,
+        Err(denial) => return Err(denial),
+    };
+    match first.entry {
+        Entry::Via { dom2, gref, .. } => {
+            let named = resolve(caller, copy.dest.domid);
+            let pair = (dom2, named);
+            match go_through(words, known, seat, &leg, &first, pair, dom2, gref) {
+                Ok(held) => Ok(Route::Through { via: first, held }),
+                Err(denial) => Err(denial),
+            }
+        }
+        _ => Ok(Route::Direct(first)),
+    }
+}
+
+// The route to the destination of a copy, whose source is reached.
+fn reach_dest<P: Allows>(
+    words: &Words,
+    known: &Known<'_, P>,
+    seat: &mut Seat,
+    caller: DomId,
+    copy: &CopyArgs,
+    source: &Route,
+) -> Result<Route, Denial>
+    requires seat { IsSeatOf words.now seat.old }
+    requires can { CanRun (knows P.may known.now) words.now.layout caller
+        (dest_leg (knows P.may known.now) caller copy.now source.now) seat.old.view }
+    ensures seat { IsSameSeat seat.old seat.new }
+    ensures goes { Runs (knows P.may known.now) words.now.layout caller
+        (dest_leg (knows P.may known.now) caller copy.now source.now) seat.old.view
+        (after_dest copy.now source.now result) seat.new.view }
+{
+    let leg = end_leg(known, caller, copy.dest, Dir::Write, copy.len);
+    let first = match walk_leg(words, seat, &leg) {
+        Ok(held) => held,
+        Err(denial) => return Err(denial),
+    };
+    match first.entry {
+        Entry::Via { dom2, gref, .. } => {
+            let from = source.owner(caller);
+            let pair = (from, dom2);
+            match go_through(words, known, seat, &leg, &first, pair, dom2, gref) {
+                Ok(held) => Ok(Route::Through { via: first, held }),
+                Err(denial) => Err(denial),
+            }
+        }
+        _ => Ok(Route::Direct(first)),
+    }
+}
+
+// Walks a copy whose source is reached to its access, or to its refusal, whose pins are given back by then.
+fn walk_to_dest<P: Allows>(
+    words: &Words,
+    known: &Known<'_, P>,
+    seat: &mut Seat,
+    caller: DomId,
+    copy: &CopyArgs,
+    source: Route,
+) -> Result<Pins, Denial>
+    requires seat { IsSeatOf words.now seat.old }
+    requires can { CanRun (knows P.may known.now) words.now.layout caller
+        (at_dest (knows P.may known.now) caller copy.now source) seat.old.view }
+    ensures seat { IsSameSeat seat.old seat.new }
+    ensures goes { Runs (knows P.may known.now) words.now.layout caller
+        (at_dest (knows P.may known.now) caller copy.now source) seat.old.view
+        (after_copy copy.now result) seat.new.view }
+{
+    if !copy.is_dest_granted() {
+        let dest = Route::Own;
+        return Ok(Pins { source, dest });
+    }
+    match reach_dest(words, known, seat, caller, copy, &source) {
+        Ok(dest) => Ok(Pins { source, dest }),
+        Err(denial) => {
+            give_back_route(words, seat, &source);
+            Err(denial)
+        }
+    }
+}
+
+// Walks a copy to its access, or to its refusal.
+fn walk<P: Allows>(
+    words: &Words,
+    known: &Known<'_, P>,
+    seat: &mut Seat,
+    caller: DomId,
+    copy: &CopyArgs,
+) -> Result<Pins, Denial>
+    requires seat { IsSeatOf words.now seat.old }
+    requires can { CanRun (knows P.may known.now) words.now.layout caller
+        (at_source (knows P.may known.now) caller copy.now) seat.old.view }
+    ensures seat { IsSameSeat seat.old seat.new }
+    ensures goes { Runs (knows P.may known.now) words.now.layout caller
+        (at_source (knows P.may known.now) caller copy.now) seat.old.view
+        (after_copy copy.now result) seat.new.view }
+{
+    if !copy.is_source_granted() {
+        return walk_to_dest(words, known, seat, caller, copy, Route::Own);
+    }
+    match reach_source(words, known, seat, caller, copy) {
+        Ok(source) => walk_to_dest(words, known, seat, caller, copy, source),
+        Err(denial) => Err(denial),
+    }
+}
+
+// Drives a copy that no rule answered at its beginning to its access, or to its end if it is refused before. Its steps
+// are written out, as a map's are.
+pub(crate) fn drive_copy<P: Allows>(
+    words: &Words,
+    known: &Known<'_, P>,
+    seat: &mut Seat,
+    caller: DomId,
+    copy: &CopyArgs,
+) -> Result<Pins, Denial>
+    requires seat { IsSeatOf words.now seat.old }
+    requires unanswered { copy_begun (knows P.may known.now) caller copy.now ≡ None }
+    requires knows { Knows (knows P.may known.now) words.now.layout caller seat.old.view }
+    ensures seat { IsSameSeat seat.old seat.new }
+    ensures stops { StopsSo (knows P.may known.now) words.now.layout
+        caller copy.now result seat.old.view seat.new.view }
+{
+    every_copy_begins_at_its_source();
+    every_copy_goes_on_by_its_phase();
+    walk(words, known, seat, caller, copy)
+}
+
+// Gives back the pins of a route, the last one first.
+fn give_back_route(words: &Words, seat: &mut Seat, route: &Route)
+    requires seat { IsSeatOf words.now seat.old }
+    requires can { CanGiveBack words.now.layout (held_by route.now) seat.old.view }
+    ensures seat { IsSameSeat seat.old seat.new }
+    ensures given { IsGivenBack words.now.layout (held_by route.now) seat.old.view seat.new.view }
+{
+    match route {
+        Route::Own => {}
+        Route::Direct(held) => give_pin_back(words, seat, held),
+        Route::Through { via, held } => {
+            give_pin_back(words, seat, held);
+            give_pin_back(words, seat, via);
+        }
+    }
+}
+
+// Gives back the pins that a copy held at its access, the last one first.
+pub(crate) fn give_back(words: &Words, seat: &mut Seat, pins: &Pins)
+    requires seat { IsSeatOf words.now seat.old }
+    requires taken { (base : View) × HasTaken words.now.layout (last_first pins.now) base seat.old.view }
+    requires of_run { AreOfRun words.now.layout (last_first pins.now) }
+    ensures seat { IsSameSeat seat.old seat.new }
+    ensures gives { GivesBack words.now.layout pins.now seat.old.view seat.new.view }
+{
+    give_back_route(words, seat, &pins.dest);
+    give_back_route(words, seat, &pins.source);
+}
