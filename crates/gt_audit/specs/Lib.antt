@@ -1,3 +1,5 @@
+pub mod Compact
 pub mod Lines
 pub mod Log
+pub mod Pieces
 pub mod Telling

@@ -15,6 +15,15 @@ pub record Telling : Type 0 where
 abbrev pub silent : Telling
 silent = record { records = []; lost = 0; most = 2 ^ 64 - 1; room = 0 }
 
+-- no record is there, and none was lost
+abbrev pub HasNone : Telling → Type 0
+HasNone t = (t.records ≡ []) × (t.lost ≡ 0)
+
+-- what was taken of a trail and what is left of it are all that it had
+pub record ArePartsOf (whole taken left : Telling) : Type 0 where
+  pub records : taken.records ++ left.records ≡ whole.records
+  pub lost : taken.lost + left.lost ≡ whole.lost
+
 -- one more is lost; the count stays at the largest number of 64 bits
 abbrev pub one_more_lost : ℕ → ℕ
 one_more_lost lost = min (lost + 1) (2 ^ 64 - 1)

@@ -14,7 +14,9 @@
 //! list that threads share).
 #![tactic(auto)]
 
+mod compact;
 mod lines;
+mod pieces;
 mod record;
 mod shared;
 mod told;

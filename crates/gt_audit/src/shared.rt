@@ -1,4 +1,5 @@
 //! Records that domains share while they run.
+use crate::compact::Compact;
 use crate::record::Record;
 use boxcar::Vec;
 use gt_types::DomId;
@@ -8,9 +9,9 @@ use std::sync::Wait;
 // A record as the log has it.
 #[derive(Drop)]
 struct LogEntry {
-    dom: DomId,
+    told: Compact,
     number: u64,
-    told: Record,
+    dom: DomId,
 }
 
 /// Records of domains, each with its number among its domain's. Threads push and read it side by side.
@@ -49,18 +50,19 @@ impl SharedLog {
         ensures token { IfOk result (λ p. IsIn self.now p × IsFor p dom number told) }
         ensures back { IfErr result (λ r. r ≡ told) }
     {
-        match self.entries.push_shown(rt, LogEntry { dom, number, told }) {
+        let told = Compact::of(told);
+        match self.entries.push_shown(rt, LogEntry { told, number, dom }) {
             Ok(token) => Ok(Pushed { token }),
-            Err(entry) => Err(entry.told),
+            Err(entry) => Err(entry.told.record()),
         }
     }
 
     /// The record that was pushed.
-    pub fn get(&self, pushed: &Pushed) -> &Record
+    pub fn get(&self, pushed: &Pushed) -> Record
         requires { IsIn self.now pushed.now }
-        ensures { result.now ≡ record_of pushed.now }
+        ensures { result ≡ record_of pushed.now }
     {
-        &self.entries.value(&pushed.token).told
+        self.entries.value(&pushed.token).told.record()
     }
 
     /// How many records are there by now.
@@ -70,15 +72,15 @@ impl SharedLog {
 
     /// A record of this domain under this number, if one is there by now: it walks over all records, the
     /// first pushed first.
-    pub fn find(&self, dom: DomId, number: u64) -> Option<&Record>
-        ensures { IfSome result (λ r. (p : Pushed) × IsIn self.now p × IsFor p dom number r.now) }
+    pub fn find(&self, dom: DomId, number: u64) -> Option<Record>
+        ensures { IfSome result (λ r. (p : Pushed) × IsIn self.now p × IsFor p dom number r) }
     {
         let entries = self.entries.iter();
         'entries: for (index, _) in entries {
             if let Some(token) = self.entries.witness(index) {
                 let entry = self.entries.value(&token);
                 if entry.dom == dom && entry.number == number {
-                    return Some(&entry.told);
+                    return Some(entry.told.record());
                 }
             }
         }

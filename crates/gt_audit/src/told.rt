@@ -71,7 +71,7 @@ impl<'l> Told<'l> {
     {
         let mut records = Vec::new(alloc);
         'tokens: for token in &self.tokens {
-            records.push(*self.log.get(token))?;
+            records.push(self.log.get(token))?;
         }
         Ok(records)
     }

@@ -48,11 +48,14 @@ pub struct Left {
 }
 
 impl Left {
-    ghost use Rattle.std.specs.Prelude.{◌≡◌};
+    ghost use Rattle.std.specs.Prelude.{◌≡◌, IfOk};
 
     /// The records of its calls, in order.
-    pub fn records(&self) -> &[Record]
-        ensures { result.now ≡ self.now.trail.records }
+    ///
+    /// # Errors
+    /// `Memory`.
+    pub fn records(&self) -> Result<Vec<Record>, Memory>
+        ensures { IfOk result (λ v. v.items ≡ self.now.trail.records) }
     {
         self.trail.records()
     }
@@ -155,7 +158,7 @@ fn outcome_reply<T>(answer: &Result<T, Denial>) -> Reply
 
 impl Domain {
     ghost use Rattle.std.specs.Prelude.{◌≡◌, ◌≤◌, ℕ, List, [], OnOk, OnErr, IfOk, IfErr, IfSome, None, Some};
-    ghost use Rattle.gt_audit.specs.Telling.{Tells};
+    ghost use Rattle.gt_audit.specs.Telling.{ArePartsOf, HasNone, Tells};
     ghost use Rattle.gt_live.specs.Domains.{mapping_reply, subject_of, told_of, Answered, HasLeft, IsOf};
     ghost use Rattle.gt_live.specs.Domains.{IsOpened, IsUnsettled, KeepsPinned, MapAnswered};
     ghost use Rattle.gt_live.specs.Domains.{Released, StaysOfRun};
@@ -228,6 +231,18 @@ impl Domain {
         ensures mine { StaysOfRun self.old self.new }
     {
         self.trail.reserve(records)
+    }
+
+    /// Hands out its records, and goes on with none, in the room of `next`: an owner who clears what it was handed, and
+    /// hands that in the next time, keeps the audit of a long run in memory that doesn't grow.
+    pub fn take_records(&mut self, next: Trail) -> Trail
+        requires empty { HasNone next }
+        ensures parts { ArePartsOf self.old.trail result self.new.trail }
+        ensures taken { result ≡ self.old.trail }
+        ensures goes_on { self.new ≡ record self.old { trail = record next { most = self.old.trail.most } } }
+        ensures mine { StaysOfRun self.old self.new }
+    {
+        self.trail.take(next)
     }
 
     /// Its seat, whose pins an access to a locked frame rests on.

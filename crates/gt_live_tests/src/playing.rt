@@ -120,14 +120,14 @@ fn left<P: Allows>(alloc: Global, domain: Option<Running<'_, P>>) -> Result<Stri
         return Ok(String::new(alloc));
     };
     let left = domain.finish();
-    Ok(format!(in alloc; "{:?} {}", left.records(), left.lost())?)
+    Ok(format!(in alloc; "{:?} {}", left.records()?.as_slice(), left.lost())?)
 }
 
 // How many records a domain leaves.
-fn count_left<P: Allows>(domain: Option<Running<'_, P>>) -> usize {
+fn count_left<P: Allows>(domain: Option<Running<'_, P>>) -> Result<usize, Memory> {
     match domain {
-        Some(domain) => domain.finish().records().len(),
-        None => 0,
+        Some(domain) => Ok(domain.finish().records()?.len()),
+        None => Ok(0),
     }
 }
 
@@ -151,7 +151,7 @@ fn make<R: Wait + Abort, P: Allows>(
             assert_eq!(rt; text.as_str(), records);
         }
         Stage::LeavesMany(records) => {
-            let count = count_left(domains.pop());
+            let count = count_left(domains.pop())?;
             assert_eq!(rt; count, records);
         }
     }

@@ -42,10 +42,9 @@ impl<'l> Teller<'l> {
     pub fn tell(&mut self, rt: &impl Wait, trail: &Trail)
         ensures { TellsNext (slice_get trail.now.records self.old.next) (length trail.now.records) self.old self.new }
     {
-        let records = trail.records();
-        if let Some(told) = records.get(self.next) {
-            self.told.tell(rt, self.next as u64, *told);
-            self.next = records.len();
+        if let Some(told) = trail.get(self.next) {
+            self.told.tell(rt, self.next as u64, told);
+            self.next = trail.len();
         }
     }
 

@@ -234,7 +234,11 @@ impl<'m, P: Allows> Running<'m, P> {
     }
 
     /// Its records so far.
-    pub fn told(&self) -> &[Record] {
+    ///
+    /// # Errors
+    ///
+    /// `Memory`.
+    pub fn told(&self) -> Result<Vec<Record>, Memory> {
         self.domain.trail().records()
     }
 

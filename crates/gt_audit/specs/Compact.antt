@@ -1,0 +1,111 @@
+-- A record by the parts that are kept of it.
+use Rattle.std.specs.Prelude.{◌≡◌, ℕ, ◌<◌, ◌^◌, ◌==◌, Some, None, if◌then◌else◌}
+use Rattle.gt_types.specs.declared.DomId.{DomId}
+use Rattle.gt_types.specs.declared.GrantRef.{GrantRef}
+use Rattle.gt_types.specs.declared.TypeId.{TypeId}
+use Rattle.gt_types.specs.declared.denial.Facts.{Facts}
+use Rattle.gt_types.specs.declared.denial.Facts.TheVariants as facts
+use Rattle.gt_types.specs.declared.denial.Field.{Field}
+use Rattle.gt_types.specs.declared.denial.Field.TheVariants as fields
+use Rattle.gt_audit.specs.declared.record.Hypercall.{Hypercall}
+use Rattle.gt_audit.specs.declared.record.Hypercall.TheVariants as calls
+use Rattle.gt_audit.specs.declared.record.Record.{Record}
+use Rattle.gt_audit.specs.declared.record.Reply.{Reply}
+use Rattle.gt_audit.specs.declared.record.Reply.TheVariants as replies
+use Rattle.gt_audit.specs.declared.compact.Asked.{Asked}
+use Rattle.gt_audit.specs.declared.compact.Asked.TheVariants as asks
+use Rattle.gt_audit.specs.declared.compact.Answered.{Answered}
+use Rattle.gt_audit.specs.declared.compact.Answered.TheVariants as answers
+use Rattle.gt_audit.specs.declared.compact.Packed.{Packed}
+
+-- the field with this number
+abbrev pub field_at : ℕ → Field
+field_at n =
+    if n == 0 then fields.Length
+    else (if n == 1 then fields.Kind
+    else (if n == 2 then fields.Reading
+    else (if n == 3 then fields.Writing
+    else (if n == 4 then fields.Pwt
+    else (if n == 5 then fields.Pcd
+    else (if n == 6 then fields.Pat
+    else (if n == 7 then fields.SubPage
+    else fields.Reserved)))))))
+
+-- the domain with this number
+abbrev pub domain_at : ℕ → DomId
+domain_at n = record { 0 = n }
+
+-- the reference with this number
+abbrev pub reference_at : ℕ → GrantRef
+reference_at n = record { 0 = n }
+
+-- the type with this number
+abbrev pub type_at : ℕ → TypeId
+type_at n = record { 0 = n }
+
+-- what was asked
+abbrev pub called : Asked → Packed → Hypercall
+called asks.Map p = calls.Map (domain_at p.dom) (reference_at p.source) p.dest
+called asks.Unmap p = calls.Unmap (Some (domain_at p.dom, reference_at p.source))
+called asks.UnmapOfNothing p = calls.Unmap None
+called asks.Copy p =
+    calls.Copy
+      (record { ptr = p.source; dom = domain_at p.dom; off = p.source_off })
+      (record { ptr = p.dest; dom = domain_at p.dest_dom; off = p.dest_off })
+      p.len
+      p.flags
+called asks.QuerySize p = calls.QuerySize (domain_at p.dom)
+called asks.GetVersion p = calls.GetVersion (domain_at p.dom)
+called asks.SetVersion p = calls.SetVersion p.source
+called asks.SetupTable p = calls.SetupTable p.source
+
+-- what a refusal rests on
+abbrev pub facts_of : Answered → Packed → Facts
+facts_of answers.ByPolicy p = facts.Policy (type_at p.of) (type_at p.found) (record { 0 = p.word })
+facts_of answers.ForField p = facts.Field (field_at p.word)
+facts_of answers.ForHeader p = facts.Header (domain_at p.of) p.word
+facts_of answers.ForEntry p = facts.Entry (domain_at p.of) (reference_at p.found) p.word
+facts_of answered p = facts.None
+
+-- what was answered
+abbrev pub replied : Answered → Packed → Reply
+replied answers.Done p = replies.Done
+replied answers.Frames p = replies.Frames p.word
+replied answers.Size p = replies.Size (record { frames = p.found; max = p.word })
+replied answers.Version p = replies.Version p.word
+replied answered p = replies.Denied (record { rule = p.rule; status = p.status; facts = facts_of answered p })
+
+-- the record of these parts
+abbrev pub record_of : Packed → Record
+record_of p = record { dom = domain_at p.caller; call = called p.asked p; reply = replied p.answered p }
+
+-- the numbers of a call but a copy are of 32 bits
+abbrev pub FitsCall : Asked → Packed → Type 0
+FitsCall asks.Copy p = Unit {0}
+FitsCall asked p = (p.source < 2 ^ 32) × (p.dest < 2 ^ 32)
+
+-- the numbers of an answer fit what it says
+abbrev pub FitsReply : Answered → Packed → Type 0
+FitsReply answers.ByPolicy p = (p.found < 2 ^ 16) × (p.word < 2 ^ 8)
+FitsReply answers.Frames p = p.word < 2 ^ 32
+FitsReply answers.Size p = p.word < 2 ^ 32
+FitsReply answers.Version p = p.word < 2 ^ 32
+FitsReply answered p = Unit {0}
+
+-- the numbers fit what the record says
+abbrev pub Fits : Packed → Type 0
+Fits p = FitsCall p.asked p × FitsReply p.answered p
+
+-- with this call, and otherwise as before
+pub record HasCall (call : Hypercall) (old new : Packed) : Type 0 where
+  pub asks : called new.asked new ≡ call
+  pub fits : FitsCall new.asked new
+  pub caller : new.caller ≡ old.caller
+  pub reply : replied new.answered new ≡ replied old.answered old
+  pub stays : FitsReply old.answered old → FitsReply new.answered new
+
+-- with this answer, and the caller as before
+pub record HasReply (reply : Reply) (old new : Packed) : Type 0 where
+  pub answers : replied new.answered new ≡ reply
+  pub fits : FitsReply new.answered new
+  pub caller : new.caller ≡ old.caller

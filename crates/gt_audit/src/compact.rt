@@ -1,0 +1,402 @@
+//! A record as it is kept: 48 bytes, half of what a [`Record`] takes.
+ghost use Rattle.std.specs.Prelude.{◌≡◌};
+ghost use Rattle.gt_audit.specs.Compact.{FitsCall, FitsReply, HasCall, HasReply};
+ghost use Rattle.gt_audit.specs.Compact.{called, facts_of, field_at, replied};
+ghost use Rattle.gt_audit.specs.declared.record.Reply.TheVariants.{Denied};
+
+use crate::record::{CopyEnd, Hypercall, Record, Reply};
+use bitflags::Flags;
+use gt_types::{Denial, DomId, Facts, Field, GrantRef, Perms, Rule, Size, Status, TypeId};
+use std::marker::Model;
+
+// What was asked, without its numbers.
+#[derive(Clone, Copy)]
+enum Asked {
+    Map,
+    Unmap,
+    UnmapOfNothing,
+    Copy,
+    QuerySize,
+    GetVersion,
+    SetVersion,
+    SetupTable,
+}
+
+// What was answered, and what a refusal rests on, without the numbers.
+#[derive(Clone, Copy)]
+enum Answered {
+    Done,
+    Frames,
+    Size,
+    Version,
+    Refused,
+    ByPolicy,
+    ForField,
+    ForHeader,
+    ForEntry,
+}
+
+// The parts of a record. A number that its call or its answer doesn't have is 0.
+#[derive(Clone, Copy)]
+struct Packed {
+    // The frame or the reference that a copy reads; an entry's reference; the version or the frames wanted.
+    source: u64,
+    // The frame or the reference that a copy writes; the flags of a map.
+    dest: u64,
+    // The word, the field or the permission that a refusal rests on; the frames, the version or a size's limit answered.
+    word: u64,
+    // The reference or the target's type that a refusal rests on; the size answered.
+    found: u32,
+    caller: u16,
+    // The domain that the call names; the source's, for a copy.
+    dom: u16,
+    dest_dom: u16,
+    source_off: u16,
+    dest_off: u16,
+    len: u16,
+    flags: u16,
+    // The domain or the source's type that a refusal rests on.
+    of: u16,
+    asked: Asked,
+    answered: Answered,
+    rule: Rule,
+    status: Status,
+}
+
+const _: () = prove!(size_of::<Packed>() == 48);
+
+const BLANK: Packed = Packed {
+    source: 0,
+    dest: 0,
+    word: 0,
+    found: 0,
+    caller: 0,
+    dom: 0,
+    dest_dom: 0,
+    source_off: 0,
+    dest_off: 0,
+    len: 0,
+    flags: 0,
+    of: 0,
+    asked: Asked::UnmapOfNothing,
+    answered: Answered::Done,
+    rule: Rule::N1,
+    status: Status::GeneralError,
+};
+
+// The field with this number.
+fn field_at(number: u64) -> Field
+    ensures { result ≡ field_at number }
+{
+    match number {
+        0 => Field::Length,
+        1 => Field::Kind,
+        2 => Field::Reading,
+        3 => Field::Writing,
+        4 => Field::Pwt,
+        5 => Field::Pcd,
+        6 => Field::Pat,
+        7 => Field::SubPage,
+        _ => Field::Reserved,
+    }
+}
+
+// The number of a field.
+fn number_of(field: Field) -> u64
+    ensures { field_at result ≡ field }
+{
+    match field {
+        Field::Length => 0,
+        Field::Kind => 1,
+        Field::Reading => 2,
+        Field::Writing => 3,
+        Field::Pwt => 4,
+        Field::Pcd => 5,
+        Field::Pat => 6,
+        Field::SubPage => 7,
+        Field::Reserved => 8,
+    }
+}
+
+// The parts with this call.
+#[inline(always)]
+fn with_call(call: Hypercall, rest: Packed) -> Packed
+    ensures { HasCall call rest result }
+{
+    match call {
+        Hypercall::Map { dom, gref, flags } => Packed {
+            asked: Asked::Map,
+            dom: dom.0,
+            source: u64::from(gref.0),
+            dest: u64::from(flags),
+            ..rest
+        },
+        Hypercall::Unmap { subject: None } => Packed {
+            asked: Asked::UnmapOfNothing,
+            source: 0,
+            dest: 0,
+            ..rest
+        },
+        Hypercall::Unmap {
+            subject: Some((dom, gref)),
+        } => Packed {
+            asked: Asked::Unmap,
+            dom: dom.0,
+            source: u64::from(gref.0),
+            dest: 0,
+            ..rest
+        },
+        Hypercall::Copy {
+            source,
+            dest,
+            len,
+            flags,
+        } => Packed {
+            asked: Asked::Copy,
+            dom: source.dom.0,
+            source: source.ptr,
+            source_off: source.off,
+            dest_dom: dest.dom.0,
+            dest: dest.ptr,
+            dest_off: dest.off,
+            len,
+            flags,
+            ..rest
+        },
+        Hypercall::QuerySize { dom } => Packed {
+            asked: Asked::QuerySize,
+            dom: dom.0,
+            source: 0,
+            dest: 0,
+            ..rest
+        },
+        Hypercall::GetVersion { dom } => Packed {
+            asked: Asked::GetVersion,
+            dom: dom.0,
+            source: 0,
+            dest: 0,
+            ..rest
+        },
+        Hypercall::SetVersion { version } => Packed {
+            asked: Asked::SetVersion,
+            source: u64::from(version),
+            dest: 0,
+            ..rest
+        },
+        Hypercall::SetupTable { frames } => Packed {
+            asked: Asked::SetupTable,
+            source: u64::from(frames),
+            dest: 0,
+            ..rest
+        },
+    }
+}
+
+// The parts with this refusal.
+#[inline(always)]
+fn with_refusal(denial: Denial, rest: Packed) -> Packed
+    ensures { HasReply (Denied denial) rest result }
+{
+    let refused = Packed {
+        answered: Answered::Refused,
+        rule: denial.rule,
+        status: denial.status,
+        ..rest
+    };
+    match denial.facts {
+        Facts::None => refused,
+        Facts::Policy {
+            source,
+            target,
+            perm,
+        } => Packed {
+            answered: Answered::ByPolicy,
+            of: source.0,
+            found: u32::from(target.0),
+            word: u64::from(perm.bits()),
+            ..refused
+        },
+        Facts::Field(field) => Packed {
+            answered: Answered::ForField,
+            word: number_of(field),
+            ..refused
+        },
+        Facts::Header { dom, word } => Packed {
+            answered: Answered::ForHeader,
+            of: dom.0,
+            word,
+            ..refused
+        },
+        Facts::Entry { dom, gref, word } => Packed {
+            answered: Answered::ForEntry,
+            of: dom.0,
+            found: gref.0,
+            word,
+            ..refused
+        },
+    }
+}
+
+// The parts with this answer.
+#[inline(always)]
+fn with_reply(reply: Reply, rest: Packed) -> Packed
+    ensures { HasReply reply rest result }
+{
+    match reply {
+        Reply::Done => Packed {
+            answered: Answered::Done,
+            ..rest
+        },
+        Reply::Frames(frames) => Packed {
+            answered: Answered::Frames,
+            word: u64::from(frames),
+            ..rest
+        },
+        Reply::Size(size) => Packed {
+            answered: Answered::Size,
+            found: size.frames,
+            word: u64::from(size.max),
+            ..rest
+        },
+        Reply::Version(version) => Packed {
+            answered: Answered::Version,
+            word: u64::from(version),
+            ..rest
+        },
+        Reply::Denied(denial) => with_refusal(denial, rest),
+    }
+}
+
+// What was asked.
+fn called(parts: &Packed) -> Hypercall
+    requires { FitsCall parts.now.asked parts.now }
+    ensures { result ≡ called parts.now.asked parts.now }
+{
+    let dom = DomId(parts.dom);
+    match parts.asked {
+        Asked::Map => Hypercall::Map {
+            dom,
+            gref: GrantRef(parts.source as u32),
+            flags: parts.dest as u32,
+        },
+        Asked::Unmap => Hypercall::Unmap {
+            subject: Some((dom, GrantRef(parts.source as u32))),
+        },
+        Asked::UnmapOfNothing => Hypercall::Unmap { subject: None },
+        Asked::Copy => Hypercall::Copy {
+            source: CopyEnd {
+                ptr: parts.source,
+                dom,
+                off: parts.source_off,
+            },
+            dest: CopyEnd {
+                ptr: parts.dest,
+                dom: DomId(parts.dest_dom),
+                off: parts.dest_off,
+            },
+            len: parts.len,
+            flags: parts.flags,
+        },
+        Asked::QuerySize => Hypercall::QuerySize { dom },
+        Asked::GetVersion => Hypercall::GetVersion { dom },
+        Asked::SetVersion => Hypercall::SetVersion {
+            version: parts.source as u32,
+        },
+        Asked::SetupTable => Hypercall::SetupTable {
+            frames: parts.source as u32,
+        },
+    }
+}
+
+// What a refusal rests on.
+fn facts(parts: &Packed) -> Facts
+    requires { FitsReply parts.now.answered parts.now }
+    ensures { result ≡ facts_of parts.now.answered parts.now }
+{
+    match parts.answered {
+        Answered::ByPolicy => Facts::Policy {
+            source: TypeId(parts.of),
+            target: TypeId(parts.found as u16),
+            perm: Perms::from_bits_retain(parts.word as u8),
+        },
+        Answered::ForField => Facts::Field(field_at(parts.word)),
+        Answered::ForHeader => Facts::Header {
+            dom: DomId(parts.of),
+            word: parts.word,
+        },
+        Answered::ForEntry => Facts::Entry {
+            dom: DomId(parts.of),
+            gref: GrantRef(parts.found),
+            word: parts.word,
+        },
+        _ => Facts::None,
+    }
+}
+
+// What was answered.
+fn replied(parts: &Packed) -> Reply
+    requires { FitsReply parts.now.answered parts.now }
+    ensures { result ≡ replied parts.now.answered parts.now }
+{
+    match parts.answered {
+        Answered::Done => Reply::Done,
+        Answered::Frames => Reply::Frames(parts.word as u32),
+        Answered::Size => Reply::Size(Size {
+            frames: parts.found,
+            max: parts.word as u32,
+        }),
+        Answered::Version => Reply::Version(parts.word as u32),
+        _ => Reply::Denied(Denial {
+            rule: parts.rule,
+            status: parts.status,
+            facts: facts(parts),
+        }),
+    }
+}
+
+/// A record as it is kept. A contract sees the [`Record`].
+#[derive(Drop)]
+pub(crate) struct Compact {
+    parts: Packed,
+}
+
+impl Model for Compact {
+    ghost use Rattle.gt_audit.specs.declared.record.Record.{Record};
+
+    ghost Value = { Record };
+
+    ghost use Rattle.gt_audit.specs.Compact.{Fits, record_of};
+
+    ghost view = { λ c. record_of c.parts };
+
+    ghost invariant = { λ c. Fits c.parts };
+}
+
+impl Compact {
+    ghost use Rattle.std.specs.Prelude.{◌≡◌};
+
+    /// The record, to be kept.
+    #[inline(always)]
+    pub(crate) fn of(told: Record) -> Compact
+        ensures { result ≡ told }
+    {
+        let rest = Packed {
+            caller: told.dom.0,
+            ..BLANK
+        };
+        Compact {
+            parts: with_call(told.call, with_reply(told.reply, rest)),
+        }
+    }
+
+    /// The record that is kept.
+    pub(crate) fn record(&self) -> Record
+        ensures { result ≡ self.now }
+    {
+        Record {
+            dom: DomId(self.parts.caller),
+            call: called(&self.parts),
+            reply: replied(&self.parts),
+        }
+    }
+}

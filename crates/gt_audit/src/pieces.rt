@@ -1,0 +1,268 @@
+//! A list of records that grows by pieces. A record stays where it was put.
+ghost use Rattle.std.specs.Prelude.{◌≡◌, ◌<◌, ◌≤◌, ◌+◌, ◌++◌, ◌∷◌, [], IfOk, OnErr, OnOk, length, slice_index_or};
+ghost use Rattle.gt_audit.specs.Pieces.{AreFilled, Extends, HasRoomAt, joined, room_of};
+
+use crate::compact::Compact;
+use crate::record::{Hypercall, Record, Reply};
+use gt_types::DomId;
+use std::alloc::{AllocError, Global};
+use std::marker::Model;
+
+/// How many records a piece has room for: it takes 12 KiB.
+pub(crate) const PIECE: usize = 256;
+
+// What room for records is filled with while it is made.
+const BLANK: Record = Record {
+    dom: DomId(0),
+    call: Hypercall::Unmap { subject: None },
+    reply: Reply::Done,
+};
+
+// Some records, and room for the others of a piece.
+#[derive(Drop)]
+struct Piece {
+    records: Vec<Compact>,
+}
+
+impl Model for Piece {
+    ghost use Rattle.std.specs.Prelude.{◌≡◌, ◌≤◌, List, length, vec_capacity};
+    ghost use Rattle.gt_audit.specs.declared.record.Record.{Record};
+
+    ghost Value = { List Record };
+
+    ghost view = { λ p. p.records.items };
+
+    ghost invariant = { λ p. (vec_capacity p.records ≡ 256) × (length p.records.items ≤ 256) };
+}
+
+impl Piece {
+    ghost use Rattle.std.specs.Prelude.{◌≡◌, ◌<◌, ◌≤◌, ◌==◌, ◌++◌, ◌∷◌, [], IfOk, length, slice_get};
+    ghost use Rattle.gt_audit.specs.declared.pieces.TheConstants.{PIECE};
+
+    fn new(alloc: Global) -> Result<Piece, AllocError>
+        ensures { IfOk result (λ p. p ≡ []) }
+    {
+        Ok(Piece {
+            records: Vec::with_capacity(alloc, PIECE)?,
+        })
+    }
+
+    // A piece whose room was written once.
+    fn written(alloc: Global) -> Result<Piece, AllocError>
+        ensures { IfOk result (λ p. p ≡ []) }
+    {
+        let mut piece = Piece::new(alloc)?;
+        'room: for _ in 0..PIECE {
+            if !piece.is_full() {
+                piece.push(BLANK);
+            }
+        }
+        piece.clear();
+        Ok(piece)
+    }
+
+    fn is_full(&self) -> bool
+        ensures full { result ≡ (length self.now == PIECE) }
+        ensures most { length self.now ≤ PIECE }
+    {
+        self.records.len() == PIECE
+    }
+
+    fn push(&mut self, told: Record)
+        requires { length self.old < PIECE }
+        ensures { self.new ≡ self.old ++ told ∷ [] }
+    {
+        self.records.push_reserved(Compact::of(told));
+    }
+
+    fn clear(&mut self)
+        ensures { self.new ≡ [] }
+    {
+        self.records.clear();
+    }
+
+    fn get(&self, index: usize) -> Option<Record>
+        ensures { result ≡ slice_get self.now index }
+    {
+        match self.records.get(index) {
+            Some(kept) => Some(kept.record()),
+            None => None,
+        }
+    }
+}
+
+// Adds a piece with no records.
+#[cold]
+fn add_piece(alloc: Global, pieces: &mut Vec<Piece>) -> Result<(), AllocError>
+    ensures added { OnOk result (pieces.new.items ≡ pieces.old.items ++ [] ∷ []) }
+    ensures kept { OnErr result (pieces.new.items ≡ pieces.old.items) }
+{
+    let piece = Piece::new(alloc)?;
+    pieces.push(piece)?;
+    Ok(())
+}
+
+// Adds a piece with no records, whose room was written once.
+fn add_written(alloc: Global, pieces: &mut Vec<Piece>) -> Result<(), AllocError>
+    ensures added { OnOk result (pieces.new.items ≡ pieces.old.items ++ [] ∷ []) }
+    ensures kept { OnErr result (pieces.new.items ≡ pieces.old.items) }
+{
+    let piece = Piece::written(alloc)?;
+    pieces.push(piece)?;
+    Ok(())
+}
+
+// Adds so many of them; fewer if memory is refused.
+fn add_pieces(alloc: Global, pieces: &mut Vec<Piece>, count: usize) -> Result<(), AllocError>
+    ensures same { Extends pieces.old.items pieces.new.items }
+    ensures added { OnOk result (length pieces.new.items ≡ length pieces.old.items + count) }
+{
+    'added: for _ in 0..count {
+        match add_written(alloc, pieces) {
+            Ok(()) => {}
+            Err(refused) => return Err(refused),
+        }
+    }
+    Ok(())
+}
+
+// The place of the first piece that has room; how many there are, if none has.
+#[inline(always)]
+fn place_of_room(pieces: &[Piece], at: usize) -> usize
+    requires { AreFilled at pieces.now }
+    ensures filled { AreFilled result pieces.now }
+    ensures room { result < length pieces.now → length (slice_index_or pieces.now result []) < 256 }
+{
+    if at < pieces.len() && pieces[at].is_full() {
+        at + 1
+    } else {
+        at
+    }
+}
+
+// The place of the first piece that has room. It is added if there is none.
+#[inline(always)]
+fn make_room(alloc: Global, pieces: &mut Vec<Piece>, at: usize) -> Result<usize, AllocError>
+    requires { AreFilled at pieces.old.items }
+    ensures place { IfOk result (λ n. HasRoomAt n pieces.new.items) }
+    ensures records { joined pieces.new.items ≡ joined pieces.old.items }
+    ensures grows { length pieces.old.items ≤ length pieces.new.items }
+    ensures refused { OnErr result (pieces.new.items ≡ pieces.old.items) }
+    ensures no_room { OnErr result (room_of pieces.old.items ≡ 0) }
+{
+    let place = place_of_room(pieces, at);
+    if place < pieces.len() {
+        return Ok(place);
+    }
+    match add_piece(alloc, pieces) {
+        Ok(()) => Ok(place),
+        Err(refused) => Err(refused),
+    }
+}
+
+// Puts a record into the piece that has room.
+#[inline(always)]
+fn put(pieces: &mut Vec<Piece>, at: usize, told: Record)
+    requires { HasRoomAt at pieces.old.items }
+    ensures filled { AreFilled at pieces.new.items }
+    ensures records { joined pieces.new.items ≡ joined pieces.old.items ++ told ∷ [] }
+    ensures len { length pieces.new.items ≡ length pieces.old.items }
+{
+    pieces[at].push(told);
+}
+
+// Lets the records of all pieces go.
+fn empty(pieces: &mut Vec<Piece>)
+    ensures filled { AreFilled 0 pieces.new.items }
+    ensures records { joined pieces.new.items ≡ [] }
+    ensures len { length pieces.new.items ≡ length pieces.old.items }
+{
+    'pieces: for place in 0..pieces.len() {
+        pieces[place].clear();
+    }
+}
+
+/// Records in order, by pieces: those before the one at `at` are full, and those after it have none.
+#[derive(Drop)]
+pub(crate) struct Pieces {
+    alloc: Global,
+    pieces: Vec<Piece>,
+    at: usize,
+}
+
+impl Model for Pieces {
+    ghost use Rattle.gt_audit.specs.Pieces.{Filling};
+
+    ghost Value = { Filling };
+
+    ghost use Rattle.gt_audit.specs.Pieces.{AreFilled, filling_of};
+
+    ghost view = { λ p. filling_of p.pieces.items };
+
+    ghost invariant = { λ p. AreFilled p.at p.pieces.items };
+}
+
+impl Pieces {
+    ghost use Rattle.std.specs.Prelude.{◌≡◌, ◌≤◌, ◌+◌, ◌++◌, ◌∷◌, [], OnErr, OnOk, slice_get};
+
+    /// No records. It takes no memory.
+    pub(crate) fn new(alloc: Global) -> Pieces
+        ensures records { result.records ≡ [] }
+        ensures room { result.room ≡ 0 }
+    {
+        Pieces {
+            alloc,
+            pieces: Vec::new(alloc),
+            at: 0,
+        }
+    }
+
+    /// Appends a record. None of the others is moved.
+    #[inline(always)]
+    pub(crate) fn push(&mut self, told: Record) -> Result<(), AllocError>
+        ensures kept { OnOk result (self.new.records ≡ self.old.records ++ told ∷ []) }
+        ensures refused { OnErr result (self.new.records ≡ self.old.records) }
+        ensures no_room { OnErr result (self.old.room ≡ 0) }
+        ensures room { self.old.room ≤ self.new.room + 1 }
+    {
+        self.at = make_room(self.alloc, &mut self.pieces, self.at)?;
+        put(&mut self.pieces, self.at, told);
+        Ok(())
+    }
+
+    /// The record at this place.
+    pub(crate) fn get(&self, index: usize) -> Option<Record>
+        ensures { result ≡ slice_get self.now.records index }
+    {
+        let place = index / PIECE;
+        if place < self.pieces.len() {
+            self.pieces[place].get(index % PIECE)
+        } else {
+            None
+        }
+    }
+
+    /// Lets all records go, and keeps their room.
+    pub(crate) fn clear(&mut self)
+        ensures records { self.new.records ≡ [] }
+        ensures room { self.old.room ≤ self.new.room }
+    {
+        empty(&mut self.pieces);
+        self.at = 0;
+    }
+
+    /// Makes room for so many more records, and writes it once.
+    pub(crate) fn reserve(&mut self, records: usize) -> Result<(), AllocError>
+        ensures records { self.new.records ≡ self.old.records }
+        ensures grows { self.old.room ≤ self.new.room }
+        ensures room { OnOk result (records ≤ self.new.room) }
+    {
+        let ahead = self.pieces.len() - self.at;
+        let wanted = records / PIECE + 2;
+        add_pieces(
+            self.alloc,
+            &mut self.pieces,
+            wanted.saturating_sub(ahead),
+        )
+    }
+}
