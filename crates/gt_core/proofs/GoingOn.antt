@@ -5,7 +5,23 @@ use Rattle.gt_frames.specs.declared.places.FrameCount.{FrameCount}
 use Rattle.gt_calls.specs.Asking.{FitsAsked, given_by, judged_as}
 use Rattle.gt_calls.proofs.Advancing.{continues, opens as starts-open}
 use Rattle.gt_calls.specs.declared.call.Start.TheVariants.{Open as StartOpen}
-use Rattle.gt_core.specs.GoingOn.{AnsweredSo, CallsCanBegin, IsOnWords, IsReached, MayBeGiven, OpenCallsCanGoOn, RunsStart, begin_answer, beginning, step_after}
+use Rattle.gt_core.specs.GoingOn.{AccessAnsweredSo, AnsweredSo, CallsCanBegin, IsAccess, IsOnWords, IsReached, MayBeGiven, OpenCallsCanAccess, OpenCallsCanGoOn, RunsStart, TellsAccess, begin_answer, beginning, step_after}
+use Rattle.std.proofs.Common.{◌+◌, ◌-◌, ◌≤◌, arith, drop, length-drop, slice_range, take}
+use Rattle.std.proofs.lemmas.Bool.Decides.{nat_tests}
+use Rattle.std.proofs.lemmas.List.{length-take-le}
+use Rattle.gt_types.specs.declared.limits.TheConstants.{FRAME_SIZE}
+use Rattle.gt_calls.specs.declared.action.Place.{Place}
+use Rattle.gt_frames.specs.Bytes.{Patch, written}
+use Rattle.gt_frames.specs.Frames.{bytes_at, contents}
+use Rattle.gt_frames.specs.Sets.{admits, frame_at, has_range}
+use Rattle.gt_frames.specs.declared.places.FrameName.{FrameName}
+use Rattle.gt_frames.specs.declared.writ.Writ.{Writ}
+use Rattle.gt_core.proofs.Steps.Write.{open-admitted}
+use Rattle.gt_core.proofs.Writing.{can-write}
+use Rattle.gt_core.specs.Accesses.{IsAdmitted, ground_of, name_of, route_of}
+use Rattle.gt_core.specs.History.{contents_at}
+use Rattle.gt_core.specs.declared.trace.Answer.TheVariants.{Bytes as BytesAnswer}
+use Rattle.gt_core.specs.declared.trace.Bytes.{Bytes}
 use Rattle.gt_core.specs.Standing.{answer_of, IsOpened}
 use Rattle.gt_core.specs.declared.core_state.Begun.TheVariants.{Open as BegunOpen, Done as BegunDone}
 use Rattle.gt_core.proofs.{Beginning.begin-answers, Beginning.begin-opened, Beginning.not-done, Beginning.opened, Keeping.known-same, Performing.kept-part, Performing.stepped-state, Playing.core-starts, Playing.legal-grows, Starting.get-replicate, Rows.found, Rows.has_id, Rows.not-found, Rows.state_of-set, Steps.Observers.stepped, Steps.Write.frames-begun, Steps.Write.frames-start, Stepping.Begins, Stepping.tick-does, Ticking.Ticks, Ticking.ticks, Values.call-ends, Beginning.place-at}
@@ -111,15 +127,25 @@ no-bytes-changed x call (WriteBytes dom frame off len) fs quiet = absurd quiet
 no-bytes-changed x call (CopyBytes from to len) fs quiet = absurd quiet
 no-bytes-changed x call step fs quiet = refl
 
-closes : (fs : FrameSet) (xs : List State) (at : ℕ) (d : State) (step : Step) → IsOnWords step → Closed fs xs at d step AnswerDone (set xs at (with_underway None d))
-closes fs xs at d (ReadBytes dom frame off len) quiet = absurd quiet
-closes fs xs at d step quiet = (refl, refl)
+-- what a call is told in these frames that is over with this step
+abbrev IsToldBy : FrameSet → Step → Answer → Type 0
+IsToldBy fs (ReadBytes dom frame off len) answer = (b : Bytes) × (answer ≡ BytesAnswer b) × (b.bytes.items ≡ bytes_at (frame_at fs (record { owner = dom; number = frame })) off len)
+IsToldBy fs step answer = answer ≡ AnswerDone
+
+closes : (fs : FrameSet) (xs : List State) (at : ℕ) (d : State) (step : Step) (answer : Answer) → IsToldBy fs step answer → Closed fs xs at d step answer (set xs at (with_underway None d))
+closes fs xs at d (ReadBytes dom frame off len) answer told = (told.0, told.1, refl, told.2)
+closes fs xs at d step answer told = (told, refl)
+
+told-words : (fs : FrameSet) (step : Step) → IsOnWords step → IsToldBy fs step AnswerDone
+told-words fs (ReadBytes dom frame off len) quiet = absurd quiet
+told-words fs step quiet = refl
 
 -- how the call is answered in a state, whose mappings are kept so
-abbrev EndsIn : State → Action → Option Answer → Type 0
-EndsIn x (Makes next) answer = answer ≡ None
-EndsIn x (Done (KeptPin held)) answer = (handle : Handle) × (answer ≡ Some (Mapped handle)) × ((new : HandleMap Held) × Adds x.mappings new handle held)
-EndsIn x (Done verdict) answer = answer ≡ Some (answer_of verdict)
+abbrev EndsIn : FrameSet → Step → State → Action → Option Answer → Type 0
+EndsIn fs step x (Makes next) answer = answer ≡ None
+EndsIn fs step x (Done (KeptPin held)) answer = (handle : Handle) × (answer ≡ Some (Mapped handle)) × ((new : HandleMap Held) × Adds x.mappings new handle held)
+EndsIn fs step x (Done Granted) answer = (z : Answer) × (answer ≡ Some z) × IsToldBy fs step z
+EndsIn fs step x (Done verdict) answer = answer ≡ Some (answer_of verdict)
 
 -- what the step gives
 abbrev Gives : Setting → History → DomId → Step → Option Answer → Type 0
@@ -141,7 +167,7 @@ goes-then s xs x o = continues (knowledge_of s.domains s.first_generation s.may 
 
 module _ (s : Setting) (h : History) (xs : List State) (fs : FrameSet) (x : State) (o : Open) (c : Underway) (action : Action) (answer : Option Answer)
     (st : CoreStands s h (core_of xs fs)) (named : domain_of s.domains x.id ≢ None) (here : state_of xs x.id.0 ≡ Some x) (a : Agrees s h x) (under : x.underway ≡ Some o) (call : open_call h x.id.0 ≡ Some c)
-    (stands : OpenAgrees s h x.id o c) (quiet : IsOnWords o.step) (next : path (known_at s h x.id) x.id c.request (values c ++ seen_by s h x.id o.step ∷ []) ≡ Some action) (ends : EndsIn x action answer) where
+    (stands : OpenAgrees s h x.id o c) (gs : FrameSet) (wrote : AccessedBy x o.call o.step fs gs) (next : path (known_at s h x.id) x.id c.request (values c ++ seen_by s h x.id o.step ∷ []) ≡ Some action) (ends : EndsIn gs o.step x action answer) where
   ticked : (sees xs x.id o.step ≡ seen_by s h x.id o.step) × Ticks s h xs x o c (call_then s xs x o) (action_then s xs x o)
   ticked = ticks s h xs x o c (sees xs x.id o.step) (call_then s xs x o) (action_then s xs x o) st.legal st.domains here a call stands refl refl refl (goes-then s xs x o)
 
@@ -149,10 +175,10 @@ module _ (s : Setting) (h : History) (xs : List State) (fs : FrameSet) (x : Stat
   same-action = same_Some _ _ (sym ticked.1.on.follows ∙ next)
 
   -- what is left of the states
-  left-by : (at : ℕ) (y : State) → slice_get xs at ≡ Some x → slice_get (applied x.id o.step (sees xs x.id o.step) xs) at ≡ Some y → (z : Action) → action_then s xs x o ≡ z → EndsIn x z answer
-      → (ys : List State) × Settled fs (applied x.id o.step (sees xs x.id o.step) xs) at y o.step (call_then s xs x o) z answer ys
+  left-by : (at : ℕ) (y : State) → slice_get xs at ≡ Some x → slice_get (applied x.id o.step (sees xs x.id o.step) xs) at ≡ Some y → (z : Action) → action_then s xs x o ≡ z → EndsIn gs o.step x z answer
+      → (ys : List State) × Settled gs (applied x.id o.step (sees xs x.id o.step) xs) at y o.step (call_then s xs x o) z answer ys
   left-by at y was now (Makes z) e end = (set (applied x.id o.step (sees xs x.id o.step) xs) at (with_underway (Some (record { call = call_then s xs x o; step = z })) y), (end, refl))
-  left-by at y was now (Done Granted) e end = (set (applied x.id o.step (sees xs x.id o.step) xs) at (with_underway None y), (AnswerDone, end, closes fs (applied x.id o.step (sees xs x.id o.step) xs) at y o.step quiet))
+  left-by at y was now (Done Granted) e (z, is, told) = (set (applied x.id o.step (sees xs x.id o.step) xs) at (with_underway None y), (z, is, closes gs (applied x.id o.step (sees xs x.id o.step) xs) at y o.step z told))
   left-by at y was now (Done (KeptPin held)) e (handle, is, (new, adds)) =
       let pin : o.step ≡ PinStep held = (call-ends s h xs x.id c.request (values c) (reverse c.steps) ticked.1.stands.phase o.step ticked.1.i (KeptPin held) (sym ticked.1.acts ∙ e)).is in
       let same : y.mappings ≡ x.mappings = kept-part (λ (z : State). z.mappings) x.id (PinStep held) (sees xs x.id o.step) xs at x y (λ z r n. refl) was
@@ -169,12 +195,12 @@ module _ (s : Setting) (h : History) (xs : List State) (fs : FrameSet) (x : Stat
   goes-on-at = let saw = sees xs x.id o.step in let ws = applied x.id o.step saw xs in
       let p = placed xs x.id.0 x here in let y = stepped-state x.id o.step saw xs p.0 x p.1 in
       let was : slice_get xs p.0 ≡ Some x = place-at xs x.id.0 p.0 x p.1 p.2 in
-      let l = left-by p.0 y.0 was y.1 (action_then s xs x o) refl (subst (λ (z : Action). EndsIn x z answer) (sym same-action) ends) in
+      let l = left-by p.0 y.0 was y.1 (action_then s xs x o) refl (subst (λ (z : Action). EndsIn gs o.step x z answer) (sym same-action) ends) in
       let b : Begins s xs x.id p.0 x o saw (call_then s xs x o) (action_then s xs x o) = record { place = p.1; here = p.2; under = under; saw = refl; caller = refl; asks = refl; goes = goes-then s xs x o } in
-      let does = tick-does s fs fs fs xs l.0 x.id p.0 x o saw (call_then s xs x o) (action_then s xs x o) answer (ticked_with o.step saw answer) refl b (no-bytes-changed x o.call o.step fs quiet)
-      (λ d there. subst (λ (z : State). Settled fs ws p.0 z o.step (call_then s xs x o) (action_then s xs x o) answer l.0) (same_Some y.0 d (sym y.1 ∙ there)) l.1) refl h st in
-      let r = subst (λ (z : Element). MayDo s h (Tick x.id) z × CoreStands s (grown h z) (core_of l.0 fs)) (element-of saw answer) does in
-      subst (λ (v : Seen). IsRight s h (stepped x.id o.step v answer) × IsReached s (stepped x.id o.step v answer ∷ h)) ticked.0 (r.0.2, (core_of l.0 fs, r.1))
+      let does = tick-does s fs gs gs xs l.0 x.id p.0 x o saw (call_then s xs x o) (action_then s xs x o) answer (ticked_with o.step saw answer) refl b wrote
+      (λ d there. subst (λ (z : State). Settled gs ws p.0 z o.step (call_then s xs x o) (action_then s xs x o) answer l.0) (same_Some y.0 d (sym y.1 ∙ there)) l.1) refl h st in
+      let r = subst (λ (z : Element). MayDo s h (Tick x.id) z × CoreStands s (grown h z) (core_of l.0 gs)) (element-of saw answer) does in
+      subst (λ (v : Seen). IsRight s h (stepped x.id o.step v answer) × IsReached s (stepped x.id o.step v answer ∷ h)) ticked.0 (r.0.2, (core_of l.0 gs, r.1))
 
 -- the states with other handles for the same mappings of one domain
 
@@ -220,12 +246,97 @@ module _ (s : Setting) (h : History) (core : CoreState) (c : Underway) (step : S
       by o under stands quiet next (Done (KeptPin held)) e (handle, is, may) = let p = placed core.domains x.id.0 x here in
           let r = rehandled s h core.domains x p.0 may.old st.domains p.1 p.2 here named a may.agrees in
           goes-on-at s h (set core.domains p.0 (record x { mappings = may.old })) core.frames (record x { mappings = may.old }) o c action answer (record { legal = st.legal; domains = r.0; frames = st.frames })
-          named r.1 r.2 under call stands quiet next (subst (λ (w : Action). EndsIn (record x { mappings = may.old }) w answer) (sym e) (handle, is, (may.new, may.adds)))
-      by o under stands quiet next (Makes z) e end = goes-on-at s h core.domains core.frames x o c action answer st named here a under call stands quiet next (subst (λ (w : Action). EndsIn x w answer) (sym e) end)
-      by o under stands quiet next (Done Granted) e end = goes-on-at s h core.domains core.frames x o c action answer st named here a under call stands quiet next (subst (λ (w : Action). EndsIn x w answer) (sym e) end)
-      by o under stands quiet next (Done (Given value)) e end = goes-on-at s h core.domains core.frames x o c action answer st named here a under call stands quiet next (subst (λ (w : Action). EndsIn x w answer) (sym e) end)
-      by o under stands quiet next (Done (Refused denial)) e end = goes-on-at s h core.domains core.frames x o c action answer st named here a under call stands quiet next (subst (λ (w : Action). EndsIn x w answer) (sym e) end)
+          named r.1 r.2 under call stands core.frames (no-bytes-changed (record x { mappings = may.old }) o.call o.step core.frames quiet) next (subst (λ (w : Action). EndsIn core.frames o.step (record x { mappings = may.old }) w answer) (sym e) (handle, is, (may.new, may.adds)))
+      by o under stands quiet next (Makes z) e end = goes-on-at s h core.domains core.frames x o c action answer st named here a under call stands core.frames (no-bytes-changed x o.call o.step core.frames quiet) next (subst (λ (w : Action). EndsIn core.frames o.step x w answer) (sym e) end)
+      by o under stands quiet next (Done Granted) e end = goes-on-at s h core.domains core.frames x o c action answer st named here a under call stands core.frames (no-bytes-changed x o.call o.step core.frames quiet) next (subst (λ (w : Action). EndsIn core.frames o.step x w answer) (sym e) (AnswerDone, end, told-words core.frames o.step quiet))
+      by o under stands quiet next (Done (Given value)) e end = goes-on-at s h core.domains core.frames x o c action answer st named here a under call stands core.frames (no-bytes-changed x o.call o.step core.frames quiet) next (subst (λ (w : Action). EndsIn core.frames o.step x w answer) (sym e) end)
+      by o under stands quiet next (Done (Refused denial)) e end = goes-on-at s h core.domains core.frames x o c action answer st named here a under call stands core.frames (no-bytes-changed x o.call o.step core.frames quiet) next (subst (λ (w : Action). EndsIn core.frames o.step x w answer) (sym e) end)
 
 pub open-calls-can-go-on : OpenCallsCanGoOn
 open-calls-can-go-on s h d c step action answer (core, st) named call way quiet next so = let t = there s h core.domains d st.domains named in
     subst (λ (z : DomId). Needs s h core c step action answer st quiet z → Gives s h z step answer) t.2 (goes-on-home s h core c step action answer st quiet t.0 (ap (λ (z : DomId). state_of core.domains z.0) t.2 ∙ t.1) t.3) (named, call, way, next, so)
+
+-- an access
+
+-- the writ of the domain's call
+abbrev writ_of : State → Call → Writ
+writ_of x call = record { writer = call.caller; basis = ground_of (route_of x.mappings call) }
+
+seen-nothing : (s : Setting) (h : History) (d : DomId) (step : Step) → IsAccess step → seen_by s h d step ≡ Nothing
+seen-nothing s h d (ReadBytes dom frame off len) is = refl
+seen-nothing s h d (WriteBytes dom frame off len) is = refl
+seen-nothing s h d (CopyBytes from to len) is = refl
+seen-nothing s h d step is = absurd is
+
+module _ (s : Setting) (h : History) (fs : FrameSet) (fr : FramesStand s h fs) where
+  -- a frame holds what the history says
+  holds : (name : FrameName) → contents (frame_at fs name) ≡ contents_at h name.owner.0 name.number
+  holds name = ap (λ (ps : List Patch). written ps) (fr.writes name)
+
+  filled : (name : FrameName) → length (contents (frame_at fs name)) ≡ FRAME_SIZE
+  filled name = ap (λ (bytes : List ℕ). length bytes) (holds name) ∙ fr.filled name.owner.0 name.number
+
+  module _ (x : State) (call : Call) where
+    -- the access is made, and the call goes on or is told so
+    abbrev Made : Step → Action → Option Answer → Type 0
+    Made step action answer = (gs : FrameSet) × AccessedBy x call step fs gs × EndsIn gs step x action answer
+
+    read-ends : (dom : DomId) (frame off len : ℕ) (action : Action) (answer : Option Answer) → AccessAnsweredSo h (ReadBytes dom frame off len) action answer → EndsIn fs (ReadBytes dom frame off len) x action answer
+    read-ends dom frame off len (Makes next) answer so = so
+    read-ends dom frame off len (Done Granted) answer (z, is, told) = (z, is, (told.0, told.1, told.2 ∙ ap (λ (bytes : List ℕ). slice_range bytes off (off + len)) (sym (holds (record { owner = dom; number = frame })))))
+    read-ends dom frame off len (Done (Given value)) answer so = absurd so
+    read-ends dom frame off len (Done (KeptPin held)) answer so = absurd so
+    read-ends dom frame off len (Done (Refused denial)) answer so = absurd so
+
+    write-ends : (gs : FrameSet) (dom : DomId) (frame off len : ℕ) (action : Action) (answer : Option Answer) → AccessAnsweredSo h (WriteBytes dom frame off len) action answer → EndsIn gs (WriteBytes dom frame off len) x action answer
+    write-ends gs dom frame off len (Makes next) answer so = so
+    write-ends gs dom frame off len (Done Granted) answer so = so
+    write-ends gs dom frame off len (Done (Given value)) answer so = absurd so
+    write-ends gs dom frame off len (Done (KeptPin held)) answer so = absurd so
+    write-ends gs dom frame off len (Done (Refused denial)) answer so = absurd so
+
+    copy-ends : (gs : FrameSet) (from to : Place) (len : ℕ) (action : Action) (answer : Option Answer) → AccessAnsweredSo h (CopyBytes from to len) action answer → EndsIn gs (CopyBytes from to len) x action answer
+    copy-ends gs from to len (Makes next) answer so = so
+    copy-ends gs from to len (Done Granted) answer so = so
+    copy-ends gs from to len (Done (Given value)) answer so = absurd so
+    copy-ends gs from to len (Done (KeptPin held)) answer so = absurd so
+    copy-ends gs from to len (Done (Refused denial)) answer so = absurd so
+
+    -- so many bytes of a range that is there
+    long : (from : Place) (len : ℕ) → IsTrue (has_range fs (name_of from) from.off len) → length (bytes_at (frame_at fs (name_of from)) from.off len) ≡ len
+    long from len is = let full = filled (name_of from) in let fits : from.off + len ≤ FRAME_SIZE = grind (arith, nat_tests) in
+        let xs : List ℕ = contents (frame_at fs (name_of from)) in let left = length-drop from.off xs in
+        let e : from.off + len - from.off ≡ len = omega arith in
+        ap (λ (n : ℕ). length (take n (drop from.off xs))) e ∙ length-take-le len (drop from.off xs) (omega (arith, full, left, fits))
+
+    can-access : (step : Step) (action : Action) (answer : Option Answer) → IsAccess step → IsAdmitted fs x call step → AccessAnsweredSo h step action answer → Made step action answer
+    can-access (ReadBytes dom frame off len) action answer is may so = (fs, refl, read-ends dom frame off len action answer so)
+    can-access (WriteBytes dom frame off len) action answer is may so =
+        let name : FrameName = record { owner = dom; number = frame } in let w : Writ = writ_of x call in
+        let z = can-write fs name w off x.given (may w (refl, refl)) fr.kept (filled name) in
+        (z.0, (w, (refl, refl), z.1, z.2), write-ends z.0 dom frame off len action answer so)
+    can-access (CopyBytes from to len) action answer is may so =
+        let w : Writ = writ_of x call in let ys : List ℕ = bytes_at (frame_at fs (name_of from)) from.off len in
+        let here : IsTrue (admits fs (name_of to) w to.off (length ys)) = subst (λ (n : ℕ). IsTrue (admits fs (name_of to) w to.off n)) (sym (long from len may.0)) (may.1 w (refl, refl)) in
+        let z = can-write fs (name_of to) w to.off ys here fr.kept (filled (name_of to)) in
+        (z.0, (w, (refl, refl), z.1, z.2), copy-ends z.0 from to len action answer so)
+    can-access step action answer is may so = absurd is
+
+module _ (s : Setting) (h : History) (core : CoreState) (c : Underway) (step : Step) (action : Action) (answer : Option Answer) (st : CoreStands s h core) (access : IsAccess step) where
+  -- what the call of a domain needs, to make its access so
+  abbrev Comes : DomId → Type 0
+  Comes d = (domain_of s.domains d ≢ None) × (open_call h d.0 ≡ Some c) × (path (known_at s h d) d c.request (values c) ≡ Some (Makes step))
+      × (path (known_at s h d) d c.request (values c ++ Nothing ∷ []) ≡ Some action) × AccessAnsweredSo h step action answer
+
+  accesses-home : (x : State) → state_of core.domains x.id.0 ≡ Some x → Agrees s h x → Comes x.id → Gives s h x.id step answer
+  accesses-home x here a (named, call, way, next, so) = let u = opened-by s h x.id x.underway (open_call h x.id.0) c a.call call in let o = u.0 in
+      let same : o.step ≡ step = same-step o.step step (same_Some (Makes o.step) (Makes step) (sym u.2.follows ∙ way)) in
+      let admitted : IsAdmitted core.frames x o.call o.step = open-admitted s h core.domains core.frames x o c st.domains st.frames a call u.2 in
+      let m = can-access s h core.frames st.frames x o.call o.step action answer (subst IsAccess (sym same) access) admitted (subst (λ (z : Step). AccessAnsweredSo h z action answer) (sym same) so) in
+      let next' : path (known_at s h x.id) x.id c.request (values c ++ seen_by s h x.id o.step ∷ []) ≡ Some action =
+      ap (λ (v : Seen). path (known_at s h x.id) x.id c.request (values c ++ v ∷ [])) (seen-nothing s h x.id o.step (subst IsAccess (sym same) access)) ∙ next in
+      subst (λ (z : Step). Gives s h x.id z answer) same (goes-on-at s h core.domains core.frames x o c action answer st named here a u.1 call u.2 m.0 m.1 next' m.2)
+
+pub open-calls-can-access : OpenCallsCanAccess
+open-calls-can-access s h d c step action answer (core, st) named call way access next so = let t = there s h core.domains d st.domains named in
+    subst (λ (z : DomId). Comes s h core c step action answer st access z → Gives s h z step answer) t.2 (accesses-home s h core c step action answer st access t.0 (ap (λ (z : DomId). state_of core.domains z.0) t.2 ∙ t.1) t.3) (named, call, way, next, so)

@@ -4,6 +4,7 @@ pub mod Beginning
 pub mod EachStep
 pub mod Entries
 pub mod Given
+pub mod Writing
 pub mod GoingOn
 pub mod Keeping
 pub mod Legs

@@ -1,5 +1,5 @@
 -- Every legal history can go on: what a run may begin with, and what each of its domains may do next.
-use Rattle.std.specs.Prelude.{◌≡◌, ◌≢◌, Bool, [], ◌∷◌, Option, Some, None}
+use Rattle.std.specs.Prelude.{◌≡◌, ◌≢◌, ◌+◌, Bool, [], ◌∷◌, Option, Some, None, slice_range}
 use Rattle.gt_types.specs.Config.{IsWithinLimits}
 use Rattle.gt_types.specs.Names.{domain_of}
 use Rattle.gt_types.specs.declared.DomId.{DomId}
@@ -15,17 +15,20 @@ use Rattle.gt_calls.specs.declared.action.Action.TheVariants.{Step as Makes, Don
 use Rattle.gt_calls.specs.declared.action.Step.{Step}
 use Rattle.gt_calls.specs.declared.action.Step.TheVariants.{Read as ReadBytes, Write as WriteBytes, Copy as CopyBytes}
 use Rattle.gt_calls.specs.declared.action.Verdict.{Verdict}
-use Rattle.gt_calls.specs.declared.action.Verdict.TheVariants.{Mapped as KeptPin}
+use Rattle.gt_calls.specs.declared.action.Seen.TheVariants.{Nothing}
+use Rattle.gt_calls.specs.declared.action.Verdict.TheVariants.{Granted, Mapped as KeptPin}
 use Rattle.gt_calls.specs.declared.held.Held.{Held}
 use Rattle.gt_calls.specs.declared.request.Request.{Request}
 use Rattle.gt_core.specs.Effects.{Adds}
-use Rattle.gt_core.specs.History.{History, Setting, Underway, known_at, mappings_at, maps_answered_at, open_call}
+use Rattle.gt_core.specs.History.{History, Setting, Underway, contents_at, known_at, mappings_at, maps_answered_at}
+use Rattle.gt_core.specs.History.{open_call}
 use Rattle.gt_core.specs.History.{seen_by, table_at, values}
 use Rattle.gt_core.specs.Legal.{IsRight, next_in}
 use Rattle.gt_core.specs.Standing.{CoreStands, MappingsAgree, answer_of, setting_of}
 use Rattle.gt_core.specs.States.{CoreState}
 use Rattle.gt_core.specs.declared.trace.Answer.{Answer}
-use Rattle.gt_core.specs.declared.trace.Answer.TheVariants.{Mapped}
+use Rattle.gt_core.specs.declared.trace.Answer.TheVariants.{Bytes as BytesAnswer, Done as AnswerDone, Mapped}
+use Rattle.gt_core.specs.declared.trace.Bytes.{Bytes}
 use Rattle.gt_core.specs.declared.trace.Happened.TheVariants.{Began, Stepped}
 use Rattle.gt_core.specs.declared.trace.Item.{Item}
 
@@ -89,4 +92,34 @@ OpenCallsCanGoOn =
     → IsReached s h → domain_of s.domains d ≢ None → open_call h d.0 ≡ Some c
     → path (known_at s h d) d c.request (values c) ≡ Some (Makes step) → IsOnWords step
     → next_in s h d c (seen_by s h d step) ≡ Some action → AnsweredSo h d action answer
+    → let i = step_after s h d step answer in IsRight s h i × IsReached s (i ∷ h)
+
+-- the step is an access to bytes
+abbrev pub IsAccess : Step → Type 0
+IsAccess (ReadBytes dom frame off len) = Unit {0}
+IsAccess (WriteBytes dom frame off len) = Unit {0}
+IsAccess (CopyBytes from to len) = Unit {0}
+IsAccess step = ⊥
+
+-- what a call is told that is over with its access: the bytes that the range held, if that was a read
+abbrev pub TellsAccess : History → Step → Answer → Type 0
+TellsAccess h (ReadBytes dom frame off len) answer =
+    (b : Bytes) × (answer ≡ BytesAnswer b)
+    × (b.bytes.items ≡ slice_range (contents_at h dom.0 frame) off (off + len))
+TellsAccess h step answer = answer ≡ AnswerDone
+
+-- how a call is answered that comes to this after its access: not yet, if it goes on; else so
+abbrev pub AccessAnsweredSo : History → Step → Action → Option Answer → Type 0
+AccessAnsweredSo h step (Makes next) answer = answer ≡ None
+AccessAnsweredSo h step (Ends Granted) answer = (z : Answer) × (answer ≡ Some z) × TellsAccess h step z
+AccessAnsweredSo h step (Ends verdict) answer = ⊥
+
+-- each open call that comes to an access can make it, and then comes to what its path gives: that is right, and a core
+-- stands for it
+abbrev pub OpenCallsCanAccess : Type 0
+OpenCallsCanAccess =
+    (s : Setting) (h : History) (d : DomId) (c : Underway) (step : Step) (action : Action) (answer : Option Answer)
+    → IsReached s h → domain_of s.domains d ≢ None → open_call h d.0 ≡ Some c
+    → path (known_at s h d) d c.request (values c) ≡ Some (Makes step) → IsAccess step
+    → next_in s h d c Nothing ≡ Some action → AccessAnsweredSo h step action answer
     → let i = step_after s h d step answer in IsRight s h i × IsReached s (i ∷ h)

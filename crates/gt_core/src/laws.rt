@@ -3,7 +3,7 @@
 ghost use Rattle.gt_core.specs.Alike.{bare_handle, IsKnown, AreAlike, IsOfKnown, SameElement, SameEvent};
 ghost use Rattle.std.specs.Prelude.{◌≡◌, ℕ};
 ghost use Rattle.gt_types.specs.declared.DomId.{DomId};
-ghost use Rattle.gt_core.specs.GoingOn.{CallsCanBegin, OpenCallsCanGoOn, RunsStart};
+ghost use Rattle.gt_core.specs.GoingOn.{CallsCanBegin, OpenCallsCanAccess, OpenCallsCanGoOn, RunsStart};
 ghost use Rattle.gt_core.specs.History.{History, Setting};
 ghost use Rattle.gt_core.specs.Legal.{MayDo, grown};
 ghost use Rattle.gt_core.specs.Shown.{shown_at};
@@ -73,4 +73,10 @@ pub fn every_call_can_begin()
 /// After each history that a core stands for, each open call can make its next step, if that is on words.
 pub fn every_open_call_can_go_on()
     ensures { OpenCallsCanGoOn }
+{}
+
+/// After each history that a core stands for, each open call that comes to an access to bytes can make it. A read is told
+/// the bytes that the range held.
+pub fn every_open_call_can_access()
+    ensures { OpenCallsCanAccess }
 {}

@@ -34,7 +34,7 @@ pub use gt_calls::{
 pub use laws::{
     every_alike_event_does_one_thing, every_alike_run_shows_one_thing, every_call_can_begin,
     every_event_does_one_thing, every_known_handle_has_one_subject,
-    every_legal_trace_is_a_legal_history, every_open_call_can_go_on,
+    every_legal_trace_is_a_legal_history, every_open_call_can_access, every_open_call_can_go_on,
     every_page_taken_back_is_out_of_reach, every_run_can_start, no_pin_outlives_its_record,
 };
 pub use trace::{Answer, Bytes, Element, Event, Happened, Item, Trace};
