@@ -1,7 +1,9 @@
 #!/usr/bin/env bash
 # bench/c.sh [LISTS [SEED]]: builds the static library for C, and tries it in C, C++ and Rust.
 #
-#   header    gthost.h compiles as C99 and C++, and says what the exports say (bench/header.py)
+#   header    gthost.h compiles as C99 and C++, and says what the exports say (bench/header.py); the proofs of the
+#             exports are those that bench/walks.py writes
+#   vmm       the program of crates/gt_c/README.md, linked as pkg-config says
 #   smoke     each answer of a short run is as the rules give it; each call of a handle of no domain
 #   memory    which calls take memory, and each allocation of a start failing in turn
 #   blk       the split block driver of examples/blk, with its hostile back end (where Xen's headers are installed)
@@ -28,6 +30,7 @@ if [ -z "$library" ]; then
   ./bench/library.sh "$library" >"$work/log" 2>&1 || { cat "$work/log"; exit 1; }
 fi
 archive="$library/libgthost.a"
+python3 bench/walks.py --check
 xen=no
 ! printf '#include <xen/io/blkif.h>\n' | "${CC:-cc}" -include stdint.h -include string.h -E - >/dev/null 2>&1 || xen=yes
 
@@ -53,6 +56,14 @@ headers() {
   ! command -v "$cxx" >/dev/null || "$cxx" "${warnings[@]}" -I"$library" -c "$work/only.cpp" -o "$work/only.o"
   python3 bench/header.py >"$work/header.c"
   "$1" -std=c11 "${warnings[@]}" -I"$library" -c "$work/header.c" -o "$work/header.o"
+}
+
+vmm() {
+  local flags=("-I$library" "$archive")
+  ! command -v pkg-config >/dev/null || read -ra flags <<<"$(PKG_CONFIG_PATH="$library" pkg-config --cflags --libs gthost)"
+  awk '/^```c$/ { inside = 1; next } /^```$/ { inside = 0 } inside' crates/gt_c/README.md >"$work/vmm.c"
+  "$1" -std=c99 "${warnings[@]}" "$work/vmm.c" "${flags[@]}" -o "$work/vmm"
+  "$work/vmm"
 }
 
 programs=(smoke memory threads)
@@ -85,6 +96,7 @@ run_all() {
 for compiler in ${CC:-gcc clang}; do
   command -v "$compiler" >/dev/null || continue
   headers "$compiler"
+  vmm "$compiler"
   run_all "$compiler" plain -O2
   ! has "$compiler" address,undefined || run_all "$compiler" address -g -O1 -fsanitize=address,undefined -fno-sanitize-recover=all
   ! has "$compiler" thread || run_all "$compiler" thread -g -O1 -fsanitize=thread
