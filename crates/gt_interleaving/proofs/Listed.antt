@@ -33,7 +33,7 @@ use Rattle.gt_order.proofs.Order.{runs-have-legal-orders}
 use Rattle.gt_order.specs.Calling.{IsOutcomeOf, StaysOf, WasMade}
 use Rattle.gt_order.specs.Leaving.{MayUnmapAll}
 use Rattle.gt_order.specs.Runs.{AreCalls, CallMade, FitsTypes, IsAtRest, IsRun, IsSeatRun, KeepsNoPin, Outcome as CallOutcome, SeatRun, domain_after}
-use Rattle.gt_order.specs.Runs.Outcome.{Told, Kept, Starved}
+use Rattle.gt_order.specs.Runs.Outcome.{Told, Kept, Starved, Wrote}
 use Rattle.gt_lines.specs.declared.calls.AccessCall.{AccessCall}
 use Rattle.gt_lines.specs.declared.calls.AccessCall.TheVariants as accesses
 use Rattle.gt_lines.specs.declared.calls.ScriptCall.{ScriptCall}
@@ -124,9 +124,11 @@ map-same : (r : Result Handle Denial) (outcome : CallOutcome) → IsOutcomeOf r 
 map-same (Ok handle) (Kept given p) e = ap (λ (h : Handle). answers.Mapped h) (sym e)
 map-same (Ok handle) (Told verdict) e = absurd e
 map-same (Ok handle) Starved e = absurd e
+map-same (Ok handle) Wrote e = absurd e
 map-same (Err denial) (Kept given p) e = absurd e
 map-same (Err denial) (Told verdict) e = sym (ap answer_of e)
 map-same (Err denial) Starved e = ap (λ (d : Denial). answers.Denied d) e
+map-same (Err denial) Wrote e = absurd e
 
 module _ {P : Type 0} (may : P → AllowRelation) (m : Monitor P) where
   -- a call that was answered so is one of a run

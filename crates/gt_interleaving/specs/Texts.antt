@@ -24,7 +24,7 @@ use Rattle.gt_live.specs.declared.monitor.Monitor.{Monitor}
 use Rattle.gt_order.specs.Leaving.{AreUnmaps, MayUnmapAll}
 use Rattle.gt_order.specs.Ordering.{IsLegalOrder}
 use Rattle.gt_order.specs.Runs.{CallMade, FitsTypes, Outcome as CallOutcome, SeatRun}
-use Rattle.gt_order.specs.Runs.Outcome.{Told, Kept, Starved}
+use Rattle.gt_order.specs.Runs.Outcome.{Told, Kept, Starved, Wrote}
 use Rattle.gt_lines.specs.declared.calls.AccessCall.{AccessCall}
 use Rattle.gt_lines.specs.declared.calls.AccessCall.TheVariants as accesses
 use Rattle.gt_lines.specs.declared.calls.ScriptCall.{ScriptCall}
@@ -59,6 +59,7 @@ abbrev pub IsAnswerOf : CallOutcome → Answer → Type 0
 IsAnswerOf (Told verdict) answer = answer ≡ answer_of verdict
 IsAnswerOf (Kept handle p) answer = answer ≡ answers.Mapped handle
 IsAnswerOf Starved answer = answer ≡ answers.Denied (denial_of N26 NoFacts)
+IsAnswerOf Wrote answer = answer ≡ answers.Done
 
 -- the call m of a run is the one that a line of the duty's list made, and what came of that: its domain was asked what
 -- the line says, by what its labels stood for then, and its answer is what the line prints

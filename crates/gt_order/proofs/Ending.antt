@@ -35,7 +35,9 @@ use Rattle.gt_calls.specs.Standing.{pins_at}
 use Rattle.gt_calls.specs.Rules.{CallerKnowledge, begun, denied, first, knowledge_of, map_begun, map_dir, refused_when, rights_to_map, rights_to_unmap, unmap_begun, unmap_denied}
 use Rattle.gt_calls.specs.declared.action.Action.TheVariants.{Step as Makes, Done}
 use Rattle.gt_calls.specs.declared.action.Seen.{Seen}
+use Rattle.gt_calls.specs.declared.action.Seen.TheVariants.{Nothing}
 use Rattle.gt_calls.specs.declared.action.Step.{Step}
+use Rattle.gt_calls.specs.declared.action.Step.TheVariants.{Write as WriteBytes}
 use Rattle.gt_calls.specs.declared.action.Verdict.{Verdict}
 use Rattle.gt_calls.specs.declared.action.Verdict.TheVariants.{Mapped as KeptPin, Refused}
 use Rattle.gt_calls.specs.declared.held.Held.{Held}
@@ -52,7 +54,7 @@ use Rattle.gt_core.specs.GoingOn.{IsReached}
 use Rattle.gt_core.specs.History.{History as Items, Setting, Underway, known_at, maps_answered_at, mappings_at, one_if_mapped, open_call, seen_by, table_at, underway_after, values}
 use Rattle.gt_core.specs.Standing.{MappingsAgree, answer_of, setting_of}
 use Rattle.gt_core.specs.declared.trace.Answer.{Answer}
-use Rattle.gt_core.specs.declared.trace.Answer.TheVariants.{Mapped}
+use Rattle.gt_core.specs.declared.trace.Answer.TheVariants.{Done as AnswerDone, Mapped}
 use Rattle.gt_core.specs.declared.trace.Happened.TheVariants.{Stepped}
 use Rattle.gt_core.specs.declared.trace.Item.{Item}
 use Rattle.gt_live.specs.Domains.{AllowRelation, IsDomainOf, knowledge}
@@ -70,7 +72,7 @@ use Rattle.gt_order.proofs.Stepping.{state-there}
 use Rattle.gt_order.specs.Agreeing.{Agree, dom_at}
 use Rattle.gt_order.specs.Ordering.{item_of, item_of_beginning, items_by, items_by_outcome, items_of_call, items_of_calls, items_of_steps, step_in, way_of}
 use Rattle.gt_order.specs.Runs.{CallMade, IsAtRest, IsCall, LeavesMappings, domain_after}
-use Rattle.gt_order.specs.Runs.Outcome.{Told, Kept, Starved}
+use Rattle.gt_order.specs.Runs.Outcome.{Told, Kept, Starved, Wrote}
 
 -- what answers a call at its beginning
 
@@ -339,4 +341,20 @@ module _ (b : Board) (c : Config) (may : AllowRelation) (limits : IsWithinLimits
         maps = maps;
         known = stays-known g (item ∷ g) h D m.new reached agree call.afterwards (view ∙ ap (λ (z : SeatOf). z.view) rest.seat) at first-is steps seat.known (kept-table s item g d refl) maps;
         call = closed g item (answer_of verdict) refl refl;
+      }
+
+  -- it was a store or a poke, and wrote
+  pub wrote : (g : Items) (h : History) (ms : List CallMade) (m : CallMade) (dom : DomId) (frame off len : ℕ) → let item : Item = record { actor = d; happened = Stepped (WriteBytes dom frame off len) Nothing; answer = Some AnswerDone } in
+      IsReached s (item ∷ g) → Agree s k (item ∷ g) h → IsCall b c may m → m.outcome ≡ Wrote → way_of c may m [] ≡ Some (Makes (WriteBytes dom frame off len)) → m.new.seat.view ≡ m.old.seat.view → KeepsMappings m.old.mappings m.new.mappings
+      → m.old.seat.view.position ≡ i → m.old.seat.view.first ≡ k.first → m.old.seat.view.steps ≡ part_of i h → SeatNow c may g d first (Going ms m []) → SeatNow c may (item ∷ g) d first (Resting (m ∷ ms))
+  wrote g h ms m dom frame off len reached agree call out next view keeps at first-is steps seat =
+      let item : Item = record { actor = d; happened = Stepped (WriteBytes dom frame off len) Nothing; answer = Some AnswerDone } in
+      let own : KeepsOwn s g d item = keeps-own s g d item (λ r. refl) refl refl (maps-quiet g d _ (record { changes = λ z. refl; pins = λ before ps. refl; unpins = λ ps. refl })) in
+      let maps = handles-kept m.old.mappings m.new.mappings _ _ keeps (mappings-same _ _ _ _ _ (sym own.mappings) (sym own.answered) seat.maps) in
+      let tail : List Item = item_of_beginning d m.request None ∷ items_of_calls c may d ms in record {
+        items = own-items item g refl ∙ (ap (λ (z : List Item). item ∷ z) seat.items ∙ ((λ j. record { actor = d; happened = Stepped (step_in (sym next j)) Nothing; answer = Some AnswerDone } ∷ tail)
+            ∙ (λ j. items_by_outcome d (way_of c may m) m.request (sym out j) m.steps ++ items_of_calls c may d ms)));
+        maps = maps;
+        known = stays-known g (item ∷ g) h m.old m.new reached agree call.afterwards view at first-is steps seat.known (kept-table s item g d refl) maps;
+        call = closed g item AnswerDone refl refl;
       }

@@ -15,3 +15,4 @@ pub mod Ending
 pub mod Order
 pub mod Called
 pub mod Leaving
+pub mod Writes

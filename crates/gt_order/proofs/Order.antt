@@ -1,5 +1,5 @@
 -- Each run of the monitor has a legal order: by its history, from the newest step back.
-use Rattle.std.proofs.Common.{◌≡◌, ◌≢◌, ℕ, zero, suc, ◌<◌, ◌≤◌, Bool, cond, ◌==◌, List, [], ◌∷◌, ◌++◌, length, Option, Some, None, sym, refl, ap, ◌∙◌, subst, arith, ◌⊎◌, inl, inr, eq-eqb, ne_eqb}
+use Rattle.std.proofs.Common.{◌≡◌, ◌≢◌, ℕ, zero, suc, ◌<◌, ◌≤◌, Bool, true, false, cond, ◌==◌, List, [], ◌∷◌, ◌++◌, length, Option, Some, None, sym, refl, ap, ◌∙◌, subst, arith, ◌⊎◌, inl, inr, eq-eqb, ne_eqb}
 use Rattle.std.proofs.lemmas.Bool.{cases_eq, cases_lt}
 use Rattle.std.specs.Prelude.{IsSome}
 use Rattle.gt_types.specs.Config.{IsWithinLimits}
@@ -23,32 +23,40 @@ use Rattle.gt_calls.specs.declared.action.Action.TheVariants.{Step as Makes, Don
 use Rattle.gt_calls.specs.declared.action.Verdict.{Verdict}
 use Rattle.gt_calls.specs.declared.action.Verdict.TheVariants.{Granted, Given, Mapped as KeptPin, Refused}
 use Rattle.gt_calls.specs.declared.request.Request.{Request}
-use Rattle.gt_core.proofs.GoingOn.{calls-can-begin}
+use Rattle.gt_calls.specs.declared.action.Seen.{Seen}
+use Rattle.gt_calls.specs.declared.action.Seen.TheVariants.{Nothing}
+use Rattle.gt_calls.specs.declared.action.Step.{Step}
+use Rattle.gt_calls.specs.declared.action.Step.TheVariants.{Write as WriteBytes}
+use Rattle.gt_core.proofs.GoingOn.{calls-can-begin, open-calls-can-access}
+use Rattle.gt_core.proofs.Words.{fun_ext}
+use Rattle.gt_core.specs.declared.trace.Happened.TheVariants.{Stepped}
+use Rattle.gt_core.specs.declared.trace.Item.{Item}
+use Rattle.gt_live.specs.Mappings.{KeepsMappings}
 use Rattle.gt_core.proofs.Steps.Observers.{stepped}
 use Rattle.gt_core.specs.GoingOn.{AnsweredSo, IsReached, MayBeGiven, begin_answer, beginning}
 use Rattle.gt_core.specs.History.{History as Items, Setting, known_at, seen_by, table_at, values}
 use Rattle.gt_core.specs.Legal.{IsRight}
 use Rattle.gt_core.specs.Standing.{answer_of, setting_of}
-use Rattle.gt_core.specs.declared.trace.Answer.TheVariants.{Mapped}
+use Rattle.gt_core.specs.declared.trace.Answer.TheVariants.{Done as AnswerDone, Mapped}
 use Rattle.gt_live.proofs.Walking.{after-position}
 use Rattle.gt_live.specs.Domains.{AllowRelation, knowledge}
 use Rattle.gt_live.specs.Starting.{IsNewDomain}
 use Rattle.gt_live.specs.Walks.{IsWalk, MakesStep, after, shown, shown_by, shown_in}
 use Rattle.gt_live.specs.declared.domain.Domain.{Domain}
 use Rattle.gt_order.proofs.Bytes.{said}
-use Rattle.gt_order.proofs.Ending.{RefusesOnly, answered-at-once, answers, asked-refuses, begins, core-adds, ends-kept, ends-told, going-on, keeps-at-once, known-alike, no-pin-at-once, starves}
-use Rattle.gt_order.proofs.Going.{goes-so, on-way, unanswered}
+use Rattle.gt_order.proofs.Ending.{RefusesOnly, answered-at-once, answers, asked-refuses, begins, core-adds, ends-kept, ends-told, going-on, keeps-at-once, known-alike, no-pin-at-once, starves, wrote}
+use Rattle.gt_order.proofs.Going.{goes-so, on-way, same-way, unanswered}
 use Rattle.gt_order.proofs.Making.{made-as, one-moment}
 use Rattle.gt_order.proofs.Resting.{can-be-answered, keeps-agreement}
 use Rattle.gt_order.proofs.Stages.{Fits, IsGoing, Ordered, SeatNow, Stage, one-more}
 use Rattle.gt_order.proofs.Stages.Stage.{Going, Resting}
 use Rattle.gt_order.proofs.Start.{ordered-first}
 use Rattle.gt_order.proofs.Stepping.{bounded-quiet, bounded-step}
-use Rattle.gt_order.specs.Agreeing.{dom_at}
+use Rattle.gt_order.specs.Agreeing.{IsThe, dom_at}
 use Rattle.gt_order.specs.Laws.{RunsHaveLegalOrders}
-use Rattle.gt_order.specs.Ordering.{IsLegalOrder, item_of_beginning, way_of}
-use Rattle.gt_order.specs.Runs.{AreCalls, CallMade, IsAnswered, IsAtRest, IsCall, KeepsNoPin, Outcome, TookSteps, domain_after}
-use Rattle.gt_order.specs.Runs.Outcome.{Told, Kept, Starved}
+use Rattle.gt_order.specs.Ordering.{AreStepsOf, IsLegalOrder, ThenStep, item_of_beginning, way_of}
+use Rattle.gt_order.specs.Runs.{AreCalls, CallMade, IsAnswered, IsAtRest, IsCall, IsWrite, KeepsNoPin, Outcome, TookSteps, domain_after}
+use Rattle.gt_order.specs.Runs.Outcome.{Told, Kept, Starved, Wrote}
 
 -- a stage in the place of another
 abbrev put : ℕ → Stage → (ℕ → Stage) → ℕ → Stage
@@ -77,6 +85,11 @@ module _ {A : Type 0} where
 
   no-head : (x : A) (xs : List A) → x ∷ xs ≡ [] → ⊥
   no-head x xs e = cc
+
+-- a step of the words is the newest one
+then-more : (k : Layout) (d : DomId) (i : ℕ) (step : Step) (seen : Seen) (x : SeatStep) (rest : History → Type 0) (h : History) → d ≡ dom_at k i → IsThe k i step x → seen ≡ shown_in x → rest h → ThenStep k d step seen rest ((i, x) ∷ h)
+then-more k d i (WriteBytes dom frame off len) seen x rest h own the shows r = absurd the
+then-more k d i step seen x rest h own the shows r = (own, the, shows, r)
 
 module _ (b : Board) (c : Config) (may : AllowRelation) (limits : IsWithinLimits c) (is : b.layout ≡ layout_of c) (firsts : ℕ → Domain) (new : (i : ℕ) → i < b.layout.domains → IsNewDomain b c may i (firsts i)) where
   abbrev k : Layout
@@ -161,6 +174,63 @@ module _ (b : Board) (c : Config) (may : AllowRelation) (limits : IsWithinLimits
   same-view request (Told verdict) steps D E a none = took-none request verdict steps D E a.1 none
   same-view request (Kept handle p) steps D E a none = took-none request (KeptPin p) steps D E a.1 none
   same-view request Starved steps D E a none = a.1
+  same-view request Wrote steps D E a none = a.1
+
+  -- the beginning of a call that is to make a step
+
+  begin-call : (h : History) (i : ℕ) (l : i < k.domains) (m : CallMade) (ms : List CallMade) (stages : ℕ → Stage) → stages i ≡ Going ms m [] → IsGoing b c may (firsts i) ms m [] → Ordered b c may h firsts (put i (Resting ms) stages) → Ordered b c may h firsts stages
+  begin-call h i l m ms stages e going o =
+      let d = dom_at k i in let call = going.call in let rest = going.rests in let at = placed i l ms going.calls in
+      let seat = subst (SeatNow c may o.g d (firsts i)) (put-here i (Resting ms) stages) (o.each i l) in
+      let known : known_at s o.g d ≡ knowledge c may m.old = seat.known ∙ sym (known-alike b c may limits is i l (firsts i) (named i l) (domain_after (firsts i) ms) m.old rest) in
+      let own : m.old.seat.dom ≡ d = sym call.before.seat.named ∙ ap (dom_at k) (ap (λ (z : SeatOf). z.view.position) rest.seat ∙ at.0) in
+      let none : begun_of (knowledge c may m.old) m.old.seat.dom m.request ≡ None = unanswered (begun_of (knowledge c may m.old) m.old.seat.dom m.request) (steps_of (knowledge c may m.old) m.old.seat.dom (asked m.request)) [] going.step going.next in
+      let here : begun_of (known_at s o.g d) d m.request ≡ None = (λ j. begun_of (known j) (sym own j) m.request) ∙ none in
+      let spelled : IsSaid (table_at s o.g d) m.request = subst (λ (z : CallerKnowledge). IsSaid z.header m.request) (sym known) (said (knowledge c may m.old) m.old.seat.dom m.request call.fits.1 none) in
+      let begun = calls-can-begin s o.g d m.request o.reached (named i l) seat.call call.fits.0 spelled in
+      let item = item_of_beginning d m.request None in
+      let right : IsRight s o.g item = subst (λ (z : Option Verdict). IsRight s o.g (beginning d m.request (begin_answer z))) here begun.0 in
+      let reached : IsReached s (item ∷ o.g) = subst (λ (z : Option Verdict). IsReached s (beginning d m.request (begin_answer z) ∷ o.g)) here begun.1 in
+      one-more b c may limits is h h firsts (put i (Resting ms) stages) stages i item o l refl (named i l) right reached
+      (keeps-agreement s k o.g h item (record { changes = λ z. refl; pins = λ before ps. refl; unpins = λ ps. refl }) refl (λ z half. refl) o.agree) o.steps (bounded-quiet k o.g item (record { changes = λ z. refl; pins = λ before ps. refl; unpins = λ ps. refl }) o.bounded)
+      (λ j n. sym (put-else i (Resting ms) stages j n))
+      (subst (SeatNow c may (item ∷ o.g) d (firsts i)) (sym e) (begins b c may limits is i l (firsts i) (named i l) o.g ms m rest seat))
+
+  -- a store or a poke, after the calls before it: its beginning, and its write
+
+  put-twice : (i : ℕ) (y z : Stage) (f : ℕ → Stage) → put i y (put i z f) ≡ put i y f
+  put-twice i y z f = fun_ext (λ j. both (i == j) (f j))
+    where
+      both : (t : Bool) (x : Stage) → cond t y (cond t z x) ≡ cond t y x
+      both true x = refl
+      both false x = refl
+
+  wrote-call : (h : History) (i : ℕ) (l : i < k.domains) (m : CallMade) (ms : List CallMade) (stages : ℕ → Stage) → stages i ≡ Resting (m ∷ ms) → m.outcome ≡ Wrote → AreCalls b c may (firsts i) (m ∷ ms) → m.new.seat.view ≡ m.old.seat.view
+      → KeepsMappings m.old.mappings m.new.mappings → (domain_after (firsts i) ms).seat.view.steps ≡ part_of i h → (access : Step) → IsWrite access → way_of c may m [] ≡ Some (Makes access) → way_of c may m (Nothing ∷ []) ≡ Some (Done Granted)
+      → Ordered b c may h firsts (put i (Resting ms) stages) → Ordered b c may h firsts stages
+  wrote-call h i l m ms stages e out calls view keeps steps (WriteBytes dom frame off len) writes next done o =
+      let d = dom_at k i in let call : IsCall b c may m = calls.0 in let rest = calls.1 in let at = placed i l ms calls.2 in
+      let access : Step = WriteBytes dom frame off len in
+      let going : IsGoing b c may (firsts i) ms m [] = record { calls = calls.2; rests = rest; call = call; walked = tt; step = access; next = next } in
+      let back : Ordered b c may h firsts (put i (Resting ms) (put i (Going ms m []) stages)) = subst (Ordered b c may h firsts) (sym (put-twice i (Resting ms) (Going ms m []) stages)) o in
+      let p = begin-call h i l m ms (put i (Going ms m []) stages) (put-here i (Going ms m []) stages) going back in
+      let seat = subst (SeatNow c may p.g d (firsts i)) (put-here i (Going ms m []) stages) (p.each i l) in
+      let own : m.old.seat.dom ≡ d = sym call.before.seat.named ∙ ap (dom_at k) (ap (λ (z : SeatOf). z.view.position) rest.seat ∙ at.0) in
+      let know = knowledge c may m.old in
+      let none : begun_of know m.old.seat.dom m.request ≡ None = unanswered (begun_of know m.old.seat.dom m.request) (steps_of know m.old.seat.dom (asked m.request)) [] access next in
+      let on : (vs : List Seen) → path (known_at s p.g d) d seat.call.0.request vs ≡ way_of c may m vs =
+      λ vs. (λ j. path (seat.known j) (sym own j) (seat.call.2 j) vs) ∙ same-way know m.old.seat.dom m.request none (said know m.old.seat.dom m.request call.fits.1) vs in
+      let comes : path (known_at s p.g d) d seat.call.0.request (values seat.call.0) ≡ Some (Makes access) = ap (path (known_at s p.g d) d seat.call.0.request) seat.call.3 ∙ (on [] ∙ next) in
+      let ends : path (known_at s p.g d) d seat.call.0.request (values seat.call.0 ++ Nothing ∷ []) ≡ Some (Done Granted) = (λ j. path (known_at s p.g d) d seat.call.0.request (seat.call.3 j ++ Nothing ∷ [])) ∙ (on (Nothing ∷ []) ∙ done) in
+      let made = open-calls-can-access s p.g d seat.call.0 access (Done Granted) (Some AnswerDone) p.reached (named i l) seat.call.1 comes tt ends (AnswerDone, refl, refl) in
+      let item : Item = record { actor = d; happened = Stepped (WriteBytes dom frame off len) Nothing; answer = Some AnswerDone } in
+      let agree = keeps-agreement s k p.g h item (record { changes = λ z. refl; pins = λ before ps. refl; unpins = λ ps. refl }) refl (λ z half. refl) p.agree in
+      let old-view = ap (λ (z : SeatOf). z.view) rest.seat in
+      one-more b c may limits is h h firsts (put i (Going ms m []) stages) stages i item p l refl (named i l) made.0 made.1 agree p.steps (bounded-quiet k p.g item (record { changes = λ z. refl; pins = λ before ps. refl; unpins = λ ps. refl }) p.bounded)
+      (λ j n. sym (put-else i (Going ms m []) stages j n))
+      (subst (SeatNow c may (item ∷ p.g) d (firsts i)) (sym e) (wrote b c may limits is i l (firsts i) (named i l) p.g h ms m dom frame off len made.1 agree call out next view keeps
+      (ap (λ (z : View). z.position) old-view ∙ at.0) (ap (λ (z : View). z.first) old-view ∙ at.1) (ap (λ (z : View). z.steps) old-view ∙ steps) seat))
+  wrote-call h i l m ms stages e out calls view keeps steps access writes next done o = absurd writes
 
   -- a call without a step, after those before it
 
@@ -213,6 +283,7 @@ module _ (b : Board) (c : Config) (may : AllowRelation) (limits : IsWithinLimits
           | inr n ↦ subst (SeatNow c may o.g (dom_at k j) (firsts j)) (sym (same j n)) (o.each j lj)
         ];
       }
+      by Wrote out a = wrote-call h i l m ms stages e out calls a.1 a.2 steps a.3.access a.3.writes a.3.next a.3.done o
       by (Kept handle p) out a = absurd (no-pin-at-once (asked m.request) p a.0 (subst (RefusesOnly (asked m.request)) (at-once (KeptPin p) a.1) (asked-refuses (knowledge c may m.old) m.old.seat.dom m.request)))
       by (Told verdict) out a =
           let op = at-once verdict a.1 in
@@ -224,26 +295,6 @@ module _ (b : Board) (c : Config) (may : AllowRelation) (limits : IsWithinLimits
           one-more b c may limits is h h firsts (put i (Resting ms) stages) stages i item o l refl (named i l) answered.0 answered.1 agree o.steps (bounded-quiet k o.g item (record { changes = λ z. refl; pins = λ before ps. refl; unpins = λ ps. refl }) o.bounded) same
           (subst (SeatNow c may (item ∷ o.g) d (firsts i)) (sym e) (answers b c may limits is i l (firsts i) (named i l) o.g h ms m verdict answered.1 agree call rest out none view keeps at.0 at.1 steps seat))
 
-  -- the beginning of a call that is to make a step
-
-  begin-call : (h : History) (i : ℕ) (l : i < k.domains) (m : CallMade) (ms : List CallMade) (stages : ℕ → Stage) → stages i ≡ Going ms m [] → IsGoing b c may (firsts i) ms m [] → Ordered b c may h firsts (put i (Resting ms) stages) → Ordered b c may h firsts stages
-  begin-call h i l m ms stages e going o =
-      let d = dom_at k i in let call = going.call in let rest = going.rests in let at = placed i l ms going.calls in
-      let seat = subst (SeatNow c may o.g d (firsts i)) (put-here i (Resting ms) stages) (o.each i l) in
-      let known : known_at s o.g d ≡ knowledge c may m.old = seat.known ∙ sym (known-alike b c may limits is i l (firsts i) (named i l) (domain_after (firsts i) ms) m.old rest) in
-      let own : m.old.seat.dom ≡ d = sym call.before.seat.named ∙ ap (dom_at k) (ap (λ (z : SeatOf). z.view.position) rest.seat ∙ at.0) in
-      let none : begun_of (knowledge c may m.old) m.old.seat.dom m.request ≡ None = unanswered (begun_of (knowledge c may m.old) m.old.seat.dom m.request) (steps_of (knowledge c may m.old) m.old.seat.dom (asked m.request)) [] going.step going.next in
-      let here : begun_of (known_at s o.g d) d m.request ≡ None = (λ j. begun_of (known j) (sym own j) m.request) ∙ none in
-      let spelled : IsSaid (table_at s o.g d) m.request = subst (λ (z : CallerKnowledge). IsSaid z.header m.request) (sym known) (said (knowledge c may m.old) m.old.seat.dom m.request call.fits.1 none) in
-      let begun = calls-can-begin s o.g d m.request o.reached (named i l) seat.call call.fits.0 spelled in
-      let item = item_of_beginning d m.request None in
-      let right : IsRight s o.g item = subst (λ (z : Option Verdict). IsRight s o.g (beginning d m.request (begin_answer z))) here begun.0 in
-      let reached : IsReached s (item ∷ o.g) = subst (λ (z : Option Verdict). IsReached s (beginning d m.request (begin_answer z) ∷ o.g)) here begun.1 in
-      one-more b c may limits is h h firsts (put i (Resting ms) stages) stages i item o l refl (named i l) right reached
-      (keeps-agreement s k o.g h item (record { changes = λ z. refl; pins = λ before ps. refl; unpins = λ ps. refl }) refl (λ z half. refl) o.agree) o.steps (bounded-quiet k o.g item (record { changes = λ z. refl; pins = λ before ps. refl; unpins = λ ps. refl }) o.bounded)
-      (λ j n. sym (put-else i (Resting ms) stages j n))
-      (subst (SeatNow c may (item ∷ o.g) d (firsts i)) (sym e) (begins b c may limits is i l (firsts i) (named i l) o.g ms m rest seat))
-
   -- a step of a call that goes on
 
   go-on : (i : ℕ) (l : i < k.domains) (ms : List CallMade) (m : CallMade) (xs : List Moment) (x : Moment) (stages : ℕ → Stage) → stages i ≡ Going ms m (x ∷ xs) → IsGoing b c may (firsts i) ms m (x ∷ xs) → Ordered b c may x.0 firsts (put i (Going ms m xs) stages)
@@ -253,7 +304,7 @@ module _ (b : Board) (c : Config) (may : AllowRelation) (limits : IsWithinLimits
       let at-old : m.old.seat.view.position ≡ i = ap (λ (z : SeatOf). z.view.position) going.rests.seat ∙ at.0 in
       let seat = subst (SeatNow c may o.g d (firsts i)) (put-here i (Going ms m xs) stages) (o.each i l) in
       let r = goes-so b c may limits is o.g i l m ms (firsts i) xs x call at-old (named i l) o.reached o.agree seat o.bounded going.walked.0 (Makes going.step) None going.next refl in
-      one-more b c may limits is x.0 ((i, x.1) ∷ x.0) firsts (put i (Going ms m xs) stages) stages i (stepped d r.step (shown_in x.1) None) o l refl (named i l) r.right r.reached r.agree (refl, r.the, refl, o.steps) (bounded-step k o.g d r.step (shown_in x.1) None r.inner o.bounded)
+      one-more b c may limits is x.0 ((i, x.1) ∷ x.0) firsts (put i (Going ms m xs) stages) stages i (stepped d r.step (shown_in x.1) None) o l refl (named i l) r.right r.reached r.agree (then-more k d i r.step (shown_in x.1) x.1 (AreStepsOf k o.g) x.0 refl r.the refl o.steps) (bounded-step k o.g d r.step (shown_in x.1) None r.inner o.bounded)
       (λ j n. sym (put-else i (Going ms m xs) stages j n))
       (subst (SeatNow c may (stepped d r.step (shown_in x.1) None ∷ o.g) d (firsts i)) (sym e) (going-on b c may limits is i l (firsts i) (named i l) o.g ms m xs x (after xs m.old.seat.view) (after (x ∷ xs) m.old.seat.view) call seat r))
 
@@ -301,10 +352,11 @@ module _ (b : Board) (c : Config) (may : AllowRelation) (limits : IsWithinLimits
 
       by : (out : Outcome) → m.outcome ≡ out → IsAnswered b c may m.request out m.steps m.old m.new → Ordered b c may ((i, x.1) ∷ x.0) firsts stages
       by Starved out a = absurd (no-head x xs (sym made ∙ a.0))
+      by Wrote out a = absurd (no-head x xs (sym made ∙ a.0))
       by (Told verdict) out a =
           let t = a.1 in
           let r = goes-so b c may limits is o.g i l m ms (firsts i) xs x call at-old (named i l) o.reached o.agree seat o.bounded (walk-of verdict t).0 (Done verdict) (Some (answer_of verdict)) (done-of verdict t) (answered-so o.g d verdict a.0) in
-          one-more b c may limits is x.0 ((i, x.1) ∷ x.0) firsts (put i (Going ms m xs) stages) stages i (stepped d r.step (shown_in x.1) (Some (answer_of verdict))) o l refl (named i l) r.right r.reached r.agree (refl, r.the, refl, o.steps) (bounded-step k o.g d r.step (shown_in x.1) (Some (answer_of verdict)) r.inner o.bounded) same
+          one-more b c may limits is x.0 ((i, x.1) ∷ x.0) firsts (put i (Going ms m xs) stages) stages i (stepped d r.step (shown_in x.1) (Some (answer_of verdict))) o l refl (named i l) r.right r.reached r.agree (then-more k d i r.step (shown_in x.1) x.1 (AreStepsOf k o.g) x.0 refl r.the refl o.steps) (bounded-step k o.g d r.step (shown_in x.1) (Some (answer_of verdict)) r.inner o.bounded) same
           (subst (SeatNow c may (stepped d r.step (shown_in x.1) (Some (answer_of verdict)) ∷ o.g) d (firsts i)) (sym e)
           (ends-told b c may limits is i l (firsts i) (named i l) o.g ms m xs x v w verdict call seat r made out a.2 at-v at-w (view-of verdict t) steps))
       by (Kept handle p) out a =
@@ -314,7 +366,7 @@ module _ (b : Board) (c : Config) (may : AllowRelation) (limits : IsWithinLimits
           let last : path (known_at s o.g d) d seat.call.0.request (values seat.call.0 ++ seen_by s o.g d r.step ∷ []) ≡ Some (Done (KeptPin p)) =
           on-way b c may limits is o.g i l m ms (firsts i) xs x call at-old (named i l) o.reached o.agree seat o.bounded (walk-of (KeptPin p) t).0 r.step r.next (values seat.call.0 ++ seen_by s o.g d r.step ∷ [])
           ∙ ((λ j. way_of c may m (seat.call.3 j ++ r.sees j ∷ [])) ∙ done-of (KeptPin p) t) in
-          one-more b c may limits is x.0 ((i, x.1) ∷ x.0) firsts (put i (Going ms m xs) stages) stages i (stepped d r.step (shown_in x.1) (Some (Mapped handle))) o l refl (named i l) r.right r.reached r.agree (refl, r.the, refl, o.steps) (bounded-step k o.g d r.step (shown_in x.1) (Some (Mapped handle)) r.inner o.bounded) same
+          one-more b c may limits is x.0 ((i, x.1) ∷ x.0) firsts (put i (Going ms m xs) stages) stages i (stepped d r.step (shown_in x.1) (Some (Mapped handle))) o l refl (named i l) r.right r.reached r.agree (then-more k d i r.step (shown_in x.1) x.1 (AreStepsOf k o.g) x.0 refl r.the refl o.steps) (bounded-step k o.g d r.step (shown_in x.1) (Some (Mapped handle)) r.inner o.bounded) same
           (subst (SeatNow c may (stepped d r.step (shown_in x.1) (Some (Mapped handle)) ∷ o.g) d (firsts i)) (sym e)
           (ends-kept b c may limits is i l (firsts i) (named i l) o.g ms m xs x v w handle p call seat r last made out a.2 at-v at-w (view-of (KeptPin p) t) steps))
 
@@ -358,6 +410,7 @@ module _ (b : Board) (c : Config) (may : AllowRelation) (limits : IsWithinLimits
 
           some-steps : (o : Outcome) → IsAnswered b c may m.request o m.steps m.old m.new → ⊥
           some-steps Starved a = no-head x xs (sym made ∙ a.0)
+          some-steps Wrote a = no-head x xs (sym made ∙ a.0)
           some-steps (Told verdict) a = view-then verdict a.1 ((subst (Fits b c may [] n (firsts n)) e (f n l)).steps)
           some-steps (Kept handle p) a = view-then (KeptPin p) a.1 ((subst (Fits b c may [] n (firsts n)) e (f n l)).steps)
 
@@ -420,6 +473,7 @@ module _ (b : Board) (c : Config) (may : AllowRelation) (limits : IsWithinLimits
 
           go : (o : Outcome) → IsAnswered b c may m.request o m.steps m.old m.new → Ordered b c may (p ∷ h) firsts st
           go Starved a = absurd (no-head x xs (sym made ∙ a.0))
+          go Wrote a = absurd (no-head x xs (sym made ∙ a.0))
           go (Told verdict) a = took verdict a.1
           go (Kept handle q) a = took (KeptPin q) a.1
 

@@ -1,5 +1,5 @@
 -- The contracts of the calls of a domain, clause by clause, say that each is a call of a run.
-use Rattle.std.specs.Prelude.{◌≡◌, ℕ, List, Result, Ok, Err, OnOk, OnErr}
+use Rattle.std.specs.Prelude.{◌≡◌, ℕ, List, [], Result, Ok, Err, OnOk, OnErr}
 use Rattle.gt_types.specs.Denial.{denial_of}
 use Rattle.gt_types.specs.declared.DomId.{DomId}
 use Rattle.gt_types.specs.declared.GrantRef.{GrantRef}
@@ -15,13 +15,15 @@ use Rattle.gt_calls.specs.declared.action.Verdict.TheVariants.{Refused}
 use Rattle.gt_calls.specs.declared.held.Held.{Held}
 use Rattle.gt_calls.specs.declared.request.Request.{Request}
 use Rattle.gt_calls.specs.declared.request.Request.TheVariants as requests
-use Rattle.gt_live.specs.Domains.{AllowRelation, Answered, IsOf, KeepsPinned, MapAnswered, verdict_of}
+use Rattle.gt_frames.specs.Receipts.{Writing}
+use Rattle.gt_live.specs.Accesses.{IsWrittenBy}
+use Rattle.gt_live.specs.Domains.{Accesses, AllowRelation, Answered, IsOf, KeepsPinned, MapAnswered, verdict_of}
 use Rattle.gt_live.specs.Ending.{IsOfMapping}
 use Rattle.gt_live.specs.Mappings.{Removes}
 use Rattle.gt_live.specs.declared.domain.Domain.{Domain}
 use Rattle.gt_live.specs.declared.monitor.Monitor.{Monitor}
 use Rattle.gt_order.specs.Runs.{FitsTypes, IsCall, KeepsNoPin, Outcome}
-use Rattle.gt_order.specs.Runs.Outcome.{Told, Kept, Starved}
+use Rattle.gt_order.specs.Runs.Outcome.{Told, Kept, Starved, Wrote}
 
 -- the domain d of the monitor m asked this, with these steps and this outcome, after which it is e: a call of a run
 abbrev pub WasMade : {P : Type 0} → (P → AllowRelation) → Monitor P → Request → Outcome → List Moment → Domain → Domain
@@ -65,3 +67,16 @@ MapsAreMade may m =
     → MapAnswered may m d (requests.Map dom gref flags) result e
     → (outcome : Outcome) × IsOutcomeOf result outcome
     × ((steps : List Moment) × WasMade may m (requests.Map dom gref flags) outcome steps d e)
+
+-- the request is a store or a poke
+abbrev pub IsStoring : Request → Type 0
+IsStoring (requests.Store handle off bytes) = Unit {0}
+IsStoring (requests.Poke frame off bytes) = Unit {0}
+IsStoring request = ⊥
+
+-- a store or a poke that is Ok: it wrote, and made no step on the words
+abbrev pub WritesAreMade : {P : Type 0} → (P → AllowRelation) → Monitor P → Type 0
+WritesAreMade may m =
+    (d e : Domain) (request : Request) (bytes : List ℕ) (r : Writing) → StaysOf may m d e → IsStoring request
+    → Accesses may m d request (IsWrittenBy d.seat.dom bytes) (Ok r) e → KeepsPinned d e
+    → WasMade may m request Wrote [] d e

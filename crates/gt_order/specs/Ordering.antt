@@ -8,14 +8,15 @@ use Rattle.gt_calls.specs.declared.action.Action.{Action}
 use Rattle.gt_calls.specs.declared.action.Action.TheVariants.{Step as Makes}
 use Rattle.gt_calls.specs.declared.action.Seen.{Seen}
 use Rattle.gt_calls.specs.declared.action.Step.{Step}
-use Rattle.gt_calls.specs.declared.action.Step.TheVariants.{LookHeader}
+use Rattle.gt_calls.specs.declared.action.Seen.TheVariants.{Nothing}
+use Rattle.gt_calls.specs.declared.action.Step.TheVariants.{LookHeader, Write as WriteBytes}
 use Rattle.gt_calls.specs.declared.request.Request.{Request}
 use Rattle.gt_core.specs.GoingOn.{IsReached}
 use Rattle.gt_core.specs.History.{History as Items}
 use Rattle.gt_core.specs.Legal.{Legal}
 use Rattle.gt_core.specs.Standing.{answer_of, setting_of}
 use Rattle.gt_core.specs.declared.trace.Answer.{Answer}
-use Rattle.gt_core.specs.declared.trace.Answer.TheVariants.{Mapped as MappedAnswer}
+use Rattle.gt_core.specs.declared.trace.Answer.TheVariants.{Done as AnswerDone, Mapped as MappedAnswer}
 use Rattle.gt_core.specs.declared.trace.Element.{Element}
 use Rattle.gt_core.specs.declared.trace.Element.TheVariants.{Item as Did}
 use Rattle.gt_core.specs.declared.trace.Event.{Event}
@@ -27,15 +28,24 @@ use Rattle.gt_live.specs.Domains.{AllowRelation, knowledge}
 use Rattle.gt_live.specs.Walks.{shown, shown_by, shown_in}
 use Rattle.gt_order.specs.Agreeing.{IsThe, dom_at}
 use Rattle.gt_order.specs.Runs.{CallMade, Outcome, SeatRun}
-use Rattle.gt_order.specs.Runs.Outcome.{Told, Kept, Starved}
+use Rattle.gt_order.specs.Runs.Outcome.{Told, Kept, Starved, Wrote}
 
--- the steps among the items are those of the history, one by one in the same order, each by its seat's domain, and it
--- saw what the history's step shows
+-- the step on the words is the last one of the history, by its seat's domain, and it saw what that shows
+abbrev pub IsNewest : Layout → DomId → Step → Seen → (History → Type 0) → History → Type 0
+IsNewest k d step seen rest [] = ⊥
+IsNewest k d step seen rest (p ∷ h) =
+    (d ≡ dom_at k p.0) × IsThe k p.0 step p.1 × (seen ≡ shown_in p.1) × rest h
+
+-- a write is none of the words' steps, and each other step is
+abbrev pub ThenStep : Layout → DomId → Step → Seen → (History → Type 0) → History → Type 0
+ThenStep k d (WriteBytes dom frame off len) seen rest h = rest h
+ThenStep k d step seen rest h = IsNewest k d step seen rest h
+
+-- the steps on the words among the items are those of the history, one by one in the same order, each by its seat's
+-- domain, and it saw what the history's step shows
 abbrev pub ThenSteps : Layout → DomId → Happened → (History → Type 0) → History → Type 0
 ThenSteps k d (Began request) rest h = rest h
-ThenSteps k d (Stepped step seen) rest [] = ⊥
-ThenSteps k d (Stepped step seen) rest (p ∷ h) =
-    (d ≡ dom_at k p.0) × IsThe k p.0 step p.1 × (seen ≡ shown_in p.1) × rest h
+ThenSteps k d (Stepped step seen) rest h = ThenStep k d step seen rest h
 
 abbrev pub AreStepsOf : Layout → Items → History → Type 0
 AreStepsOf k [] h = h ≡ []
@@ -73,10 +83,18 @@ abbrev pub answer_to : Outcome → Option Answer
 answer_to (Told verdict) = Some (answer_of verdict)
 answer_to (Kept handle p) = Some (MappedAnswer handle)
 answer_to Starved = None
+answer_to Wrote = Some AnswerDone
 
--- the items of a call with this outcome: none of one that was refused for want of memory
+-- the item of the one step of a call that is Ok after it, which shows nothing
+abbrev pub item_of_access : DomId → Continuation → Item
+item_of_access d way =
+    record { actor = d; happened = Stepped (step_in (way [])) Nothing; answer = Some AnswerDone }
+
+-- the items of a call with this outcome: none of one that was refused for want of memory, and of one that wrote its
+-- beginning and its write
 abbrev pub items_by_outcome : DomId → Continuation → Request → Outcome → List Moment → List Item
 items_by_outcome d way request Starved steps = []
+items_by_outcome d way request Wrote steps = item_of_access d way ∷ item_of_beginning d request None ∷ []
 items_by_outcome d way request outcome steps = items_of_call d way request (answer_to outcome) steps
 
 -- the way of a call

@@ -13,9 +13,13 @@ use Rattle.gt_words.specs.declared.view.View.{View}
 use Rattle.gt_handles.specs.Handles.{HandleMap}
 use Rattle.gt_handles.specs.declared.handles.Handle.{Handle}
 use Rattle.gt_calls.specs.Asking.{FitsAsked, asked, bytes_of}
-use Rattle.gt_calls.specs.Path.{path_of}
+use Rattle.gt_calls.specs.Path.{Continuation, path_of}
+use Rattle.gt_calls.specs.declared.action.Action.TheVariants.{Step as Makes, Done}
+use Rattle.gt_calls.specs.declared.action.Seen.TheVariants.{Nothing}
+use Rattle.gt_calls.specs.declared.action.Step.{Step}
+use Rattle.gt_calls.specs.declared.action.Step.TheVariants.{Write as WriteBytes}
 use Rattle.gt_calls.specs.declared.action.Verdict.{Verdict}
-use Rattle.gt_calls.specs.declared.action.Verdict.TheVariants.{Mapped, Refused}
+use Rattle.gt_calls.specs.declared.action.Verdict.TheVariants.{Granted, Mapped, Refused}
 use Rattle.gt_calls.specs.declared.held.Held.{Held}
 use Rattle.gt_calls.specs.declared.request.Asked.{Asked}
 use Rattle.gt_calls.specs.declared.request.Asked.TheVariants as asks
@@ -27,11 +31,13 @@ use Rattle.gt_live.specs.Starting.{IsNewDomain}
 use Rattle.gt_live.specs.Walks.{Called}
 use Rattle.gt_live.specs.declared.domain.Domain.{Domain}
 
--- how a call was answered: as its path ends, by a mapping under a handle, or by a refusal for want of memory
+-- how a call was answered: as its path ends, by a mapping under a handle, by a refusal for want of memory, or by Ok
+-- after it wrote the bytes that it was given
 pub data Outcome : Type 0 where
   Told : Verdict → Outcome
   Kept : Handle → Held → Outcome
   Starved : Outcome
+  Wrote : Outcome
 
 -- a finished call of a domain: what it asked, how it was answered, the steps that it made, each with its moment and the
 -- last one first, and the domain before it and after it
@@ -60,7 +66,20 @@ TookSteps b c may request verdict steps d e =
     (called : Called b.layout (path_of (knowledge c may d) d.seat.dom request) verdict d.seat.view e.seat.view)
     × (called.steps ≡ steps)
 
--- the call was answered as its path ends; one that is refused for want of memory made no step
+-- the step writes bytes that its call was given
+abbrev pub IsWrite : Step → Type 0
+IsWrite (WriteBytes dom frame off len) = Unit {0}
+IsWrite step = ⊥
+
+-- a store or a poke: its path has one step, which writes, and ends with Ok
+pub record WritesOnce (way : Continuation) : Type 0 where
+  pub access : Step
+  pub writes : IsWrite access
+  pub next : way [] ≡ Some (Makes access)
+  pub done : way (Nothing ∷ []) ≡ Some (Done Granted)
+
+-- the call was answered as its path ends; one that is refused for want of memory made no step, and neither did one that
+-- wrote, on the words
 abbrev pub IsAnswered : Board → Config → AllowRelation → Request → Outcome → List Moment → Domain → Domain → Type 0
 IsAnswered b c may request (Told verdict) steps d e =
     KeepsNoPin verdict × TookSteps b c may request verdict steps d e
@@ -69,6 +88,9 @@ IsAnswered b c may request (Kept handle p) steps d e =
     IsMap (asked request) × TookSteps b c may request (Mapped p) steps d e × Adds d.mappings e.mappings handle p
 IsAnswered b c may request Starved steps d e =
     (steps ≡ []) × (e.seat.view ≡ d.seat.view) × KeepsMappings d.mappings e.mappings
+IsAnswered b c may request Wrote steps d e =
+    (steps ≡ []) × (e.seat.view ≡ d.seat.view) × KeepsMappings d.mappings e.mappings
+    × WritesOnce (path_of (knowledge c may d) d.seat.dom request)
 
 -- each byte is one
 abbrev pub AreBytesOf : Option (GrantRef × List ℕ) → Type 0
@@ -79,7 +101,7 @@ AreBytesOf (Some b) = All (λ byte. byte < 256) b.1
 abbrev pub FitsTypes : Request → Type 0
 FitsTypes request = FitsAsked (asked request) × AreBytesOf (bytes_of request)
 
--- The call was made without an access to bytes, as the contract of its function of Domain says
+-- The call was made without an access to bytes, or was a store or a poke, as the contract of its function of Domain says
 pub record IsCall (b : Board) (c : Config) (may : AllowRelation) (m : CallMade) : Type 0 where
   pub before : IsDomainOf b c may m.old
   pub afterwards : IsDomainOf b c may m.new

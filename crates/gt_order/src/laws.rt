@@ -1,5 +1,5 @@
 //! What the definitions of this crate come to. Each law is a function that does nothing, whose contract is the law.
-ghost use Rattle.gt_order.specs.Calling.{MapsAreMade, PlainCallsAreMade, UnmapsAreMade};
+ghost use Rattle.gt_order.specs.Calling.{MapsAreMade, PlainCallsAreMade, UnmapsAreMade, WritesAreMade};
 ghost use Rattle.gt_order.specs.Leaving.{LeavingIsUnmapping};
 ghost use Rattle.gt_order.specs.Laws.{CoreSeesTheWords, RunsHaveLegalOrders, StepsKeepAgreement};
 
@@ -18,16 +18,17 @@ pub fn steps_keep_agreement()
     ensures { StepsKeepAgreement }
 {}
 
-/// A law: what the calls of a domain promise makes each of them a call of a run, if it makes no access to bytes: the
-/// clauses of their contracts, as they stand there, are all that is asked. A call with an access makes none if a rule
-/// refuses it.
+/// A law: what the calls of a domain promise makes each of them a call of a run, if it makes no access to bytes or is a
+/// store or a poke: the clauses of their contracts, as they stand there, are all that is asked. A call with an access
+/// makes none if a rule refuses it.
 pub fn calls_of_domains_are_made<P: Allows>(monitor: &Monitor<P>)
     ensures plain { PlainCallsAreMade P.may monitor.now }
     ensures unmaps { UnmapsAreMade P.may monitor.now }
     ensures maps { MapsAreMade P.may monitor.now }
+    ensures writes { WritesAreMade P.may monitor.now }
 {}
 
-/// A law: the whole of each run of the monitor, whose calls make no access to bytes and are all finished, is one legal
+/// A law: the whole of each run of the monitor, whose calls read no bytes and copy none and are all finished, is one legal
 /// interleaving of the core's events, in which each call is answered as its domain answered it.
 pub fn every_run_has_a_legal_order()
     ensures { RunsHaveLegalOrders }

@@ -1,0 +1,96 @@
+-- A store or a poke that wrote made no step on the words, and is a call of a run.
+use Rattle.std.proofs.Common.{◌≡◌, ℕ, List, [], ◌∷◌, ◌++◌, length, Option, Some, None, Ok, refl, sym, ap, ◌∙◌, subst}
+use Rattle.gt_words.specs.History.{Moment}
+use Rattle.gt_words.specs.Rule.{Layout}
+use Rattle.gt_words.specs.declared.view.View.{View}
+use Rattle.gt_calls.specs.Asking.{asked, begun_of}
+use Rattle.gt_calls.specs.Path.{Continuation, after_beginning, by_mapping, ended, makes, path_of}
+use Rattle.gt_calls.specs.declared.action.Action.{Action}
+use Rattle.gt_calls.specs.declared.action.Action.TheVariants.{Done, Step as Makes}
+use Rattle.gt_calls.specs.declared.action.Seen.{Seen}
+use Rattle.gt_calls.specs.declared.action.Seen.TheVariants.{Missed, Nothing, Taken, Word}
+use Rattle.gt_calls.specs.declared.action.Step.{Step}
+use Rattle.gt_calls.specs.declared.action.Step.TheVariants.{Write as WriteBytes}
+use Rattle.gt_calls.specs.declared.action.Verdict.{Verdict}
+use Rattle.gt_calls.specs.declared.action.Verdict.TheVariants.{Granted}
+use Rattle.gt_calls.specs.declared.held.Held.{Held}
+use Rattle.gt_calls.specs.declared.request.Request.{Request}
+use Rattle.gt_calls.specs.declared.request.Request.TheVariants as requests
+use Rattle.gt_frames.specs.Receipts.{Writing}
+use Rattle.gt_types.specs.declared.DomId.{DomId}
+use Rattle.gt_live.specs.Accesses.{AnsweredBy, IsWrittenBy, onward}
+use Rattle.gt_live.specs.Domains.{AllowRelation, knowledge}
+use Rattle.gt_live.specs.Walks.{IsWalk, Made, MakesStep, after, shown}
+use Rattle.gt_live.specs.declared.domain.Domain.{Domain}
+use Rattle.gt_live.specs.declared.monitor.Monitor.{Monitor}
+use Rattle.gt_order.specs.Calling.{IsStoring, StaysOf, WasMade, WritesAreMade}
+use Rattle.gt_order.specs.Runs.{FitsTypes, IsWrite, WritesOnce}
+use Rattle.gt_order.specs.Runs.Outcome.{Wrote}
+
+no-step : (k : Layout) (step : Step) (seen : Seen) (u w : View) → IsWrite step → Made k step seen u w → ⊥
+no-step k (WriteBytes dom frame off len) (Word n) u w is made = absurd made
+no-step k (WriteBytes dom frame off len) Taken u w is made = absurd made
+no-step k (WriteBytes dom frame off len) (Missed n) u w is made = absurd made
+no-step k (WriteBytes dom frame off len) Nothing u w is made = absurd made
+no-step k step seen u w is made = absurd is
+
+-- no step on the words is made after these values
+abbrev MakesNone : Layout → Continuation → List Seen → Type 0
+MakesNone k way vs = (seen : Seen) (u w : View) → MakesStep k (way vs) seen u w → ⊥
+
+-- a way with one step, which writes
+abbrev IsOneWrite : Layout → Continuation → Type 0
+IsOneWrite k way = MakesNone k way [] × MakesNone k way (Nothing ∷ [])
+
+one-write : (k : Layout) (step : Step) → IsWrite step → IsOneWrite k (makes step (ended Granted))
+one-write k step is = (λ seen u w made. no-step k step seen u w is made, λ seen u w made. made)
+
+by-mapping : (k : Layout) (o : Option Held) (step : Held → Step) → ((m : Held) → IsWrite (step m)) → IsOneWrite k (by_mapping o step)
+by-mapping k None step is = (λ seen u w made. made, λ seen u w made. made)
+by-mapping k (Some m) step is = one-write k (step m) (is m)
+
+begun-so : (k : Layout) (o : Option Verdict) (way : Continuation) → IsOneWrite k way → IsOneWrite k (after_beginning o way)
+begun-so k None way one = one
+begun-so k (Some verdict) way one = (λ seen u w made. made, λ seen u w made. made)
+
+no-walk : (k : Layout) (way : Continuation) (v : View) (xs : List Moment) → MakesNone k way [] → IsWalk k way v xs → xs ≡ []
+no-walk k way v [] none walk = refl
+no-walk k way v (x ∷ []) none walk = absurd (none _ _ _ walk.0)
+no-walk k way v (x ∷ (y ∷ ys)) none walk = let e = no-walk k way v (y ∷ ys) none walk.1 in cc
+
+is-write : (writer : DomId) (bytes : List ℕ) (access : Step) (r : Writing) → IsWrittenBy writer bytes access r → IsWrite access
+is-write writer bytes (WriteBytes dom frame off len) r is = tt
+is-write writer bytes access r is = absurd is
+
+store-way : {P : Type 0} (may : P → AllowRelation) (m : Monitor P) (d : Domain) (request : Request) → IsStoring request → IsOneWrite m.words.layout (path_of (knowledge m.config (may m.rights) d) d.seat.dom request)
+store-way may m d (requests.Store handle off bytes) is = begun-so m.words.layout (begun_of (knowledge m.config (may m.rights) d) d.seat.dom (requests.Store handle off bytes)) _
+    (by-mapping m.words.layout ((knowledge m.config (may m.rights) d).mapping handle) _ (λ p. tt))
+store-way may m d (requests.Poke frame off bytes) is = begun-so m.words.layout (begun_of (knowledge m.config (may m.rights) d) d.seat.dom (requests.Poke frame off bytes)) _ (one-write m.words.layout (WriteBytes d.seat.dom frame off (length bytes.now)) tt)
+store-way may m d request is = absurd is
+
+no-bytes-given : (request : Request) → IsStoring request → FitsTypes request
+no-bytes-given (requests.Store handle off bytes) is = (tt, tt)
+no-bytes-given (requests.Poke frame off bytes) is = (tt, tt)
+no-bytes-given request is = absurd is
+
+pub writes-made : {P : Type 0} (may : P → AllowRelation) (m : Monitor P) → WritesAreMade may m
+writes-made may m d e request bytes r stays is answered kept =
+    let k : Layout = m.words.layout in let way : Continuation = path_of (knowledge m.config (may m.rights) d) d.seat.dom request in let one = store-way may m d request is in
+    let a = answered.1 in let first = no-walk k way d.seat.view a.comes.steps one.0 a.comes.walked in
+    let none : MakesNone k (onward way (shown a.comes.steps ++ Nothing ∷ [])) [] =
+    λ seen u w made. one.1 seen u w (subst (λ (xs : List Moment). MakesStep k (way ((shown xs ++ Nothing ∷ []) ++ [])) seen u w) first made) in
+    let last = no-walk k (onward way (shown a.comes.steps ++ Nothing ∷ [])) a.at a.ends.steps none a.ends.walked in
+    let view : e.seat.view ≡ d.seat.view = a.ends.view ∙ (ap (λ (xs : List Moment). after xs a.at) last ∙ (a.comes.view ∙ ap (λ (xs : List Moment). after xs d.seat.view) first)) in
+    let once : WritesOnce way = record {
+      access = answered.0;
+      writes = is-write d.seat.dom bytes answered.0 r answered.2;
+      next = ap (λ (xs : List Moment). way (shown xs)) (sym first) ∙ a.comes.next;
+      done = (λ i. way ((shown (sym first i) ++ Nothing ∷ []) ++ shown (sym last i))) ∙ a.ends.answered;
+    } in
+    record {
+      before = stays.before;
+      afterwards = stays.afterwards;
+      seat = stays.seat;
+      fits = no-bytes-given request is;
+      answered = (refl, view, kept.0, once);
+    }
