@@ -73,6 +73,12 @@ const RECORDS: &str = "[\
 // Four queries, of which a trail keeps two.
 const QUERIES: [Line; 4] = [(TWO, GetVersion(1), "ok version=1"); 4];
 
+const FOUR_RECORDS: &str = "[\
+    Record { dom: DomId(2), call: GetVersion { dom: DomId(1) }, reply: Version(1) }, \
+    Record { dom: DomId(2), call: GetVersion { dom: DomId(1) }, reply: Version(1) }, \
+    Record { dom: DomId(2), call: GetVersion { dom: DomId(1) }, reply: Version(1) }, \
+    Record { dom: DomId(2), call: GetVersion { dom: DomId(1) }, reply: Version(1) }] 0";
+
 const TWO_RECORDS: &str = "[\
     Record { dom: DomId(2), call: GetVersion { dom: DomId(1) }, reply: Version(1) }, \
     Record { dom: DomId(2), call: GetVersion { dom: DomId(1) }, reply: Version(1) }] 2";
@@ -157,7 +163,25 @@ const FILLED: [Line; 2] = [
 // An owner that withdraws the page which the other domain copies.
 const TORN: [(Part, u32); 2] = [(Part::Withdraws(UNUSED), 1_000), (Part::Takes, 1_000)];
 
-const ROWS: [Row; 9] = [
+// The same with revocations.
+const TORN_BY_REVOCATION: [(Part, u32); 2] = [(Part::Revokes(UNUSED), 1_000), (Part::Takes, 1_000)];
+
+// An owner and a domain whose entries lead to the owner's page both grant and revoke, beside two domains that copy
+// through those entries.
+const STORM_OF_VIAS: [(Part, u32); 4] = [
+    (Part::Toggles(UNUSED), 10_000),
+    (
+        Part::Forwards {
+            first: UNUSED,
+            second: UNUSED,
+        },
+        10_000,
+    ),
+    (Part::Follows(0), 10_000),
+    (Part::Follows(1), 10_000),
+];
+
+const ROWS: [Row; 12] = [
     Row {
         name: "a domain that leaves gives its pins back",
         stages: &[
@@ -173,6 +197,15 @@ const ROWS: [Row; 9] = [
             Stage::KeepsAtMost(2),
             Stage::Asked(&QUERIES),
             Stage::Leaves(TWO_RECORDS),
+        ],
+        ..QUIET
+    },
+    Row {
+        name: "a trail makes room for many records",
+        stages: &[
+            Stage::KeepsAtMost(100_000),
+            Stage::Asked(&QUERIES),
+            Stage::Leaves(FOUR_RECORDS),
         ],
         ..QUIET
     },
@@ -203,6 +236,21 @@ const ROWS: [Row; 9] = [
         stages: &[Stage::Asked(&FILLED)],
         parts: &TORN,
         behind: &[(ONE, TWO, 1, 0)],
+        ..QUIET
+    },
+    Row {
+        name: "no page is torn by a revocation",
+        stages: &[Stage::Asked(&FILLED)],
+        parts: &TORN_BY_REVOCATION,
+        behind: &[(ONE, TWO, 1, 0)],
+        ..QUIET
+    },
+    Row {
+        name: "a storm through transitive entries leaves every word idle",
+        count: 4,
+        version: 2,
+        parts: &STORM_OF_VIAS,
+        behind: &[(ONE, TWO, 1, 0), (TWO, THREE, 2, 0), (TWO, 3, 2, 1)],
         ..QUIET
     },
     Row {

@@ -2,7 +2,7 @@
 use gt_calls::{CopyArgs, End};
 use gt_entry::{Control, Entry, Kind};
 use gt_running::{Asks, READ_ONLY, Running, Said, WRITABLE};
-use gt_types::{Allows, DOMID_SELF, Denial, DomId, Facts, Memory, Rule};
+use gt_types::{Allows, DOMID_SELF, Denial, DomId, Facts, GrantRef, Memory, Rule};
 use std::alloc::{AllocError, Global};
 use std::sync::Wait;
 use std::thread::{self, Threads};
@@ -15,6 +15,9 @@ pub const PAGE_LEN: u16 = 4096;
 
 // A copy of the whole page of entry 0 of domain 1.
 const TAKE: Asks<'static> = fetch!(1, 0, 0, 3, 0, PAGE_LEN);
+
+// Copies of the page behind the entries 0 and 1 of domain 2, which are transitive.
+const FOLLOWS: [Asks<'static>; 2] = [fetch!(2, 0, 0, 3, 0, LEN), fetch!(2, 1, 0, 3, 0, LEN)];
 
 /// What an owner knows of its entry from its own calls.
 #[derive(Clone, Copy)]
@@ -55,8 +58,15 @@ pub enum Part {
     Churns,
     /// Grants its entry 0 to domain 2, the frames 5 and 6 by turns, and withdraws it.
     Withdraws(Kept),
+    /// The same, but takes it back by a revocation.
+    Revokes(Kept),
     /// Copies the page of entry 0 of domain 1, and looks at all that it took.
     Takes,
+    /// Grants and revokes by turns its entry 0, for domain 3, and its entry 1, for domain 4. Both lead to entry 0 of
+    /// domain 1.
+    Forwards { first: Kept, second: Kept },
+    /// Copies from the page behind this entry of domain 2.
+    Follows(usize),
     Accesses(Access),
 }
 
@@ -74,6 +84,16 @@ fn page(dom: u16, ro: bool) -> Entry {
         dom: DomId(dom),
         ro,
         frame: 5,
+    }
+}
+
+// A transitive entry for this domain that leads to entry 0 of domain 1.
+fn via(dom: u16) -> Entry {
+    Entry::Via {
+        dom: DomId(dom),
+        ro: false,
+        dom2: DomId(1),
+        gref: GrantRef(0),
     }
 }
 
@@ -102,7 +122,7 @@ fn stands(denial: Denial) -> bool {
     match denial.rule {
         Rule::N10 => control.kind == Kind::Invalid && control.reads == 0 && control.writes == 0,
         Rule::N13 => control.kind == Kind::Page && control.ro,
-        Rule::N19 => control.kind == Kind::Page && (control.reads > 0 || control.writes > 0),
+        Rule::N19 => control.kind != Kind::Invalid && (control.reads > 0 || control.writes > 0),
         Rule::N18 => true,
         _ => false,
     }
@@ -139,11 +159,11 @@ fn borrow<P: Allows>(domain: &mut Running<'_, P>) -> bool {
 fn grant_once<P: Allows>(
     domain: &mut Running<'_, P>,
     gref: u32,
-    named: u16,
+    entry: &Entry,
     kept: &mut Kept,
 ) -> bool {
     let was_valid = kept.valid;
-    let granted = domain.grant(gref, &page(named, false)).is_ok();
+    let granted = domain.grant(gref, entry).is_ok();
     if granted {
         *kept = Kept {
             valid: true,
@@ -185,7 +205,7 @@ fn own_once<P: Allows>(
     named: u16,
     kept: &mut Kept,
 ) -> bool {
-    let granted = grant_once(domain, gref, named, kept);
+    let granted = grant_once(domain, gref, &page(named, false), kept);
     let turned = turn_once(domain, gref, kept);
     let revoked = revoke_once(domain, gref, kept);
     granted && turned && revoked
@@ -274,6 +294,29 @@ fn take_once<R: Wait, P: Allows>(rt: &R, domain: &mut Running<'_, P>) -> bool {
     }
 }
 
+// One round of a domain whose entries lead on: one of them is granted if it is not, and revoked.
+fn forward_once<P: Allows>(
+    domain: &mut Running<'_, P>,
+    gref: u32,
+    named: u16,
+    kept: &mut Kept,
+) -> bool {
+    let granted = grant_once(domain, gref, &via(named), kept);
+    revoke_once(domain, gref, kept) && granted
+}
+
+// One round of a domain that copies through an entry which leads on. Either of the two entries may be invalid then, or
+// change its pins in each try.
+fn follow_once<R: Wait, P: Allows>(rt: &R, domain: &mut Running<'_, P>, asks: Asks<'_>) -> bool {
+    match domain.ask(rt, asks) {
+        Said::Done => true,
+        Said::Denied(denial) => {
+            (denial.rule == Rule::N10 || denial.rule == Rule::N18) && stands(denial)
+        }
+        _ => false,
+    }
+}
+
 // Whether so many bytes were read, all alike: so no write came in between.
 fn is_even(said: &Said) -> bool {
     let Said::Bytes(bytes) = said else {
@@ -313,7 +356,7 @@ fn round_of<R: Wait, P: Allows>(
             map_once(domain, if odd { 2 } else { 1 }, *gref, flags)
         }
         Part::Toggles(kept) => {
-            let granted = grant_once(domain, 0, 2, kept);
+            let granted = grant_once(domain, 0, &page(2, false), kept);
             revoke_once(domain, 0, kept) && granted
         }
         Part::Churns => map_once(domain, 1, 0, READ_ONLY),
@@ -321,7 +364,14 @@ fn round_of<R: Wait, P: Allows>(
             let granted = grant_frame(domain, if odd { 6 } else { 5 }, kept);
             withdraw_once(domain, kept) && granted
         }
+        Part::Revokes(kept) => {
+            let granted = grant_once(domain, 0, &page_of(if odd { 6 } else { 5 }), kept);
+            revoke_once(domain, 0, kept) && granted
+        }
         Part::Takes => take_once(rt, domain),
+        Part::Forwards { second, .. } if odd => forward_once(domain, 1, 4, second),
+        Part::Forwards { first, .. } => forward_once(domain, 0, 3, first),
+        Part::Follows(gref) => follow_once(rt, domain, FOLLOWS[*gref % 2]),
         Part::Accesses(access) => access_once(rt, domain, *access),
     }
 }
@@ -355,8 +405,10 @@ fn at_once<'m, P: Allows + Sync, R: Threads + Wait + Sync>(
 // What the owner knows of this entry.
 fn kept_of(part: Part, gref: u32) -> Kept {
     match part {
-        Part::Owns { first, second } => { if gref == 0 { first } else { second } }
-        Part::Toggles(kept) | Part::Withdraws(kept) => kept,
+        Part::Owns { first, second } | Part::Forwards { first, second } => {
+            if gref == 0 { first } else { second }
+        }
+        Part::Toggles(kept) | Part::Revokes(kept) | Part::Withdraws(kept) => kept,
         _ => UNUSED,
     }
 }
