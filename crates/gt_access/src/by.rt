@@ -31,14 +31,15 @@ pub fn read_by<R: Wait, P: Allows>(
     run: &Run<'_, P>,
     seat: &Seat,
     visits: &mut Visits,
-    route: Route,
+    route: &Route,
     name: FrameName,
     range: Range,
     room: Vec<u8>,
 ) -> Option<Read>
     requires seat { IsSeatOf run.now.words.now seat.now }
-    requires reached { Reaches run.now.words.now.layout seat.now dirs.Read uses.Map name range.off range.len route }
-    requires may { MayAccess run.now.config.now.domains.items (P.may run.now.rights.now) seat.now.dom route }
+    requires reached { Reaches run.now.words.now.layout seat.now dirs.Read uses.Map
+        name range.off range.len route.now }
+    requires may { MayAccess run.now.config.now.domains.items (P.may run.now.rights.now) seat.now.dom route.now }
     requires range { range.off + range.len ≤ FRAME_SIZE }
     requires room { (vec_len room ≡ 0) × (range.len ≤ vec_capacity room) }
     ensures read { IfSome result (λ r. IsReadOf r name range.off range.len) }
@@ -61,17 +62,18 @@ pub fn write_by<'a, R: Wait, P: Allows>(
     run: &Run<'_, P>,
     seat: &Seat,
     visits: &mut Visits,
-    route: Route,
+    route: &Route,
     name: FrameName,
     off: u16,
     bytes: &'a [u8],
 ) -> Result<Written<'a>, Refused>
     requires seat { IsSeatOf run.now.words.now seat.now }
-    requires reached { Reaches run.now.words.now.layout seat.now dirs.Write uses.Map name off (length bytes.now) route }
-    requires may { MayAccess run.now.config.now.domains.items (P.may run.now.rights.now) seat.now.dom route }
+    requires reached { Reaches run.now.words.now.layout seat.now dirs.Write uses.Map
+        name off (length bytes.now) route.now }
+    requires may { MayAccess run.now.config.now.domains.items (P.may run.now.rights.now) seat.now.dom route.now }
     requires range { off + length bytes.now ≤ FRAME_SIZE }
     ensures written { IfOk result (λ r. r ≡ writing_at name off bytes.entry.now seat.now.dom) }
-    ensures visited { VisitsToWrite name (writ_by seat.now.dom route) off bytes.entry.now
+    ensures visited { VisitsToWrite name (writ_by seat.now.dom route.now) off bytes.entry.now
         result visits.old visits.new }
 {
     let Some(mut frame) = run.pool.lock(rt, name) else {
@@ -97,25 +99,26 @@ pub fn copy_by<R: Wait, P: Allows>(
     run: &Run<'_, P>,
     seat: &Seat,
     visits: &mut Visits,
-    routes: Pins,
+    routes: &Pins,
     from: Spot,
     to: Spot,
     len: u16,
 ) -> Result<Copied, Refused>
     requires seat { IsSeatOf run.now.words.now seat.now }
     requires source { Reaches run.now.words.now.layout seat.now dirs.Read uses.Copy
-        from.frame from.off len routes.source }
-    requires dest { Reaches run.now.words.now.layout seat.now dirs.Write uses.Copy to.frame to.off len routes.dest }
-    requires may { MayCopy run.now.config.now.domains.items (P.may run.now.rights.now) seat.now.dom routes }
+        from.frame from.off len routes.now.source }
+    requires dest { Reaches run.now.words.now.layout seat.now dirs.Write uses.Copy
+        to.frame to.off len routes.now.dest }
+    requires may { MayCopy run.now.config.now.domains.items (P.may run.now.rights.now) seat.now.dom routes.now }
     requires source_range { from.off + len ≤ FRAME_SIZE }
     requires dest_range { to.off + len ≤ FRAME_SIZE }
     ensures copied { IfOk result (λ r. r ≡ copying_at from to len seat.now.dom) }
-    ensures visited { VisitsToCopy (writ_by seat.now.dom routes.dest) from to len result visits.old visits.new }
+    ensures visited { VisitsToCopy (writ_by seat.now.dom routes.now.dest) from to len result visits.old visits.new }
 {
     let Some(mut ends) = run.pool.lock_both(rt, from.frame, to.frame) else {
         return Err(Refused::Gone);
     };
-    let writ = writ_by(seat.dom(), routes.dest);
+    let writ = writ_by(seat.dom(), &routes.dest);
     let range = Range { off: from.off, len };
     let copied = copy_under(run, seat, &mut ends, routes, &writ, range, to.off);
     ends.free(visits);

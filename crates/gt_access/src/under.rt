@@ -35,10 +35,10 @@ impl<P> Drop for Run<'_, P> {
 }
 
 /// The writ of a domain that writes by this route.
-pub fn writ_by(caller: DomId, route: Route) -> Writ
-    ensures { result ≡ writ_by caller route }
+pub fn writ_by(caller: DomId, route: &Route) -> Writ
+    ensures { result ≡ writ_by caller route.now }
 {
-    let basis = match route {
+    let basis = match *route {
         Route::Own => Ground::Owned,
         Route::Direct(held) => Ground::Granted(held.entry),
         Route::Through { via, held } => Ground::Forwarded {
@@ -58,14 +58,14 @@ pub fn read_under<P: Allows>(
     run: &Run<'_, P>,
     seat: &Seat,
     frame: &Lent<'_>,
-    route: Route,
+    route: &Route,
     range: Range,
     room: Vec<u8>,
 ) -> Read
     requires seat { IsSeatOf run.now.words.now seat.now }
     requires reached { Reaches run.now.words.now.layout seat.now dirs.Read uses.Map
-        (name_of frame.now.after) range.off range.len route }
-    requires may { MayAccess run.now.config.now.domains.items (P.may run.now.rights.now) seat.now.dom route }
+        (name_of frame.now.after) range.off range.len route.now }
+    requires may { MayAccess run.now.config.now.domains.items (P.may run.now.rights.now) seat.now.dom route.now }
     requires range { range.off + range.len ≤ FRAME_SIZE }
     requires room { (vec_len room ≡ 0) × (range.len ≤ vec_capacity room) }
     ensures read { result ≡ reading_of frame.now.after range.off range.len }
@@ -84,16 +84,16 @@ pub fn write_under<'a, P: Allows>(
     run: &Run<'_, P>,
     seat: &Seat,
     frame: &mut Lent<'_>,
-    route: Route,
+    route: &Route,
     writ: &Writ,
     off: u16,
     bytes: &'a [u8],
 ) -> Result<Written<'a>, Memory>
     requires seat { IsSeatOf run.now.words.now seat.now }
     requires reached { Reaches run.now.words.now.layout seat.now dirs.Write uses.Map
-        (name_of frame.old.after) off (length bytes.now) route }
-    requires may { MayAccess run.now.config.now.domains.items (P.may run.now.rights.now) seat.now.dom route }
-    requires writ { writ.now ≡ writ_by seat.now.dom route }
+        (name_of frame.old.after) off (length bytes.now) route.now }
+    requires may { MayAccess run.now.config.now.domains.items (P.may run.now.rights.now) seat.now.dom route.now }
+    requires writ { writ.now ≡ writ_by seat.now.dom route.now }
     requires range { off + length bytes.now ≤ FRAME_SIZE }
     ensures before { frame.new.before ≡ frame.old.before }
     ensures written { OnOk result (IsWrite frame.old.after frame.new.after writ.now off bytes.now) }
@@ -113,18 +113,18 @@ pub fn copy_under<P: Allows>(
     run: &Run<'_, P>,
     seat: &Seat,
     ends: &mut Ends<'_>,
-    routes: Pins,
+    routes: &Pins,
     writ: &Writ,
     from: Range,
     to_off: u16,
 ) -> Result<Copied, Memory>
     requires seat { IsSeatOf run.now.words.now seat.now }
     requires source { Reaches run.now.words.now.layout seat.now dirs.Read uses.Copy
-        (name_of (source_of ends.old)) from.off from.len routes.source }
+        (name_of (source_of ends.old)) from.off from.len routes.now.source }
     requires dest { Reaches run.now.words.now.layout seat.now dirs.Write uses.Copy
-        (name_of (dest_of ends.old)) to_off from.len routes.dest }
-    requires may { MayCopy run.now.config.now.domains.items (P.may run.now.rights.now) seat.now.dom routes }
-    requires writ { writ.now ≡ writ_by seat.now.dom routes.dest }
+        (name_of (dest_of ends.old)) to_off from.len routes.now.dest }
+    requires may { MayCopy run.now.config.now.domains.items (P.may run.now.rights.now) seat.now.dom routes.now }
+    requires writ { writ.now ≡ writ_by seat.now.dom routes.now.dest }
     requires source_range { from.off + from.len ≤ FRAME_SIZE }
     requires dest_range { to_off + from.len ≤ FRAME_SIZE }
     ensures written { OnOk result (IsWrite (dest_of ends.old) (dest_of ends.new)

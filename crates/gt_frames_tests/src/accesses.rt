@@ -53,7 +53,7 @@ fn wrote<R: Wait>(
         owner: seat.dom(),
         number,
     };
-    write_by(rt, run, seat, visits, Route::Own, name, 0, &BYTES).is_ok()
+    write_by(rt, run, seat, visits, &Route::Own, name, 0, &BYTES).is_ok()
 }
 
 // The place with this number and offset in a frame of its own.
@@ -87,7 +87,7 @@ fn copied<R: Wait>(
     };
     source.off <= 4092
         && dest.off <= 4092
-        && copy_by(rt, run, seat, visits, routes, source, dest, 4).is_ok()
+        && copy_by(rt, run, seat, visits, &routes, source, dest, 4).is_ok()
 }
 
 // The first six bytes of a frame of its own.
@@ -108,7 +108,7 @@ fn first_bytes<R: Wait>(
     };
     let range = Range { off: 0, len: 6 };
     let route = Route::Own;
-    Ok(read_by(rt, run, seat, visits, route, name, range, room))
+    Ok(read_by(rt, run, seat, visits, &route, name, range, room))
 }
 
 // If a copy of four bytes begins and ends, frame and offset, whether it is made, and the first bytes of the frame

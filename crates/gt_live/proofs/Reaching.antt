@@ -198,3 +198,8 @@ module _ (c : CallerKnowledge) (k : Layout) (caller : DomId) where
       → at_dest c caller copy source ≡ dest_leg c caller copy source
   dest-walked copy source e =
       ap (λ (b : Bool). if b then dest_leg c caller copy source else Accessing copy source Own) e
+
+  pub dest-own : (copy : CopyArgs) (source : Route) → is_dest_granted copy ≡ false
+      → at_dest c caller copy source ≡ Accessing copy source Own
+  dest-own copy source e =
+      ap (λ (b : Bool). if b then dest_leg c caller copy source else Accessing copy source Own) e

@@ -42,6 +42,11 @@ abbrev pub after_through : CallerKnowledge → DomId → Aim → Leg → DomId �
 after_through c caller aim first dom gref (Ok p) = after_pin_of c caller aim (second_leg c first dom gref) p
 after_through c caller aim first dom gref (Err denial) = Ending (without_last (pins_so_far aim)) (Refused denial)
 
+-- an answer together with what it wrote
+abbrev pub filled : {A : Type 0} → Result (Unit {0}) Denial → A → Result A Denial
+filled (Ok done) value = Ok value
+filled (Err denial) value = Err denial
+
 -- a copy before the leg to its source, and after it
 abbrev pub source_leg : CallerKnowledge → DomId → CopyArgs → Phase
 source_leg c caller copy = Walking (Source copy None) (end_leg c caller copy.source Read copy.len) Header

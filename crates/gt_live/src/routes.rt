@@ -3,11 +3,12 @@ ghost use Rattle.std.specs.Prelude.{◌≡◌, ℕ, None};
 ghost use Rattle.gt_words.specs.Conditions.{IsSeatOf, IsSameSeat};
 ghost use Rattle.gt_words.specs.declared.view.View.{View};
 ghost use Rattle.gt_calls.specs.declared.copying.Aim.{Aim};
-ghost use Rattle.gt_calls.specs.Holding.{held_by, last_first};
+ghost use Rattle.gt_calls.specs.declared.held.Route.TheVariants.{Own};
+ghost use Rattle.gt_calls.specs.Holding.{held_by, last_first, no_pins};
 ghost use Rattle.gt_calls.specs.Machine.{at_dest, at_source, through_via};
 ghost use Rattle.gt_calls.specs.Rules.{copy_begun, knows};
 ghost use Rattle.gt_live.specs.Copies.{CanGiveBack, IsGivenBack, IsLastOf, StopsSo, dest_leg, source_leg};
-ghost use Rattle.gt_live.specs.Copies.{after_copy, after_dest, after_source, after_through};
+ghost use Rattle.gt_live.specs.Copies.{after_copy, after_dest, after_source, after_through, filled};
 ghost use Rattle.gt_live.specs.Driving.{CanMake, Knows};
 ghost use Rattle.gt_live.specs.Phases.{CanRun, Runs};
 ghost use Rattle.gt_live.specs.Underway.{AreOfRun, GivesBack, HasTaken};
@@ -36,8 +37,8 @@ fn give_pin_back(words: &Words, seat: &mut Seat, held: &Held)
     words.unpin(seat, pin_of(*held));
 }
 
-// Goes on from the pin of a Via, which leads to an entry of this domain: judges the pair that it asks for, and walks the
-// second leg. The pin of the Via is given back if either refuses.
+// Goes on from the pin of a Via, which leads to an entry of this domain: judges the pair that it asks for, and walks
+// the second leg. The pin of the Via is given back if either refuses.
 fn go_through<P: Allows>(
     words: &Words,
     known: &Known<'_, P>,
@@ -72,21 +73,23 @@ fn go_through<P: Allows>(
     }
 }
 
-// The route to the source of a copy, whose pins are taken.
+// Walks to the source of a copy, and writes the route whose pins were taken. It writes through a reference, as all of
+// these do: a route or two, handed on by value, cost more than the steps.
 fn reach_source<P: Allows>(
     words: &Words,
     known: &Known<'_, P>,
     seat: &mut Seat,
     caller: DomId,
     copy: &CopyArgs,
-) -> Result<Route, Denial>
+    route: &mut Route,
+) -> Result<(), Denial>
     requires seat { IsSeatOf words.now seat.old }
     requires can { CanRun (knows P.may known.now) words.now.layout caller
         (source_leg (knows P.may known.now) caller copy.now) seat.old.view }
     ensures seat { IsSameSeat seat.old seat.new }
     ensures goes { Runs (knows P.may known.now) words.now.layout caller
         (source_leg (knows P.may known.now) caller copy.now) seat.old.view
-        (after_source (knows P.may known.now) caller copy.now result) seat.new.view }
+        (after_source (knows P.may known.now) caller copy.now (filled result route.new)) seat.new.view }
 {
     let leg = end_leg(known, caller, copy.source, Dir::Read, copy.len);
     let first = match walk_leg(words, seat, &leg) {
@@ -98,15 +101,21 @@ fn reach_source<P: Allows>(
             let named = resolve(caller, copy.dest.domid);
             let pair = (dom2, named);
             match go_through(words, known, seat, &leg, &first, pair, dom2, gref) {
-                Ok(held) => Ok(Route::Through { via: first, held }),
+                Ok(held) => {
+                    *route = Route::Through { via: first, held };
+                    Ok(())
+                }
                 Err(denial) => Err(denial),
             }
         }
-        _ => Ok(Route::Direct(first)),
+        _ => {
+            *route = Route::Direct(first);
+            Ok(())
+        }
     }
 }
 
-// The route to the destination of a copy, whose source is reached.
+// The same of its destination, once its source is reached.
 fn reach_dest<P: Allows>(
     words: &Words,
     known: &Known<'_, P>,
@@ -114,14 +123,15 @@ fn reach_dest<P: Allows>(
     caller: DomId,
     copy: &CopyArgs,
     source: &Route,
-) -> Result<Route, Denial>
+    route: &mut Route,
+) -> Result<(), Denial>
     requires seat { IsSeatOf words.now seat.old }
     requires can { CanRun (knows P.may known.now) words.now.layout caller
         (dest_leg (knows P.may known.now) caller copy.now source.now) seat.old.view }
     ensures seat { IsSameSeat seat.old seat.new }
     ensures goes { Runs (knows P.may known.now) words.now.layout caller
         (dest_leg (knows P.may known.now) caller copy.now source.now) seat.old.view
-        (after_dest copy.now source.now result) seat.new.view }
+        (after_dest copy.now source.now (filled result route.new)) seat.new.view }
 {
     let leg = end_leg(known, caller, copy.dest, Dir::Write, copy.len);
     let first = match walk_leg(words, seat, &leg) {
@@ -133,11 +143,17 @@ fn reach_dest<P: Allows>(
             let from = source.owner(caller);
             let pair = (from, dom2);
             match go_through(words, known, seat, &leg, &first, pair, dom2, gref) {
-                Ok(held) => Ok(Route::Through { via: first, held }),
+                Ok(held) => {
+                    *route = Route::Through { via: first, held };
+                    Ok(())
+                }
                 Err(denial) => Err(denial),
             }
         }
-        _ => Ok(Route::Direct(first)),
+        _ => {
+            *route = Route::Direct(first);
+            Ok(())
+        }
     }
 }
 
@@ -148,24 +164,25 @@ fn walk_to_dest<P: Allows>(
     seat: &mut Seat,
     caller: DomId,
     copy: &CopyArgs,
-    source: Route,
-) -> Result<Pins, Denial>
+    pins: &mut Pins,
+) -> Result<(), Denial>
     requires seat { IsSeatOf words.now seat.old }
+    requires own { pins.old.dest ≡ Own }
     requires can { CanRun (knows P.may known.now) words.now.layout caller
-        (at_dest (knows P.may known.now) caller copy.now source) seat.old.view }
+        (at_dest (knows P.may known.now) caller copy.now pins.old.source) seat.old.view }
     ensures seat { IsSameSeat seat.old seat.new }
     ensures goes { Runs (knows P.may known.now) words.now.layout caller
-        (at_dest (knows P.may known.now) caller copy.now source) seat.old.view
-        (after_copy copy.now result) seat.new.view }
+        (at_dest (knows P.may known.now) caller copy.now pins.old.source) seat.old.view
+        (after_copy copy.now (filled result pins.new)) seat.new.view }
 {
     if !copy.is_dest_granted() {
-        let dest = Route::Own;
-        return Ok(Pins { source, dest });
+        return Ok(());
     }
-    match reach_dest(words, known, seat, caller, copy, &source) {
-        Ok(dest) => Ok(Pins { source, dest }),
+    let Pins { source, dest } = pins;
+    match reach_dest(words, known, seat, caller, copy, source, dest) {
+        Ok(()) => Ok(()),
         Err(denial) => {
-            give_back_route(words, seat, &source);
+            give_back_route(words, seat, source);
             Err(denial)
         }
     }
@@ -178,46 +195,51 @@ fn walk<P: Allows>(
     seat: &mut Seat,
     caller: DomId,
     copy: &CopyArgs,
-) -> Result<Pins, Denial>
+    pins: &mut Pins,
+) -> Result<(), Denial>
     requires seat { IsSeatOf words.now seat.old }
+    requires none { pins.old ≡ no_pins }
     requires can { CanRun (knows P.may known.now) words.now.layout caller
         (at_source (knows P.may known.now) caller copy.now) seat.old.view }
     ensures seat { IsSameSeat seat.old seat.new }
     ensures goes { Runs (knows P.may known.now) words.now.layout caller
         (at_source (knows P.may known.now) caller copy.now) seat.old.view
-        (after_copy copy.now result) seat.new.view }
+        (after_copy copy.now (filled result pins.new)) seat.new.view }
 {
     if !copy.is_source_granted() {
-        return walk_to_dest(words, known, seat, caller, copy, Route::Own);
+        return walk_to_dest(words, known, seat, caller, copy, pins);
     }
-    match reach_source(words, known, seat, caller, copy) {
-        Ok(source) => walk_to_dest(words, known, seat, caller, copy, source),
+    match reach_source(words, known, seat, caller, copy, &mut pins.source) {
+        Ok(()) => walk_to_dest(words, known, seat, caller, copy, pins),
         Err(denial) => Err(denial),
     }
 }
 
-// Drives a copy that no rule answered at its beginning to its access, or to its end if it is refused before. Its steps
-// are written out, as a map's are.
+// Drives a copy that no rule answered at its beginning to its access, or to its end if it is refused before, and writes
+// the pins that it holds at its access. Its steps are written out, as a map's are.
 pub(crate) fn drive_copy<P: Allows>(
     words: &Words,
     known: &Known<'_, P>,
     seat: &mut Seat,
     caller: DomId,
     copy: &CopyArgs,
-) -> Result<Pins, Denial>
+    pins: &mut Pins,
+) -> Result<(), Denial>
     requires seat { IsSeatOf words.now seat.old }
+    requires none { pins.old ≡ no_pins }
     requires unanswered { copy_begun (knows P.may known.now) caller copy.now ≡ None }
     requires knows { Knows (knows P.may known.now) words.now.layout caller seat.old.view }
     ensures seat { IsSameSeat seat.old seat.new }
     ensures stops { StopsSo (knows P.may known.now) words.now.layout
-        caller copy.now result seat.old.view seat.new.view }
+        caller copy.now (filled result pins.new) seat.old.view seat.new.view }
 {
     every_copy_begins_at_its_source();
     every_copy_goes_on_by_its_phase();
-    walk(words, known, seat, caller, copy)
+    walk(words, known, seat, caller, copy, pins)
 }
 
 // Gives back the pins of a route, the last one first.
+#[inline(always)]
 fn give_back_route(words: &Words, seat: &mut Seat, route: &Route)
     requires seat { IsSeatOf words.now seat.old }
     requires can { CanGiveBack words.now.layout (held_by route.now) seat.old.view }

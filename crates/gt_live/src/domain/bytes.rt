@@ -38,14 +38,14 @@ fn read_through<R: Wait, P: Allows>(
     alloc: Global,
     seat: &Seat,
     visits: &mut Visits,
-    route: Route,
+    route: &Route,
     name: FrameName,
     off: u16,
     len: u16,
 ) -> Result<Read, Denial>
     requires seat { IsSeatOf monitor.now.words seat.now }
-    requires reached { Reaches monitor.now.words.layout seat.now dirs.Read uses.Map name off len route }
-    requires may { MayAccess monitor.now.config.domains.items (P.may monitor.now.rights) seat.now.dom route }
+    requires reached { Reaches monitor.now.words.layout seat.now dirs.Read uses.Map name off len route.now }
+    requires may { MayAccess monitor.now.config.domains.items (P.may monitor.now.rights) seat.now.dom route.now }
     requires range { off + len ≤ 4096 }
     ensures read { IfOk result (λ r. IsReadOf r name off len) }
     ensures refused { IfErr result IsOfAccess }
@@ -82,15 +82,15 @@ fn write_through<'a, R: Wait, P: Allows>(
     monitor: &Monitor<P>,
     seat: &Seat,
     visits: &mut Visits,
-    route: Route,
+    route: &Route,
     name: FrameName,
     off: u16,
     bytes: &'a [u8],
 ) -> Result<Written<'a>, Denial>
     requires seat { IsSeatOf monitor.now.words seat.now }
     requires reached { Reaches monitor.now.words.layout seat.now dirs.Write uses.Map
-        name off (length bytes.now) route }
-    requires may { MayAccess monitor.now.config.domains.items (P.may monitor.now.rights) seat.now.dom route }
+        name off (length bytes.now) route.now }
+    requires may { MayAccess monitor.now.config.domains.items (P.may monitor.now.rights) seat.now.dom route.now }
     requires range { off + length bytes.now ≤ 4096 }
     ensures written { IfOk result (λ r. r ≡ writing_at name off bytes.entry.now seat.now.dom) }
     ensures refused { IfErr result IsOfAccess }
@@ -137,9 +137,9 @@ impl Domain {
             owner: held.dom,
             number: held.entry.frame(),
         };
-        let route = Route::Direct(held);
+        let way = Route::Direct(held);
         let (seat, visits) = (&self.seat, &mut self.visits);
-        read_through(rt, monitor, self.alloc, seat, visits, route, name, off, len)
+        read_through(rt, monitor, self.alloc, seat, visits, &way, name, off, len)
     }
 
     /// Reads `len` bytes from the offset `off` on of a frame of its own.
@@ -178,7 +178,7 @@ impl Domain {
             self.alloc,
             seat,
             visits,
-            Route::Own,
+            &Route::Own,
             name,
             off,
             len,
@@ -216,7 +216,7 @@ impl Domain {
         };
         let route = Route::Direct(held);
         let (seat, visits) = (&self.seat, &mut self.visits);
-        write_through(rt, monitor, seat, visits, route, name, off, bytes)
+        write_through(rt, monitor, seat, visits, &route, name, off, bytes)
     }
 
     /// Writes `bytes` from the offset `off` on to a frame of its own.
@@ -250,6 +250,6 @@ impl Domain {
             number: frame,
         };
         let (seat, visits) = (&self.seat, &mut self.visits);
-        write_through(rt, monitor, seat, visits, Route::Own, name, off, bytes)
+        write_through(rt, monitor, seat, visits, &Route::Own, name, off, bytes)
     }
 }

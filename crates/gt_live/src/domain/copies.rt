@@ -9,13 +9,13 @@ ghost use Rattle.gt_access.specs.Routes.{MayCopy, Reaches};
 ghost use Rattle.gt_audit.specs.Telling.{Tells};
 ghost use Rattle.gt_calls.specs.declared.action.Verdict.TheVariants.{Refused};
 ghost use Rattle.gt_calls.specs.declared.request.Request.TheVariants as requests;
-ghost use Rattle.gt_calls.specs.Holding.{last_first};
+ghost use Rattle.gt_calls.specs.Holding.{last_first, no_pins};
 ghost use Rattle.gt_calls.specs.Rules.{copy_begun};
 ghost use Rattle.gt_live.specs.Accesses.{IsCopiedBy, IsOfAccess, spot_of};
 ghost use Rattle.gt_live.specs.Domains.{Accesses, Answered, IsOf, IsUnsettled, KeepsPinned, known};
 ghost use Rattle.gt_live.specs.Domains.{told_copy, told_end};
 ghost use Rattle.gt_live.specs.Halves.{copy_told};
-ghost use Rattle.gt_live.specs.Copies.{StopsSo, halfway_with};
+ghost use Rattle.gt_live.specs.Copies.{StopsSo, filled, halfway_with};
 ghost use Rattle.gt_live.specs.Halves.{ComesHalfway, EndsHalfway, IsHalfway, done_copy};
 ghost use Rattle.gt_live.specs.Underway.{AreOfRun, GivesBack, HasTaken};
 ghost use Rattle.gt_live.specs.Visiting.{HasVisited, WasCopied};
@@ -27,7 +27,7 @@ use crate::routes::{drive_copy, give_back};
 use gt_access::{Run, copy_by};
 use gt_audit::{CopyEnd, Hypercall, Record, Reply};
 use gt_calls::{
-    Asked, Call, CopyArgs, End, Known, Phase, Pins, Place, Verdict, judge_copy, place_of,
+    Asked, Call, CopyArgs, End, Known, Phase, Pins, Place, Route, Verdict, judge_copy, place_of,
 };
 use gt_frames::{Copied, FrameName, Spot, Visits};
 use gt_types::{Allows, Denial, DomId};
@@ -88,7 +88,7 @@ fn copy_through<R: Wait, P: Allows>(
         pool: &monitor.pool,
     };
     let (from, to) = (spot_of(from), spot_of(to));
-    match copy_by(rt, &run, seat, visits, *routes, from, to, len) {
+    match copy_by(rt, &run, seat, visits, routes, from, to, len) {
         Ok(copied) => Ok(copied),
         Err(refused) => Err(not_made(refused)),
     }
@@ -103,6 +103,17 @@ pub struct Halfway {
     pub from: Place,
     pub to: Place,
     pub len: u16,
+}
+
+// No pins, in the place of those that a copy is going to take.
+#[inline(always)]
+fn no_pins() -> Pins
+    ensures { result ≡ no_pins }
+{
+    Pins {
+        source: Route::Own,
+        dest: Route::Own,
+    }
 }
 
 // A copy at its access, with the pins that it holds.
@@ -152,12 +163,14 @@ impl Domain {
         &mut self,
         monitor: &Monitor<P>,
         copy: &CopyArgs,
-    ) -> Result<Pins, Denial>
+        pins: &mut Pins,
+    ) -> Result<(), Denial>
         requires mine { IsOf P.may monitor.now self.old }
+        requires none { pins.old ≡ no_pins }
         requires unanswered { copy_begun (known P.may monitor.now self.old) self.old.seat.dom copy.now ≡ None }
         ensures kept { IsUnsettled self.old self.new }
         ensures stops { StopsSo (known P.may monitor.now self.old) monitor.now.words.layout
-            self.old.seat.dom copy.now result self.old.seat.view self.new.seat.view }
+            self.old.seat.dom copy.now (filled result pins.new) self.old.seat.view self.new.seat.view }
     {
         let known = Known {
             config: &monitor.config,
@@ -167,7 +180,7 @@ impl Domain {
             mappings: &self.mappings,
         };
         let caller = self.seat.dom();
-        drive_copy(&monitor.words, &known, &mut self.seat, caller, copy)
+        drive_copy(&monitor.words, &known, &mut self.seat, caller, copy, pins)
     }
 
     // Gives back the pins that a copy held at its access.
@@ -201,10 +214,11 @@ impl Domain {
         if let Some(verdict) = self.judge_copy(monitor, copy) {
             return Err(refusal_of(verdict));
         }
-        let pins = match self.drive_copy(monitor, copy) {
-            Ok(pins) => pins,
+        let mut pins = no_pins();
+        match self.drive_copy(monitor, copy, &mut pins) {
+            Ok(()) => {}
             Err(denial) => return Err(denial),
-        };
+        }
         let caller = self.seat.dom();
         let from = place_of(caller, copy.source, pins.source);
         let to = place_of(caller, copy.dest, pins.dest);
@@ -262,8 +276,9 @@ impl Domain {
         if let Some(verdict) = self.judge_copy(monitor, copy) {
             return Err(refusal_of(verdict));
         }
-        match self.drive_copy(monitor, copy) {
-            Ok(pins) => Ok(at_access(self.seat.dom(), *copy, pins)),
+        let mut pins = no_pins();
+        match self.drive_copy(monitor, copy, &mut pins) {
+            Ok(()) => Ok(at_access(self.seat.dom(), *copy, pins)),
             Err(denial) => Err(denial),
         }
     }

@@ -1,6 +1,6 @@
 use Rattle.gt_calls.specs.Rules.{knows}
 use Rattle.gt_calls.specs.Machine.{at_source}
-use Rattle.gt_live.specs.Copies.{after_copy}
+use Rattle.gt_live.specs.Copies.{after_copy, filled}
 use Rattle.gt_live.proofs.Phases.{may-run, stands-first, stands-then, stops}
 use Rattle.gt_live.proofs.routes.drive_copy.Goals as goal
 
@@ -19,6 +19,6 @@ returns-clause-stops g c =
     let caller = c.args.caller in let copy = c.args.copy.now in let v = c.args.seat.now.view in
     let law = c.every_copy_goes_on_by_its_phase.ensures known caller copy in
     let begins = c.every_copy_begins_at_its_source.ensures known caller copy in let w = c.walk.new.seat.view in
-    stops known k caller copy law v c.requires.knows c.walk.result w
-    (stands-then known k caller copy law v c.requires.knows (at_source known caller copy) (after_copy copy c.walk.result)
+    stops known k caller copy law v c.requires.knows (filled c.walk.result c.walk.new.pins) w
+    (stands-then known k caller copy law v c.requires.knows (at_source known caller copy) (after_copy copy (filled c.walk.result c.walk.new.pins))
     w (stands-first known k caller copy law v c.requires.knows begins c.requires.unanswered) c.walk.ensures.goes)

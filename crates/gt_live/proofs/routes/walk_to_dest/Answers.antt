@@ -1,19 +1,20 @@
-use Rattle.std.proofs.Common.{◌∙◌, sym}
+use Rattle.std.proofs.Common.{◌∙◌, ap, sym}
 use Rattle.std.specs.Prelude.{Err}
 use Rattle.gt_calls.specs.declared.action.Verdict.TheVariants.{Refused}
-use Rattle.gt_calls.specs.declared.call.Phase.TheVariants.{Ending}
+use Rattle.gt_calls.specs.declared.call.Phase.TheVariants.{Accessing, Ending}
+use Rattle.gt_calls.specs.declared.held.Route.{Route}
 use Rattle.gt_calls.specs.Machine.{at_dest}
 use Rattle.gt_calls.specs.Rules.{knows}
 use Rattle.gt_live.specs.Copies.{after_copy, dest_leg}
 use Rattle.gt_live.proofs.GivingBack.{can-give-source, only_source, source-given}
-use Rattle.gt_live.proofs.Phases.{can-from, can-then, runs-from, runs-then}
-use Rattle.gt_live.proofs.Reaching.{dest-walked}
+use Rattle.gt_live.proofs.Phases.{can-from, can-then, runs-from, runs-none, runs-then, runs-to}
+use Rattle.gt_live.proofs.Reaching.{dest-own, dest-walked}
 use Rattle.gt_live.proofs.routes.walk_to_dest.Goals as goal
 
 pub reach_dest-requires-clause-can : goal.reach_dest-requires-clause-can
 reach_dest-requires-clause-can g c =
     let known = knows g.P.Allows.may c.args.known.now in let k = c.args.words.now.layout in
-    let caller = c.args.caller in let copy = c.args.copy.now in let source = c.args.source in
+    let caller = c.args.caller in let copy = c.args.copy.now in let source = c.args.pins.now.source in
     can-from known k caller (at_dest known caller copy source) (dest_leg known caller copy source) c.args.seat.now.view
     (dest-walked known k caller copy source (sym c.is_dest_granted.ensures ∙ c.if-not-is_dest_granted.false))
     c.requires.can
@@ -21,7 +22,7 @@ reach_dest-requires-clause-can g c =
 pub give_back_route-requires-clause-can : goal.give_back_route-requires-clause-can
 give_back_route-requires-clause-can g c =
     let known = knows g.P.Allows.may c.args.known.now in let k = c.args.words.now.layout in
-    let caller = c.args.caller in let copy = c.args.copy.now in let source = c.args.source in
+    let caller = c.args.caller in let copy = c.args.copy.now in let source = c.args.pins.now.source in
     let v = c.args.seat.now.view in let u = c.reach_dest.new.seat.view in let denial = c.in-Err.denial in
     let walked = dest-walked known k caller copy source (sym c.is_dest_granted.ensures ∙ c.if-not-is_dest_granted.false) in
     can-give-source k known caller denial source u
@@ -33,7 +34,7 @@ give_back_route-requires-clause-can g c =
 pub returns-in-Err-clause-goes : goal.returns-in-Err-clause-goes
 returns-in-Err-clause-goes g c =
     let known = knows g.P.Allows.may c.args.known.now in let k = c.args.words.now.layout in
-    let caller = c.args.caller in let copy = c.args.copy.now in let source = c.args.source in
+    let caller = c.args.caller in let copy = c.args.copy.now in let source = c.args.pins.now.source in
     let v = c.args.seat.now.view in let u = c.reach_dest.new.seat.view in let denial = c.in-Err.denial in
     let w = c.give_back_route.new.seat.view in
     let walked = dest-walked known k caller copy source (sym c.is_dest_granted.ensures ∙ c.if-not-is_dest_granted.false) in
@@ -42,3 +43,22 @@ returns-in-Err-clause-goes g c =
     (runs-then known k caller (dest_leg known caller copy source) (Ending (only_source k source) (Refused denial)) end v
     u w c.in-Err.ensures.goes
     (source-given k known caller denial source u w c.give_back_route.ensures.given))
+
+pub returns-then-not-is_dest_granted-clause-goes : goal.returns-then-not-is_dest_granted-clause-goes
+returns-then-not-is_dest_granted-clause-goes g c =
+    let known = knows g.P.Allows.may c.args.known.now in let k = c.args.words.now.layout in
+    let caller = c.args.caller in let copy = c.args.copy.now in let pins = c.args.pins.now in
+    let v = c.args.seat.now.view in let start = at_dest known caller copy pins.source in
+    runs-to known k caller start start (Accessing copy pins.source pins.dest) v v
+    (dest-own known k caller copy pins.source (sym c.is_dest_granted.ensures ∙ c.if-not-is_dest_granted.true)
+    ∙ ap (λ (r : Route). Accessing copy pins.source r) (sym c.requires.own))
+    (runs-none known k caller start v)
+
+pub returns-in-Ok-clause-goes : goal.returns-in-Ok-clause-goes
+returns-in-Ok-clause-goes g c =
+    let known = knows g.P.Allows.may c.args.known.now in let k = c.args.words.now.layout in
+    let caller = c.args.caller in let copy = c.args.copy.now in let source = c.args.pins.now.source in
+    let v = c.args.seat.now.view in let w = c.reach_dest.new.seat.view in
+    let walked = dest-walked known k caller copy source (sym c.is_dest_granted.ensures ∙ c.if-not-is_dest_granted.false) in
+    runs-from known k caller (dest_leg known caller copy source) (at_dest known caller copy source)
+    (Accessing copy source c.reach_dest.new.route) v w (sym walked) c.in-Ok.ensures.goes

@@ -50,7 +50,7 @@ returns-in-Err-clause-kept g c =
 pub returns-in-Ok-clause-comes : goal.returns-in-Ok-clause-comes
 returns-in-Ok-clause-comes g c =
     let m = c.args.monitor.now in let d = c.args.self.now in let may = g.P.Allows.may m.rights in
-    let copy = c.args.copy.now in let pins = c.in-Ok.pins in let k = m.words.layout in
+    let copy = c.args.copy.now in let pins = c.drive_copy.new.pins in let k = m.words.layout in
     let c0 = knowledge m.config may d in let f = c.drive_copy.new.self in let kept = c.drive_copy.ensures.kept in
     let me = kept.seat.dom in let a = c.in-Ok.ensures.stops in
     let half = halfway_with d.seat.dom copy pins in

@@ -24,7 +24,7 @@ drive_copy-requires-clause-unanswered g c = sym c.judge_copy.ensures ∙ c.in_de
 
 pub copy_through-copied-requires-clause-source : goal.copy_through-copied-requires-clause-source
 copy_through-copied-requires-clause-source g c =
-    let m = c.args.monitor.now in let d = c.args.self.now in let copy = c.args.copy.now in let pins = c.in-Ok.pins in
+    let m = c.args.monitor.now in let d = c.args.self.now in let copy = c.args.copy.now in let pins = c.drive_copy.new.pins in
     let c0 = knowledge m.config (g.P.Allows.may m.rights) d in let f = c.drive_copy.new.self in
     let me = c.drive_copy.ensures.kept.seat.dom in
     access-source c0 m.words.layout f.seat d.seat.dom copy pins d.seat.view me c.in-Ok.ensures.stops c.place_of-from.result
@@ -32,7 +32,7 @@ copy_through-copied-requires-clause-source g c =
 
 pub copy_through-copied-requires-clause-dest : goal.copy_through-copied-requires-clause-dest
 copy_through-copied-requires-clause-dest g c =
-    let m = c.args.monitor.now in let d = c.args.self.now in let copy = c.args.copy.now in let pins = c.in-Ok.pins in
+    let m = c.args.monitor.now in let d = c.args.self.now in let copy = c.args.copy.now in let pins = c.drive_copy.new.pins in
     let c0 = knowledge m.config (g.P.Allows.may m.rights) d in let f = c.drive_copy.new.self in
     let me = c.drive_copy.ensures.kept.seat.dom in
     access-dest c0 m.words.layout f.seat d.seat.dom copy pins d.seat.view me c.in-Ok.ensures.stops c.place_of-to.result
@@ -40,14 +40,14 @@ copy_through-copied-requires-clause-dest g c =
 
 pub copy_through-copied-requires-clause-may : goal.copy_through-copied-requires-clause-may
 copy_through-copied-requires-clause-may g c =
-    let m = c.args.monitor.now in let d = c.args.self.now in let copy = c.args.copy.now in let pins = c.in-Ok.pins in
+    let m = c.args.monitor.now in let d = c.args.self.now in let copy = c.args.copy.now in let pins = c.drive_copy.new.pins in
     let c0 = knowledge m.config (g.P.Allows.may m.rights) d in let f = c.drive_copy.new.self in
     access-may c0 m.words.layout f.seat d.seat.dom copy pins d.seat.view c.drive_copy.ensures.kept.seat.dom
     c.in-Ok.ensures.stops (sym c.judge_copy.ensures ∙ c.in_default.is)
 
 pub copy_through-copied-requires-clause-source_range : goal.copy_through-copied-requires-clause-source_range
 copy_through-copied-requires-clause-source_range g c =
-    let m = c.args.monitor.now in let d = c.args.self.now in let copy = c.args.copy.now in let pins = c.in-Ok.pins in
+    let m = c.args.monitor.now in let d = c.args.self.now in let copy = c.args.copy.now in let pins = c.drive_copy.new.pins in
     let c0 = knowledge m.config (g.P.Allows.may m.rights) d in let f = c.drive_copy.new.self in
     let me = c.drive_copy.ensures.kept.seat.dom in
     access-source-range c0 m.words.layout f.seat d.seat.dom copy pins d.seat.view me c.in-Ok.ensures.stops
@@ -56,7 +56,7 @@ copy_through-copied-requires-clause-source_range g c =
 
 pub copy_through-copied-requires-clause-dest_range : goal.copy_through-copied-requires-clause-dest_range
 copy_through-copied-requires-clause-dest_range g c =
-    let m = c.args.monitor.now in let d = c.args.self.now in let copy = c.args.copy.now in let pins = c.in-Ok.pins in
+    let m = c.args.monitor.now in let d = c.args.self.now in let copy = c.args.copy.now in let pins = c.drive_copy.new.pins in
     let c0 = knowledge m.config (g.P.Allows.may m.rights) d in let f = c.drive_copy.new.self in
     let me = c.drive_copy.ensures.kept.seat.dom in
     access-dest-range c0 m.words.layout f.seat d.seat.dom copy pins d.seat.view me c.in-Ok.ensures.stops
@@ -110,7 +110,7 @@ returns-clause-mine g c =
 
 pub returns-clause-answered : goal.returns-clause-answered
 returns-clause-answered g c =
-    let m = c.args.monitor.now in let d = c.args.self.now in let copy = c.args.copy.now in let pins = c.in-Ok.pins in
+    let m = c.args.monitor.now in let d = c.args.self.now in let copy = c.args.copy.now in let pins = c.drive_copy.new.pins in
     let k = m.words.layout in let c0 = knowledge m.config (g.P.Allows.may m.rights) d in let f = c.drive_copy.new.self in
     let e = c.give_back.new.self in let me = c.drive_copy.ensures.kept.seat.dom in
     let from_is : c.place_of-from.result ≡ place_of d.seat.dom copy.source pins.source =
