@@ -1,4 +1,5 @@
 pub mod Laying
 pub mod Overlay
 pub mod Placing
+pub mod Shown
 pub mod Writes

@@ -5,3 +5,4 @@ pub mod Pool
 pub mod Receipts
 pub mod Sets
 pub mod Visits
+pub mod Writers

@@ -20,10 +20,12 @@
 mod bytes;
 mod frame;
 mod frames;
+mod journal;
 mod places;
 mod pool;
 mod receipts;
 mod visits;
+mod writers;
 mod writ;
 
 pub use bytes::FrameBytes;
