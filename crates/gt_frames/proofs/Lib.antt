@@ -1,3 +1,4 @@
+pub mod Covered
 pub mod Laying
 pub mod Overlay
 pub mod Placing

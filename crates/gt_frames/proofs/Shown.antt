@@ -49,19 +49,19 @@ same-read (suc n) v (suc at) lt = same-read n v at (omega (arith, lt))
 pub range-read :
     (xs : List ℕ) (off len n at : ℕ) → off + len ≤ length xs
     → ((off ≤ at) × (at < off + len) × (get_or (overlay xs off (replicate len n)) at 0 ≡ n))
-      ⊎ (((at < off) ⊎ (off + len ≤ at)) × (get_or (overlay xs off (replicate len n)) at 0 ≡ get_or xs at 0))
+    ⊎ (((at < off) ⊎ (off + len ≤ at)) × (get_or (overlay xs off (replicate len n)) at 0 ≡ get_or xs at 0))
 range-read xs off len n at fits =
     let size : length (replicate len n) ≡ len = length-replicate len n in
     let over : IsLaidOver xs off (replicate len n) (overlay xs off (replicate len n)) = laid_over xs off (replicate len n) (omega (arith, size, fits)) in
     let inside : off ≤ at → at < off + len → get_or (overlay xs off (replicate len n)) at 0 ≡ n =
-        λ le lt.
-          let back : off + (at - off) ≡ at = omega arith in
-          ap (λ (k : ℕ). get_or (overlay xs off (replicate len n)) k 0) (sym back)
-          ∙ over.inside (at - off) (omega (arith, size, lt, le)) ∙ same-read len n (at - off) (omega (arith, lt, le)) in
+    λ le lt.
+    let back : off + (at - off) ≡ at = omega arith in
+    ap (λ (k : ℕ). get_or (overlay xs off (replicate len n)) k 0) (sym back)
+    ∙ over.inside (at - off) (omega (arith, size, lt, le)) ∙ same-read len n (at - off) (omega (arith, lt, le)) in
     elim (cases_lt at off) [
-      inl below ↦ inr (inl below, over.before at below)
+      | inl below ↦ inr (inl below, over.before at below)
       | inr le ↦ elim (cases_lt at (off + len)) [
-        inl lt ↦ inl (le, lt, inside le lt)
+        | inl lt ↦ inl (le, lt, inside le lt)
         | inr above ↦ inr (inr above, over.after at (omega (arith, size, above)))
       ]
     ]
@@ -91,11 +91,11 @@ module _ (w v : Writers) (writs : v.writs ≡ w.writs) (used : v.used ≡ w.used
       record {
         size = inr (ap (λ (xs : List ℕ). length xs) laid ∙ length-overlay w.numbers.items off (replicate len n) (omega (arith, length-replicate {A = ℕ} len n, fits_in)) ∙ size);
         within = λ at. elim (range-read w.numbers.items off len n at fits_in) [
-          inl y ↦ omega (arith, read at, y.2, within, count)
+          | inl y ↦ omega (arith, read at, y.2, within, count)
           | inr y ↦ omega (arith, read at, y.1, sound.within at, count)
         ];
         marked = λ at. subst (λ (us : List Bool). IsUsed us (get_or v.numbers.items at 0)) (sym same-used) (elim (range-read w.numbers.items off len n at fits_in) [
-          inl y ↦ subst (λ (k : ℕ). IsUsed w.used.items k) (sym (read at ∙ y.2)) marked
+          | inl y ↦ subst (λ (k : ℕ). IsUsed w.used.items k) (sym (read at ∙ y.2)) marked
           | inr y ↦ subst (λ (k : ℕ). IsUsed w.used.items k) (sym (read at ∙ y.1)) (sound.marked at)
         ]);
         places = same-places;
@@ -116,7 +116,7 @@ module _ (w v : Writers) (writs : v.writs ≡ w.writs) (used : v.used ≡ w.used
   shows_zeros zeros none = λ at.
       ap (λ (ws : List Writ). writ_under ws (get_or v.numbers.items at 0)) same-writs
       ∙ ap (λ (k : ℕ). writ_under w.writs.items k)
-        (ap (λ (xs : List ℕ). get_or xs at 0) zeros ∙ zero-read FRAME_SIZE at ∙ sym (empty-read w.numbers.items at none))
+      (ap (λ (xs : List ℕ). get_or xs at 0) zeros ∙ zero-read FRAME_SIZE at ∙ sym (empty-read w.numbers.items at none))
 
 -- the last of one more record
 last_writ-append : (rs : List WriteRecord) (r : WriteRecord) (at : ℕ) (w : Option Writ)
@@ -124,10 +124,10 @@ last_writ-append : (rs : List WriteRecord) (r : WriteRecord) (at : ℕ) (w : Opt
 last_writ-append [] r at w = refl
 last_writ-append (q ∷ rs) r at w = last_writ-append rs r at (if has_byte q at then Some q.writ else w)
 
-in_range : (off len at : ℕ) → off ≤ at → at < off + len → nat_le off at && nat_lt at (off + len) ≡ true
+pub in_range : (off len at : ℕ) → off ≤ at → at < off + len → nat_le off at && nat_lt at (off + len) ≡ true
 in_range off len at le lt = grind (arith, nat_tests)
 
-out_of_range : (off len at : ℕ) → (at < off) ⊎ (off + len ≤ at) → nat_le off at && nat_lt at (off + len) ≡ false
+pub out_of_range : (off len at : ℕ) → (at < off) ⊎ (off + len ≤ at) → nat_le off at && nat_lt at (off + len) ≡ false
 out_of_range off len at (inl lt) = grind (arith, nat_tests)
 out_of_range off len at (inr le) = grind (arith, nat_tests)
 
@@ -142,20 +142,20 @@ module _ (w v : Writers) (journal new : List WriteRecord) (writ : Writ) (n off :
       let r : WriteRecord = record { writ = writ; off = off; bytes = ys } in
       let fits_in : off + length ys ≤ length u.numbers.items = omega (arith, size, fits) in
       let read : (at : ℕ) → shown v at ≡ writ_under u.writs.items (get_or (overlay u.numbers.items off (replicate (length ys) n)) at 0) =
-          λ at. ap (λ ws. writ_under ws.items (get_or v.numbers.items at 0)) writs ∙ ap (λ (xs : List ℕ). writ_under u.writs.items (get_or xs at 0)) laid in
+      λ at. ap (λ ws. writ_under ws.items (get_or v.numbers.items at 0)) writs ∙ ap (λ (xs : List ℕ). writ_under u.writs.items (get_or xs at 0)) laid in
       let last : (at : ℕ) → last_writ new at None ≡ (if has_byte r at then Some writ else last_writ journal at None) =
-          λ at. ap (λ (rs : List WriteRecord). last_writ rs at None) adds ∙ last_writ-append journal r at None in
+      λ at. ap (λ (rs : List WriteRecord). last_writ rs at None) adds ∙ last_writ-append journal r at None in
       record {
         sound = sound;
         shows = λ at. elim (range-read u.numbers.items off (length ys) n at fits_in) [
-          inl y ↦
-            let in_it : has_byte r at ≡ true = in_range off (length ys) at y.0 y.1 in
-            read at ∙ ap (λ (k : ℕ). writ_under u.writs.items k) y.2 ∙ has.is
-            ∙ sym (last at ∙ ap (λ (b : Bool). if b then Some writ else last_writ journal at None) in_it)
+          | inl y ↦
+              let in_it : has_byte r at ≡ true = in_range off (length ys) at y.0 y.1 in
+              read at ∙ ap (λ (k : ℕ). writ_under u.writs.items k) y.2 ∙ has.is
+              ∙ sym (last at ∙ ap (λ (b : Bool). if b then Some writ else last_writ journal at None) in_it)
           | inr y ↦
-            let out_of_it : has_byte r at ≡ false = out_of_range off (length ys) at y.0 in
-            read at ∙ ap (λ (k : ℕ). writ_under u.writs.items k) y.1 ∙ same at ∙ knows.shows at
-            ∙ sym (last at ∙ ap (λ (b : Bool). if b then Some writ else last_writ journal at None) out_of_it)
+              let out_of_it : has_byte r at ≡ false = out_of_range off (length ys) at y.0 in
+              read at ∙ ap (λ (k : ℕ). writ_under u.writs.items k) y.1 ∙ same at ∙ knows.shows at
+              ∙ sym (last at ∙ ap (λ (b : Bool). if b then Some writ else last_writ journal at None) out_of_it)
         ];
       }
 

@@ -5,8 +5,8 @@ ghost use Rattle.gt_frames.specs.Bytes.{overlay};
 ghost use Rattle.gt_frames.specs.Frames.{recorded};
 ghost use Rattle.gt_frames.specs.Writers.{KnowsWriters};
 
-use crate::receipts::CopiedEnd;
 use crate::journal::Journal;
+use crate::receipts::CopiedEnd;
 use crate::writers::Writers;
 use crate::{Copied, FrameBytes, Read, Writ, Written};
 use gt_types::{DomId, FRAME_SIZE, Memory};

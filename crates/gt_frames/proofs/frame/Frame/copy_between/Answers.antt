@@ -3,10 +3,11 @@ use Rattle.gt_frames.proofs.Writes.{kept_after, sound_after, is_write, same_byte
 use Rattle.gt_frames.proofs.frame.Frame.copy_between.Goals as goal
 
 pub invariant_of-to-2 : goal.invariant_of-to-2
-invariant_of-to-2 c =
-    (sound_after _ _ _ _ _ _ _ _ c.to.view_is c.in_ok-store.ensures.journal _ _ _ c.to.invariant.0 c.in_ok-store.ensures.contents
+invariant_of-to-2 c = (
+  sound_after _ _ _ _ _ _ _ _ c.to.view_is c.in_ok-store.ensures.journal _ _ _ c.to.invariant.0 c.in_ok-store.ensures.contents
       c.range_of.ensures.len c.requires.dest c.requires.right,
-    c.in_ok-store.ensures.knows)
+  c.in_ok-store.ensures.knows,
+)
 
 pub returns-clause-written : goal.returns-clause-written
 returns-clause-written c =

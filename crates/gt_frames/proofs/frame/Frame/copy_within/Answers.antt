@@ -5,10 +5,11 @@ use Rattle.gt_frames.proofs.frame.Frame.copy_within.Goals as goal
 
 pub invariant_of-self-2 : goal.invariant_of-self-2
 invariant_of-self-2 c =
-    let size : length (slice_range c.self.inside.bytes.items c.args.from_off (c.args.from_off + c.args.len)) ≡ c.args.len = grind (arith, common_steps) in
-    (sound_after _ _ _ _ _ _ _ _ c.self.view_is c.in_ok-store_own.ensures.journal _ _ _ c.self.invariant.0 c.in_ok-store_own.ensures.contents
-      size c.requires.dest c.requires.right,
-    c.in_ok-store_own.ensures.knows)
+    let size : length (slice_range c.self.inside.bytes.items c.args.from_off (c.args.from_off + c.args.len)) ≡ c.args.len = grind (arith, common_steps) in (
+      sound_after _ _ _ _ _ _ _ _ c.self.view_is c.in_ok-store_own.ensures.journal _ _ _ c.self.invariant.0 c.in_ok-store_own.ensures.contents
+          size c.requires.dest c.requires.right,
+      c.in_ok-store_own.ensures.knows,
+    )
 
 pub returns-clause-written : goal.returns-clause-written
 returns-clause-written c =

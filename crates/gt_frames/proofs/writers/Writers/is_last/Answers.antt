@@ -8,6 +8,7 @@ returns c = λ is.
     let writs = c.args.self.now.writs.items in
     let number : c.from-number.result ≡ c.args.self.now.last = omega arith in
     let read : slice_get writs (c.from-number.result - 1) ≡ Some c.index.result.now =
-        slice_get_read writs c.len.result (c.from-number.result - 1) c.index.result.now (omega arith) (omega arith) c.index.ensures in
-    (omega arith,
-    ap (λ (n : ℕ). slice_get writs (n - 1)) (sym number) ∙ read ∙ ap (λ (w : Writ). Some w) (c.is.ensures is))
+    slice_get_read writs c.len.result (c.from-number.result - 1) c.index.result.now (omega arith) (omega arith) c.index.ensures in (
+      omega arith,
+      ap (λ (n : ℕ). slice_get writs (n - 1)) (sym number) ∙ read ∙ ap (λ (w : Writ). Some w) (c.is.ensures is),
+    )
