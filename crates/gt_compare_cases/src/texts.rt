@@ -28,7 +28,7 @@ fn lines_told(
     names: &[Text<'_>],
 ) -> anyhow::Result<String> {
     let mut told = Vec::new(alloc);
-    'records: for record in domain.told() {
+    'records: for record in &domain.told()? {
         push_line(&mut told, record, names)?;
     }
     Ok(String::from_utf8(told)?)
@@ -51,7 +51,7 @@ fn records_compared(
         if first.is_none() && told.as_str() != wanted.as_str() {
             first = Some(named.id.0);
         }
-        let kept = domain.told().len() as u64;
+        let kept = domain.told()?.len() as u64;
         told_of = told_of.saturating_add(kept).saturating_add(domain.lost());
         wanted_of = wanted_of.saturating_add(wanted.lines().count());
     }

@@ -151,7 +151,7 @@ fn make<R: Wait + Abort, P: Allows>(
             assert_eq!(rt; text.as_str(), records);
         }
         Stage::LeavesMany(records) => {
-            let count = count_left(domains.pop());
+            let count = count_left(domains.pop())?;
             assert_eq!(rt; count, records);
         }
     }

@@ -45,6 +45,9 @@ const APART: u32 = 64;
 /// How far they lie apart if they are neighbours.
 const ADJACENT: u32 = 1;
 
+/// After how many rounds a mapper's records are taken.
+const BEFORE_TAKEN: u32 = 128;
+
 /// Each type may map the pages of each and unmap them, and copy.
 pub(crate) const POLICY: &str = "type a_t; allow a_t a_t:grant { map_read map_write unmap copy };";
 
@@ -178,12 +181,35 @@ fn map_and_unmap<P: Allows>(domain: &mut Running<'_, P>, gref: GrantRef, rounds:
     done
 }
 
-fn work<P: Allows>(worker: Worker<'_, P>, audit: Audit, rounds: u32) -> u32 {
+// The same, in parts after each of which the records are taken.
+fn map_and_take<P: Allows>(
+    alloc: Global,
+    domain: &mut Running<'_, P>,
+    gref: GrantRef,
+    rounds: u32,
+) -> u32 {
+    let mut done: u32 = 0;
+    'parts: for _ in 0..u64::MAX {
+        let left = rounds.saturating_sub(done);
+        if left == 0 {
+            break;
+        }
+        let part = map_and_unmap(domain, gref, left.min(BEFORE_TAKEN));
+        domain.take_records(alloc);
+        done = done.saturating_add(part);
+    }
+    done
+}
+
+fn work<P: Allows>(alloc: Global, worker: Worker<'_, P>, audit: Audit, rounds: u32) -> u32 {
     let Worker { mut domain, part } = worker;
     if !domain.record_calls(audit) {
         return 0;
     }
     match part {
+        Part::Maps(gref) if audit == Audit::Taken => {
+            map_and_take(alloc, &mut domain, gref, rounds)
+        }
         Part::Maps(gref) => map_and_unmap(&mut domain, gref, rounds),
         Part::Grants { count, stride } => revoke_and_grant(&mut domain, count, stride, rounds),
         Part::Withdraws { count, stride } => {
@@ -257,7 +283,7 @@ pub(crate) fn run<R: Threads + Sync>(
     let (monitor, domains) = Monitor::new(alloc, run_domains(alloc, count)?, rights)?;
     let domains = all_running(alloc, &monitor, domains)?;
     let workers = workers(alloc, domains, load, threads as u32)?;
-    let done = thread::map_vec(rt, workers, &|worker| work(worker, audit, rounds))?;
+    let done = thread::map_vec(rt, workers, &|worker| work(alloc, worker, audit, rounds))?;
     Ok(
         done.iter()
             .fold(0, |all, &more| all.saturating_add(u64::from(more))),

@@ -10,8 +10,8 @@
 //! a page of its own that the owner granted to it, and a round is one access of so many bytes, through its mapping or
 //! as a copy by reference to a frame of its own.
 //!
-//! The calls are recorded; with a fourth word `off` they are not, and with `ahead` each domain makes room for its
-//! records before its first call. A fifth word is the number of domains of a load of calls, from 6 to 64 (6).
+//! The calls are recorded; with a fourth word `off` they are not, with `ahead` each domain makes room for its records
+//! before its first call, and with `taken` each mapper's records are taken while it runs. A fifth word is the number of domains of a load of calls, from 6 to 64 (6).
 //!
 //! It promises nothing beyond the calls that it makes, and uses `gt_live`. The script `bench/live.sh` runs and times
 //! it beside the bare words and a program in C.
@@ -54,6 +54,7 @@ fn audit_of(name: &str) -> Option<Audit> {
     match name {
         "on" => Some(Audit::On),
         "ahead" => Some(Audit::Ahead),
+        "taken" => Some(Audit::Taken),
         "off" => Some(Audit::Off),
         _ => None,
     }
@@ -70,7 +71,7 @@ fn main(rt: HostRuntime) -> Result<()> {
         None => Some(Audit::On),
     };
     let Some(audit) = audit else {
-        bail!("AUDIT is on, ahead or off");
+        bail!("AUDIT is on, ahead, taken or off");
     };
     let domains = match words.next() {
         Some(word) => word.as_str().parse::<u16>()?,

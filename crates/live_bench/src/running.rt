@@ -2,6 +2,7 @@
 ghost use Rattle.std.specs.Prelude.{All};
 ghost use Rattle.gt_live.specs.Domains.{IsOf};
 
+use gt_audit::Trail;
 use gt_calls::{CopyArgs, Handle};
 use gt_entry::Entry;
 use gt_live::{Domain, Monitor};
@@ -17,6 +18,8 @@ pub enum Audit {
     On,
     /// There is room for all records before the first call.
     Ahead,
+    /// Records are taken as the domain runs, and their room is used again.
+    Taken,
     /// No record is kept.
     Off,
 }
@@ -28,6 +31,8 @@ const RECORDS_AHEAD: usize = 400_000;
 pub struct Running<'m, P: Allows> {
     monitor: &'m Monitor<P>,
     domain: Domain,
+    // What was taken of its records the last time.
+    taken: Trail,
 }
 
 impl<'m, P: Allows> Model for Running<'m, P> {
@@ -43,7 +48,11 @@ impl<'m, P: Allows> Model for Running<'m, P> {
 
 impl<'m, P: Allows> Drop for Running<'m, P> {
     fn drop(self) {
-        let Running { monitor, domain } = self;
+        let Running {
+            monitor,
+            domain,
+            taken: _,
+        } = self;
         let _ = domain.finish(monitor);
     }
 }
@@ -52,22 +61,33 @@ impl<'m, P: Allows> Running<'m, P> {
     ghost use Rattle.gt_live.specs.Domains.{IsOf};
 
     /// The domain beside its monitor.
-    pub fn new(monitor: &'m Monitor<P>, domain: Domain) -> Self
+    pub fn new(alloc: Global, monitor: &'m Monitor<P>, domain: Domain) -> Self
         requires { IsOf P.may monitor.now domain }
     {
-        Running { monitor, domain }
+        Running {
+            monitor,
+            domain,
+            taken: Trail::new(alloc),
+        }
     }
 
     /// Has its calls recorded so. Answers whether it could.
     pub fn record_calls(&mut self, audit: Audit) -> bool {
         match audit {
-            Audit::On => true,
+            Audit::On | Audit::Taken => true,
             Audit::Ahead => self.domain.reserve_records(RECORDS_AHEAD).is_ok(),
             Audit::Off => {
                 self.domain.keep_at_most(0);
                 true
             }
         }
+    }
+
+    /// Takes the records of its calls so far, which go when the next ones are taken.
+    pub fn take_records(&mut self, alloc: Global) {
+        let mut next = std::mem::replace(&mut self.taken, Trail::new(alloc));
+        next.clear();
+        self.taken = self.domain.take_records(next);
     }
 
     /// Publishes an entry, and answers whether it did.
@@ -148,7 +168,7 @@ pub fn all_running<'m, P: Allows>(
     let mut all: Vec<Running<'m, P>> = room;
     let mut rest = domains.into_iter();
     'rest: while let Some(domain) = rest.next() {
-        all.push_reserved(Running::new(monitor, domain));
+        all.push_reserved(Running::new(alloc, monitor, domain));
     }
     rest.destroy_empty();
     Ok(all)
