@@ -2,13 +2,14 @@
 # Times the loads of `live_bench`, whole calls on a running monitor, beside the bare words (`gt_bench`) and beside a
 # program in C that keeps its entries as Xen keeps them, under a lock for the table and one for each entry: the
 # table's lock with its readers in one word, or spread over a word for each thread. Whole calls are recorded (`on`),
-# recorded into room that was made before the first call (`ahead`), or not recorded (`off`). Prints millions of
-# operations a second (a map, an unmap, a revocation, a withdrawal or a grant is one), how many times longer a round of
-# each kind of whole calls takes than one of bare words, and the ratios of each kind to C with one word. An owner that
-# revokes and grants, or withdraws and grants, is timed alone. Below the table are the instructions of a round on one
-# thread, as valgrind counts them, and those of whole calls in a run of 64 domains.
+# recorded into room that was made before the first call (`ahead`), recorded while the records are taken every 128
+# rounds (`taken`), or not recorded (`off`). Prints millions of operations a second (a map, an unmap, a revocation, a
+# withdrawal or a grant is one), how many times longer a round of each kind of whole calls takes than one of bare words,
+# and the ratios of each kind to C with its lock spread. An owner that revokes and grants, or withdraws and grants, is
+# timed alone. Below the table are the instructions of a round on one thread, as valgrind counts them, and those of
+# whole calls in a run of 64 domains.
 #
-# A second table has the loads of bytes: thousands of loads, stores and copies a second, beside a program in C with a
+# A second table has the loads of bytes (below it is the resident size after a million stores): thousands of loads, stores and copies a second, beside a program in C with a
 # mutex for each frame (`live_bytes.c`), without a journal and with one, and the ratio to each. What C loses by its
 # journal is what a journal costs there. `bench/live.sh [RUNS] calls` or `bytes` prints the one table alone.
 #
@@ -35,18 +36,18 @@ done
 "${CC:-clang}" -O2 -pthread -o "$work/plain" "$top/bench/live_bytes.c"
 "${CC:-clang}" -O2 -pthread -DJOURNAL -o "$work/journal" "$top/bench/live_bytes.c"
 
-programs=(live_bench-on live_bench-ahead live_bench-off gt_bench counted spread)
+programs=(live_bench-on live_bench-ahead live_bench-taken live_bench-off gt_bench counted spread)
 movers=(live_bench plain journal)
 
-# How often each thread of a program does what it does, in a run that is long enough to be timed. A journal keeps what
-# is written, so there is no memory for long runs of stores and copies.
+# How often each thread of a program does what it does, in a run that is long enough to be timed. The journal of the C
+# program keeps what is written, so there is no memory for long runs of stores and copies.
 rounds_of() {
   case "$1 $2" in
     *" load-"* | plain*) echo 500000 ;;
     *" grants" | *" withdrawals") echo 200000 ;; # generations end them soon after a million
     *" "*-64) echo 100000 ;;
     *" "*-4096) echo 10000 ;;
-    live_bench-on* | live_bench-ahead*) echo 200000 ;; # 400,000 records, for which `live_bench` makes room ahead
+    live_bench-on* | live_bench-ahead* | live_bench-taken*) echo 200000 ;; # 400,000 records, for which `live_bench` makes room ahead
     *) echo 3000000 ;;
   esac
 }
@@ -90,9 +91,9 @@ least_times() {
 compare() {
   least_times "$1" "$2" "${programs[@]}" | awk -v load="$1" -v threads="$2" '{
     printf "%-11s %7d", load, threads
-    for (i = 1; i <= 6; i++) printf " %7.1f", speed[i] = 2000 * threads / $i
-    for (i = 1; i <= 3; i++) printf " %7.2f", speed[4] / speed[i]
-    for (i = 1; i <= 3; i++) printf " %7.2f", speed[i] / speed[5]
+    for (i = 1; i <= 7; i++) printf " %7.1f", speed[i] = 2000 * threads / $i
+    for (i = 1; i <= 4; i++) printf " %7.2f", speed[5] / speed[i]
+    for (i = 1; i <= 4; i++) printf " %7.2f", speed[i] / speed[7]
     printf "\n"
   }'
 }
@@ -104,6 +105,18 @@ compare_bytes() {
     printf "%-10s %7d %9.0f %9.0f %9.0f %8.2f %9.2f\n", load, threads, speed[1], speed[2], speed[3],
       speed[1] / speed[2], speed[1] / speed[3]
   }'
+}
+
+# The most memory, in KB, that a program was seen to have.
+resident() {
+  local most=0 now
+  "$@" >/dev/null &
+  while now="$(sed -n 's/^VmHWM:[^0-9]*\([0-9]*\).*/\1/p' "/proc/$!/status" 2>/dev/null)" && [ -n "$now" ]; do
+    most="$now"
+    sleep 0.01
+  done
+  wait
+  echo "$most"
 }
 
 # The instructions of a round of a program on one thread.
@@ -123,8 +136,8 @@ counted() {
 moves=(load-64 load-4096 store-64 store-4096 copy-64 copy-4096)
 if [ "$table" != bytes ]; then
   if [ "$runs" -gt 0 ]; then
-    printf '%-11s %7s %7s %7s %7s %7s %7s %7s %7s %7s %7s %7s %7s %7s\n' load threads on ahead off words counted spread \
-      w/on w/ahead w/off on/c ahead/c off/c
+    printf '%-11s %7s %7s %7s %7s %7s %7s %7s %7s %7s %7s %7s %7s %7s %7s %7s %7s\n' load threads on ahead taken off words \
+      counted spread w/on w/ahead w/taken w/off on/s ahead/s taken/s off/s
     for load in apart adjacent; do
       for threads in 1 2 3 4; do
         compare "$load" "$threads"
@@ -152,5 +165,8 @@ if [ "$table" != calls ]; then
   fi
   for load in "${moves[@]}"; do
     echo "$load: $(for program in "${movers[@]}"; do echo "$program $(instructions "$program" "$load")"; done | paste -sd' ') instructions a round"
+  done
+  for load in store-64 copy-64; do
+    echo "$load: $(resident "$work/live_bench" "$load" 1 1000000 off) KB resident after a million"
   done
 fi

@@ -1,4 +1,6 @@
+pub mod Covered
 pub mod Laying
 pub mod Overlay
 pub mod Placing
+pub mod Shown
 pub mod Writes

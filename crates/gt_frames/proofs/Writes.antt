@@ -79,7 +79,7 @@ pub same_bytes :
 same_bytes f owner number bytes journal off len was sound =
     ap (λ (l : List ℕ). slice_range l off (off + len)) sound.replayed ∙ ap (λ (g : FrameState). bytes_at g off len) was
 
-zeros_are : replicate FRAME_SIZE 0 ≡ zeros
+pub zeros_are : replicate FRAME_SIZE 0 ≡ zeros
 zeros_are = unfold zeros in refl
 
 -- a new frame is sound

@@ -1,11 +1,14 @@
 //! One frame: its bytes and its journal.
-ghost use Rattle.std.specs.Prelude.{◌≡◌, ◌+◌, ◌≤◌, ◌++◌, [], ◌∷◌, length, vec_capacity, vec_len, IsTrue, IfOk};
+ghost use Rattle.std.specs.Prelude.{◌≡◌, ◌+◌, ◌≤◌, ◌++◌, [], ◌∷◌, None, length, slice_range, vec_capacity, vec_len, IsTrue, IfOk};
 ghost use Rattle.std.specs.Prelude.{OnOk, OnErr};
 ghost use Rattle.gt_frames.specs.Bytes.{overlay};
 ghost use Rattle.gt_frames.specs.Frames.{recorded};
+ghost use Rattle.gt_frames.specs.Writers.{KnowsWriters};
 
+use crate::journal::Journal;
 use crate::receipts::CopiedEnd;
-use crate::{Copied, FrameBytes, Read, Writ, WriteRecord, Written};
+use crate::writers::Writers;
+use crate::{Copied, FrameBytes, Read, Writ, Written};
 use gt_types::{DomId, FRAME_SIZE, Memory};
 use std::alloc::Global;
 use std::marker::Model;
@@ -13,64 +16,110 @@ use std::marker::Model;
 /// A frame of 4,096 bytes, with all writes that were made to it.
 #[derive(Drop)]
 pub struct Frame {
-    alloc: Global,
     owner: DomId,
     number: u64,
     bytes: Vec<u8>,
-    journal: Vec<WriteRecord>,
+    writers: Writers,
+    journal: Journal,
 }
 
 impl Model for Frame {
     ghost use Rattle.gt_frames.specs.Frames.{FrameState, IsSound};
+    ghost use Rattle.gt_frames.specs.Writers.{KnowsWriters};
 
     ghost Value = { FrameState };
 
-    ghost view = { λ f. record { owner = f.owner; number = f.number; journal = f.journal.items } };
+    ghost view = { λ f. record { owner = f.owner; number = f.number; journal = f.journal } };
 
-    ghost invariant = { λ f. IsSound f.owner f.number f.bytes.items f.journal.items };
+    ghost invariant = { λ f. IsSound f.owner f.number f.bytes.items f.journal × KnowsWriters f.writers f.journal };
 }
 
-// Adds a record to the journal, and lays its bytes over the contents. The bytes are the record's
-// own, so a source that overlaps the range written was read before it.
+// Lays the bytes over the contents, and keeps by which writ they were written. Nothing else can fail than to make room
+// for another writ.
+#[inline(always)]
 fn store(
-    journal: &mut Vec<WriteRecord>,
+    writers: &mut Writers,
+    journal: &mut Journal,
     contents: &mut Vec<u8>,
     writ: &Writ,
     off: u16,
-    bytes: Vec<u8>,
+    bytes: &[u8],
 ) -> Result<(), Memory>
-    requires { off + vec_len bytes ≤ vec_len contents.old }
-    ensures journal { OnOk result (journal.new.items ≡ recorded journal.old.items writ.now off bytes.items) }
-    ensures contents { OnOk result (contents.new.items ≡ overlay contents.old.items off bytes.items) }
-    ensures journal_kept { OnErr result (journal.new.items ≡ journal.old.items) }
+    requires size { vec_len contents.old ≡ FRAME_SIZE }
+    requires range { off + length bytes.now ≤ FRAME_SIZE }
+    requires knows { KnowsWriters writers.old journal.old }
+    ensures knows { KnowsWriters writers.new journal.new }
+    ensures journal { OnOk result (journal.new ≡ recorded journal.old writ.now off bytes.now) }
+    ensures contents { OnOk result (contents.new.items ≡ overlay contents.old.items off bytes.now) }
+    ensures journal_kept { OnErr result (journal.new ≡ journal.old) }
     ensures contents_kept { OnErr result (contents.new.items ≡ contents.old.items) }
 {
-    journal.reserve(1)?;
     let start = usize::from(off);
-    let end = start + bytes.len();
-    contents[start..end].copy_from_slice(&bytes);
-    journal.push_reserved(WriteRecord {
-        writ: *writ,
-        off,
-        bytes: FrameBytes::from(bytes),
-    });
-    Ok(())
+    match writers.number_of(writ) {
+        Ok(number) => {
+            writers.show(number, start, bytes.len());
+            contents[start..start + bytes.len()].copy_from_slice(bytes);
+            journal.add(writ, off, bytes.len(), contents);
+            Ok(())
+        }
+        Err(refused) => Err(refused),
+    }
+}
+
+// So many bytes from this offset on.
+#[inline(always)]
+fn range_of(bytes: &[u8], off: u16, len: u16) -> &[u8]
+    requires { off + len ≤ length bytes.now }
+    ensures bytes { result.now ≡ slice_range bytes.now off (off + len) }
+    ensures len { length result.now ≡ len }
+{
+    let start = usize::from(off);
+    &bytes[start..start + usize::from(len)]
+}
+
+// The same of bytes of the contents themselves, which may overlap the range written: they are taken out first.
+fn store_own(
+    writers: &mut Writers,
+    journal: &mut Journal,
+    contents: &mut Vec<u8>,
+    writ: &Writ,
+    from_off: u16,
+    to_off: u16,
+    len: u16,
+) -> Result<(), Memory>
+    requires size { vec_len contents.old ≡ FRAME_SIZE }
+    requires source { from_off + len ≤ FRAME_SIZE }
+    requires range { to_off + len ≤ FRAME_SIZE }
+    requires knows { KnowsWriters writers.old journal.old }
+    ensures knows { KnowsWriters writers.new journal.new }
+    ensures journal { OnOk result (journal.new
+        ≡ recorded journal.old writ.now to_off (slice_range contents.old.items from_off (from_off + len))) }
+    ensures contents { OnOk result (contents.new.items
+        ≡ overlay contents.old.items to_off (slice_range contents.old.items from_off (from_off + len))) }
+    ensures journal_kept { OnErr result (journal.new ≡ journal.old) }
+    ensures contents_kept { OnErr result (contents.new.items ≡ contents.old.items) }
+{
+    let mut room = [0; FRAME_SIZE as usize];
+    let taken = &mut room[..usize::from(len)];
+    taken.copy_from_slice(range_of(contents, from_off, len));
+    store(writers, journal, contents, writ, to_off, taken)
 }
 
 impl Frame {
     ghost use Rattle.gt_frames.specs.Frames.{contents, bytes_at, covers, IsKept, IsWrite};
     ghost use Rattle.gt_frames.specs.Receipts.{reading_of, writing_of, copying_of};
+    ghost use Rattle.gt_frames.specs.Writers.{last_writ};
 
     /// A frame of zeros, to which nothing was written.
     pub fn new(alloc: Global, owner: DomId, number: u64) -> Result<Self, Memory>
         ensures { IfOk result (λ f. f ≡ record { owner = owner; number = number; journal = [] }) }
     {
         Ok(Frame {
-            alloc,
             owner,
             number,
             bytes: vec![in alloc; 0; FRAME_SIZE as usize]?,
-            journal: Vec::new(alloc),
+            writers: Writers::new(alloc),
+            journal: Journal::new(),
         })
     }
 
@@ -88,6 +137,13 @@ impl Frame {
         ensures { result ≡ self.now.number }
     {
         self.number
+    }
+
+    /// By which writ a byte was last written; `None` if it never was.
+    pub fn last_writ(&self, at: u16) -> Option<Writ>
+        ensures { result ≡ last_writ self.now.journal at None }
+    {
+        self.writers.last_writ(usize::from(at))
     }
 
     /// Reads the bytes from the offset `off` on over all of `out`, whose length is the range's. It
@@ -138,8 +194,14 @@ impl Frame {
         ensures receipt { IfOk result (λ r. r ≡ writing_of self.old off bytes.now writ.now.writer) }
         ensures refused { OnErr result (self.new ≡ self.old) }
     {
-        let kept = Vec::from_slice(self.alloc, bytes)?;
-        store(&mut self.journal, &mut self.bytes, writ, off, kept)?;
+        store(
+            &mut self.writers,
+            &mut self.journal,
+            &mut self.bytes,
+            writ,
+            off,
+            bytes,
+        )?;
         Ok(Written {
             owner: self.owner,
             number: self.number,
@@ -170,10 +232,14 @@ impl Frame {
         ensures receipt { IfOk result (λ r. r ≡ copying_of from.now from_off to.old to_off len writ.now.writer) }
         ensures refused { OnErr result (to.new ≡ to.old) }
     {
-        let start = usize::from(from_off);
-        let end = start + usize::from(len);
-        let kept = Vec::from_slice(to.alloc, &from.bytes[start..end])?;
-        store(&mut to.journal, &mut to.bytes, writ, to_off, kept)?;
+        store(
+            &mut to.writers,
+            &mut to.journal,
+            &mut to.bytes,
+            writ,
+            to_off,
+            range_of(&from.bytes, from_off, len),
+        )?;
         Ok(Copied {
             source: from.end(from_off),
             dest: to.end(to_off),
@@ -203,10 +269,15 @@ impl Frame {
         ensures receipt { IfOk result (λ r. r ≡ copying_of self.old from_off self.old to_off len writ.now.writer) }
         ensures refused { OnErr result (self.new ≡ self.old) }
     {
-        let start = usize::from(from_off);
-        let end = start + usize::from(len);
-        let kept = Vec::from_slice(self.alloc, &self.bytes[start..end])?;
-        store(&mut self.journal, &mut self.bytes, writ, to_off, kept)?;
+        store_own(
+            &mut self.writers,
+            &mut self.journal,
+            &mut self.bytes,
+            writ,
+            from_off,
+            to_off,
+            len,
+        )?;
         Ok(Copied {
             source: self.end(from_off),
             dest: self.end(to_off),

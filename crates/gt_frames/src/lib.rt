@@ -20,15 +20,19 @@
 mod bytes;
 mod frame;
 mod frames;
+mod journal;
+mod laws;
 mod places;
 mod pool;
 mod receipts;
 mod visits;
 mod writ;
+mod writers;
 
 pub use bytes::FrameBytes;
 pub use frame::Frame;
 pub use frames::Frames;
+pub use laws::a_covered_record_shows_no_byte;
 pub use places::{FrameCount, FrameName, Spot};
 pub use pool::{Ends, Pool};
 pub use receipts::{Copied, Read, Written};

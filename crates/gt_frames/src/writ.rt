@@ -1,11 +1,11 @@
 //! By what right a range is written.
-ghost use Rattle.std.specs.Prelude.{◌≡◌};
+ghost use Rattle.std.specs.Prelude.{◌≡◌, IsTrue};
 ghost use Rattle.gt_entry.specs.Permits.{is_of_frame, leads_to};
 ghost use Rattle.gt_frames.specs.Frames.{permits_writing, covers};
 
 use crate::FrameBytes;
 use gt_entry::Entry;
-use gt_types::{Dir, DomId, Range, Use};
+use gt_types::{Dir, DomId, GrantRef, Range, Use};
 
 /// By what a domain may write to a frame.
 #[derive(Clone, Copy, Debug, PartialEq, Eq)]
@@ -66,7 +66,109 @@ fn permits_writing(entry: Entry, dom: DomId, number: u64, range: Range) -> bool
     is_of_frame(entry, number) && entry.permits(dom, Dir::Write, Use::Copy, range)
 }
 
+fn is_domain(a: DomId, b: DomId) -> bool
+    ensures { IsTrue result → a ≡ b }
+{
+    a.0 == b.0
+}
+
+fn is_reference(a: GrantRef, b: GrantRef) -> bool
+    ensures { IsTrue result → a ≡ b }
+{
+    a.0 == b.0
+}
+
+fn is_flag(a: bool, b: bool) -> bool
+    ensures { IsTrue result → a ≡ b }
+{
+    a == b
+}
+
+// Whether both are one entry.
+fn is_entry(a: Entry, b: Entry) -> bool
+    ensures { IsTrue result → a ≡ b }
+{
+    match (a, b) {
+        (
+            Entry::Page { dom, ro, frame },
+            Entry::Page {
+                dom: dom_b,
+                ro: ro_b,
+                frame: frame_b,
+            },
+        ) => is_domain(dom, dom_b) && is_flag(ro, ro_b) && frame == frame_b,
+        (
+            Entry::Sub {
+                dom,
+                ro,
+                frame,
+                off,
+                len,
+            },
+            Entry::Sub {
+                dom: dom_b,
+                ro: ro_b,
+                frame: frame_b,
+                off: off_b,
+                len: len_b,
+            },
+        ) => {
+            is_domain(dom, dom_b)
+                && is_flag(ro, ro_b)
+                && frame == frame_b
+                && off == off_b
+                && len == len_b
+        }
+        (
+            Entry::Via {
+                dom,
+                ro,
+                dom2,
+                gref,
+            },
+            Entry::Via {
+                dom: dom_b,
+                ro: ro_b,
+                dom2: dom2_b,
+                gref: gref_b,
+            },
+        ) => {
+            is_domain(dom, dom_b)
+                && is_flag(ro, ro_b)
+                && is_domain(dom2, dom2_b)
+                && is_reference(gref, gref_b)
+        }
+        _ => false,
+    }
+}
+
+// Whether both are one basis.
+fn is_ground(a: Ground, b: Ground) -> bool
+    ensures { IsTrue result → a ≡ b }
+{
+    match (a, b) {
+        (Ground::Owned, Ground::Owned) => true,
+        (Ground::Granted(entry), Ground::Granted(entry_b)) => is_entry(entry, entry_b),
+        (
+            Ground::Forwarded { via, middle, entry },
+            Ground::Forwarded {
+                via: via_b,
+                middle: middle_b,
+                entry: entry_b,
+            },
+        ) => is_entry(via, via_b) && is_domain(middle, middle_b) && is_entry(entry, entry_b),
+        _ => false,
+    }
+}
+
 impl Writ {
+    /// Whether both are one writ. False says nothing.
+    pub(crate) fn is(&self, other: &Writ) -> bool
+        ensures { IsTrue result → self.now ≡ other.now }
+    {
+        is_domain(self.writer, other.writer) && is_ground(self.basis, other.basis)
+    }
+
     /// Whether it is for this range of this frame of the owner's.
     pub fn covers(&self, owner: DomId, number: u64, range: Range) -> bool
         ensures { result ≡ covers self.now owner number range.off range.len }

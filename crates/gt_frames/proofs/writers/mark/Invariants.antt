@@ -1,0 +1,6 @@
+use Rattle.std.proofs.Common.{◌<◌, ℕ, get_or}
+use Rattle.gt_frames.specs.Writers.{IsUsed}
+use Rattle.gt_frames.proofs.writers.mark.Given as goal
+
+abbrev pub invariant-bytes : goal.invariant-bytes
+invariant-bytes l = (k : ℕ) → k < l.at → IsUsed l.used (get_or l.numbers k 0)

@@ -1,0 +1,52 @@
+-- Who wrote each byte of a frame last, and by what right.
+use Rattle.std.specs.Prelude.{◌≡◌, ℕ, zero, suc, ◌+◌, ◌-◌, ◌<◌, ◌≤◌, Bool, true, ◌&&◌, ◌⊎◌, if◌then◌else◌, nat_le, nat_lt}
+use Rattle.std.specs.Prelude.{List, [], ◌∷◌, length, slice_get, slice_index_or, Option, Some, None}
+use Rattle.gt_types.specs.declared.limits.TheConstants.{FRAME_SIZE}
+use Rattle.gt_frames.specs.declared.writ.Writ.{Writ}
+use Rattle.gt_frames.specs.declared.writ.WriteRecord.{WriteRecord}
+use Rattle.gt_frames.specs.declared.writers.Writers.{Writers}
+
+-- the range of the record has this byte
+abbrev pub has_byte : WriteRecord → ℕ → Bool
+has_byte r at = nat_le r.off at && nat_lt at (r.off + length r.bytes)
+
+-- the writ of the last of these records whose range has this byte, or else this one
+abbrev pub last_writ : List WriteRecord → ℕ → Option Writ → Option Writ
+last_writ [] at w = w
+last_writ (r ∷ rs) at w = last_writ rs at (if has_byte r at then Some r.writ else w)
+
+-- the writ with this number
+abbrev pub writ_under : List Writ → ℕ → Option Writ
+writ_under ws zero = None
+writ_under ws (suc place) = slice_get ws place
+
+-- the writ by which the byte was last written, as it is kept
+abbrev pub shown : Writers → ℕ → Option Writ
+shown w at = writ_under w.writs.items (slice_index_or w.numbers.items at 0)
+
+-- the place of this number is marked as used
+abbrev pub IsUsed : List Bool → ℕ → Type 0
+IsUsed used zero = Unit {0}
+IsUsed used (suc place) = slice_index_or used place true ≡ true
+
+-- the number of each byte is that of a writ, whose place is marked
+pub record AreWriters (w : Writers) : Type 0 where
+  pub size : (length w.numbers.items ≡ 0) ⊎ (length w.numbers.items ≡ FRAME_SIZE)
+  pub within : (at : ℕ) → slice_index_or w.numbers.items at 0 ≤ length w.writs.items
+  pub marked : (at : ℕ) → IsUsed w.used.items (slice_index_or w.numbers.items at 0)
+  pub places : length w.used.items ≡ length w.writs.items
+
+-- each byte has the writ that it had
+abbrev pub ShowsSame : Writers → Writers → Type 0
+ShowsSame v w = (at : ℕ) → shown w at ≡ shown v at
+
+-- the number is that of this writ, and marked
+pub record HasWrit (w : Writers) (n : ℕ) (writ : Writ) : Type 0 where
+  pub is : writ_under w.writs.items n ≡ Some writ
+  pub within : n ≤ length w.writs.items
+  pub used : IsUsed w.used.items n
+
+-- for each byte the writ is kept by which this journal's last write to it was made
+pub record KnowsWriters (w : Writers) (journal : List WriteRecord) : Type 0 where
+  pub sound : AreWriters w
+  pub shows : (at : ℕ) → shown w at ≡ last_writ journal at None

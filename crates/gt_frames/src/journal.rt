@@ -1,0 +1,61 @@
+//! The journal of a frame, which only proofs read.
+ghost use Rattle.std.specs.Prelude.{◌≡◌, ◌+◌, [], slice_range};
+ghost use Rattle.gt_frames.specs.Frames.{recorded};
+
+use crate::Writ;
+use gt_history::History;
+use std::marker::Model;
+
+// By what a range was written, and which.
+#[derive(Clone, Copy)]
+struct Placed {
+    writ: Writ,
+    off: u16,
+    len: usize,
+}
+
+/// All writes to a frame, the oldest first. Only proofs read it, so it takes no memory.
+#[derive(Drop)]
+pub(crate) struct Journal {
+    // Of each write its range, and the bytes of the frame after it.
+    history: History<Placed, Vec<u8>>,
+}
+
+impl Model for Journal {
+    ghost use Rattle.std.specs.Prelude.{◌+◌, List, map, slice_range};
+    ghost use Rattle.gt_frames.specs.declared.writ.WriteRecord.{WriteRecord};
+
+    ghost Value = { List WriteRecord };
+
+    ghost view = { λ j. map (λ p. record {
+      writ = p.0.writ;
+      off = p.0.off;
+      bytes = slice_range p.1.items p.0.off (p.0.off + p.0.len);
+    }) j.history.items };
+}
+
+impl Journal {
+    ghost use Rattle.std.specs.Prelude.{◌≡◌, ◌+◌, [], slice_range};
+    ghost use Rattle.gt_frames.specs.Frames.{recorded};
+
+    /// Nothing was written yet.
+    pub(crate) fn new() -> Journal
+        ensures { result ≡ [] }
+    {
+        Journal {
+            history: History::new(),
+        }
+    }
+
+    /// One more write: so many bytes were written from this offset on, and the frame has these bytes now.
+    pub(crate) fn add(&mut self, writ: &Writ, off: u16, len: usize, contents: &Vec<u8>)
+        ensures { self.new ≡ recorded self.old writ.now off (slice_range contents.now.items off (off + len)) }
+    {
+        let placed = Placed {
+            writ: *writ,
+            off,
+            len,
+        };
+        self.history = self.history.and(&placed, contents);
+    }
+}

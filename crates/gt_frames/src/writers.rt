@@ -1,0 +1,258 @@
+//! Who wrote each byte of a frame last, and by what right.
+ghost use Rattle.std.specs.Prelude.{◌≡◌, ◌+◌, ◌<◌, ◌≤◌, ℕ, IfSome, false, true, length, replicate, slice_index_or};
+ghost use Rattle.gt_frames.specs.Bytes.{overlay};
+ghost use Rattle.gt_frames.specs.Writers.{IsUsed};
+
+use crate::Writ;
+use gt_types::{FRAME_SIZE, Memory};
+use std::alloc::Global;
+
+// So many writs are kept before those that show no byte any more are looked for.
+const FEWEST: usize = 128;
+
+/// For each byte of a frame the writ by which it was last written. It takes no memory before the first write.
+///
+/// A writ stays while it shows a byte. Its place is given to another one later, so there are at most twice as many
+/// places as writs that show bytes, or 128.
+#[derive(Drop)]
+pub(crate) struct Writers {
+    alloc: Global,
+    // For each byte the number of its writ, which is its place and one more; 0 if the byte was never written.
+    numbers: Vec<u16>,
+    writs: Vec<Writ>,
+    // Whether a byte may have the writ at this place.
+    used: Vec<bool>,
+    // The number of the writ that was used last, 0 if there is none.
+    last: u16,
+    // From this place on a free one is looked for.
+    next: usize,
+    // With so many places, unused ones are looked for before one is added.
+    most: usize,
+}
+
+// The first place from this one on that is not used.
+fn first_free(used: &[bool], from: usize) -> Option<usize>
+    ensures { IfSome result (λ n. (n < length used.now) × (slice_index_or used.now n true ≡ false)) }
+{
+    'places: for place in from..used.len() {
+        if !used[place] {
+            return Some(place);
+        }
+    }
+    None
+}
+
+// Marks the places of the numbers that bytes have, and no others.
+fn mark(numbers: &[u16], used: &mut [bool])
+    requires within { (at : ℕ) → slice_index_or numbers.now at 0 ≤ length used.old }
+    ensures marked { (at : ℕ) → IsUsed used.new (slice_index_or numbers.now at 0) }
+    ensures len { length used.new ≡ length used.old }
+{
+    clear(used);
+    'bytes: for at in 0..numbers.len() {
+        let number = usize::from(numbers[at]);
+        if number > 0 {
+            used[number - 1] = true;
+        }
+    }
+}
+
+fn clear(used: &mut [bool])
+    ensures { length used.new ≡ length used.old }
+{
+    'places: for place in used.iter_mut() {
+        *place = false;
+    }
+}
+
+// How many places are used.
+fn count(used: &[bool]) -> usize
+    ensures { result ≤ length used.now }
+{
+    let mut count = 0;
+    'places: for place in used {
+        if *place {
+            count += 1;
+        }
+    }
+    count
+}
+
+// Gives the bytes of this range a number.
+#[inline(always)]
+fn fill(numbers: &mut Vec<u16>, off: usize, len: usize, number: u16)
+    requires { off + len ≤ length numbers.old.items }
+    ensures { numbers.new.items ≡ overlay numbers.old.items off (replicate len number) }
+{
+    numbers[off..off + len].fill(number);
+}
+
+impl Writers {
+    ghost use Rattle.std.specs.Prelude.{◌≡◌, ◌+◌, ◌<◌, ◌≤◌, ◌-◌, ℕ, Some, None, IfOk, OnOk, OnErr, false, true, length, replicate, slice_get, slice_index_or};
+    ghost use Rattle.gt_frames.specs.Bytes.{overlay};
+    ghost use Rattle.gt_frames.specs.Writers.{AreWriters, HasWrit, IsUsed, ShowsSame, shown};
+
+    /// No byte was written.
+    pub(crate) fn new(alloc: Global) -> Writers
+        ensures sound { AreWriters result }
+        ensures none { (at : ℕ) → shown result at ≡ None }
+    {
+        Writers {
+            alloc,
+            numbers: Vec::new(alloc),
+            writs: Vec::new(alloc),
+            used: Vec::new(alloc),
+            last: 0,
+            next: 0,
+            most: FEWEST,
+        }
+    }
+
+    // Makes room for the numbers of all bytes, if it isn't there.
+    fn make_numbers(&mut self) -> Result<(), Memory>
+        requires { AreWriters self.old }
+        ensures sound { AreWriters self.new }
+        ensures same { ShowsSame self.old self.new }
+        ensures len { OnOk result (length self.new.numbers.items ≡ FRAME_SIZE) }
+    {
+        if self.numbers.is_empty() {
+            self.numbers = vec![in self.alloc; 0; FRAME_SIZE as usize]?;
+        }
+        Ok(())
+    }
+
+    // Adds a place with this writ, which no byte has.
+    fn add(&mut self, writ: &Writ) -> Result<usize, Memory>
+        requires { AreWriters self.old }
+        ensures sound { AreWriters self.new }
+        ensures same { ShowsSame self.old self.new }
+        ensures len { length self.new.numbers.items ≡ length self.old.numbers.items }
+        ensures free { IfOk result (λ n.
+            (n < length self.new.writs.items) × (slice_index_or self.new.used.items n true ≡ false)) }
+    {
+        self.writs.reserve(1)?;
+        self.used.reserve(1)?;
+        let place = self.writs.len();
+        self.writs.push_reserved(*writ);
+        self.used.push_reserved(false);
+        Ok(place)
+    }
+
+    // A place whose writ no byte has. If none is known, unused ones are looked for anew once there are many places;
+    // otherwise one is added.
+    fn free_place(&mut self, writ: &Writ) -> Result<usize, Memory>
+        requires { AreWriters self.old }
+        ensures sound { AreWriters self.new }
+        ensures same { ShowsSame self.old self.new }
+        ensures len { length self.new.numbers.items ≡ length self.old.numbers.items }
+        ensures free { IfOk result (λ n.
+            (n < length self.new.writs.items) × (slice_index_or self.new.used.items n true ≡ false)) }
+    {
+        if let Some(place) = first_free(&self.used, self.next) {
+            return Ok(place);
+        }
+        if self.writs.len() >= self.most {
+            mark(&self.numbers, &mut self.used);
+            self.most = count(&self.used).saturating_mul(2).max(FEWEST);
+            if let Some(place) = first_free(&self.used, 0) {
+                return Ok(place);
+            }
+        }
+        self.add(writ)
+    }
+
+    // Puts the writ at a place that no byte has.
+    fn put(&mut self, place: usize, writ: &Writ)
+        requires sound { AreWriters self.old }
+        requires inside { place < length self.old.writs.items }
+        requires free { slice_index_or self.old.used.items place true ≡ false }
+        ensures sound { AreWriters self.new }
+        ensures same { ShowsSame self.old self.new }
+        ensures len { length self.new.numbers.items ≡ length self.old.numbers.items }
+        ensures has { HasWrit self.new (place + 1) writ.now }
+    {
+        self.writs[place] = *writ;
+        self.used[place] = true;
+        self.next = place + 1;
+    }
+
+    // Whether the writ that was used last is this one.
+    fn is_last(&self, writ: &Writ) -> bool
+        ensures { result ≡ true → (0 < self.now.last) × (slice_get self.now.writs.items (self.now.last - 1) ≡ Some writ.now) }
+    {
+        let number = usize::from(self.last);
+        if number == 0 || number > self.writs.len() {
+            return false;
+        }
+        self.writs[number - 1].is(writ)
+    }
+
+    /// By which writ the byte was last written.
+    pub(crate) fn last_writ(&self, at: usize) -> Option<Writ>
+        ensures { result ≡ shown self.now at }
+    {
+        let number = match self.numbers.get(at) {
+            Some(number) => usize::from(*number),
+            None => 0,
+        };
+        if number == 0 {
+            None
+        } else {
+            self.writs.get(number - 1).copied()
+        }
+    }
+
+    /// The number of a writ, with which bytes can be shown.
+    ///
+    /// # Errors
+    ///
+    /// `Memory`, and each byte has the writ that it had.
+    #[inline(always)]
+    pub(crate) fn number_of(&mut self, writ: &Writ) -> Result<u16, Memory>
+        requires { AreWriters self.old }
+        ensures sound { AreWriters self.new }
+        ensures same { ShowsSame self.old self.new }
+        ensures len { OnOk result (length self.new.numbers.items ≡ FRAME_SIZE) }
+        ensures has { IfOk result (λ n. HasWrit self.new n writ.now) }
+    {
+        if self.is_last(writ) && self.numbers.len() == FRAME_SIZE as usize {
+            let place = usize::from(self.last) - 1;
+            self.used[place] = true;
+            return Ok(self.last);
+        }
+        self.number_anew(writ)
+    }
+
+    // The same, for another writ than the last one.
+    #[inline(never)]
+    fn number_anew(&mut self, writ: &Writ) -> Result<u16, Memory>
+        requires { AreWriters self.old }
+        ensures sound { AreWriters self.new }
+        ensures same { ShowsSame self.old self.new }
+        ensures len { OnOk result (length self.new.numbers.items ≡ FRAME_SIZE) }
+        ensures has { IfOk result (λ n. HasWrit self.new n writ.now) }
+    {
+        self.make_numbers()?;
+        let place = self.free_place(writ)?;
+        if place >= usize::from(u16::MAX) {
+            return Err(Memory);
+        }
+        self.put(place, writ);
+        self.last = place as u16 + 1;
+        Ok(self.last)
+    }
+
+    /// From now on the bytes of this range have the writ with this number.
+    #[inline(always)]
+    pub(crate) fn show(&mut self, number: u16, off: usize, len: usize)
+        requires sound { AreWriters self.old }
+        requires size { length self.old.numbers.items ≡ FRAME_SIZE }
+        requires range { off + len ≤ FRAME_SIZE }
+        requires has { (number ≤ length self.old.writs.items) × IsUsed self.old.used.items number }
+        ensures sound { AreWriters self.new }
+        ensures writs { self.new.writs ≡ self.old.writs }
+        ensures numbers { self.new.numbers.items ≡ overlay self.old.numbers.items off (replicate len number) }
+    {
+        fill(&mut self.numbers, off, len, number);
+    }
+}
