@@ -21,7 +21,10 @@ use Rattle.gt_calls.specs.declared.request.Request.TheVariants as requests
 use Rattle.gt_core.specs.Standing.{answer_of}
 use Rattle.gt_core.specs.declared.trace.Answer.{Answer}
 use Rattle.gt_core.specs.declared.trace.Answer.TheVariants as answers
-use Rattle.gt_live.specs.Domains.{AllowRelation, Answered, HasLeft, IsOf, KeepsPinned, verdict_of, verdict_of_frames, verdict_of_size, verdict_of_version}
+use Rattle.gt_frames.specs.Receipts.{Writing}
+use Rattle.gt_calls.specs.declared.action.Verdict.TheVariants.{Refused}
+use Rattle.gt_live.specs.Accesses.{IsWrittenBy}
+use Rattle.gt_live.specs.Domains.{Accesses, AllowRelation, Answered, HasLeft, IsOf, KeepsPinned, verdict_of, verdict_of_frames, verdict_of_size, verdict_of_version}
 use Rattle.gt_live.specs.Ending.{IsOfMapping}
 use Rattle.gt_live.specs.Starting.{IsNewDomain}
 use Rattle.gt_live.specs.declared.domain.Domain.{Domain}
@@ -30,7 +33,8 @@ use Rattle.gt_live.specs.declared.monitor.Monitor.{Monitor}
 use Rattle.gt_order.proofs.Called.{map-made, plain-made, unmap-made}
 use Rattle.gt_order.proofs.Leaving.{leaving}
 use Rattle.gt_order.proofs.Order.{runs-have-legal-orders}
-use Rattle.gt_order.specs.Calling.{IsOutcomeOf, StaysOf, WasMade}
+use Rattle.gt_order.proofs.Writes.{lost-made, writes-made}
+use Rattle.gt_order.specs.Calling.{IsOutcomeOf, IsStoring, StaysOf, WasMade}
 use Rattle.gt_order.specs.Leaving.{MayUnmapAll}
 use Rattle.gt_order.specs.Runs.{AreCalls, CallMade, FitsTypes, IsAtRest, IsRun, IsSeatRun, KeepsNoPin, Outcome as CallOutcome, SeatRun, domain_after}
 use Rattle.gt_order.specs.Runs.Outcome.{Told, Kept, Starved, Wrote}
@@ -48,14 +52,12 @@ use Rattle.gt_run.specs.Asking.{AnswersCall, Asks, frames_answer, mapped_answer,
 use Rattle.gt_run.specs.Printing.{Served}
 use Rattle.gt_run.specs.Serving.{DoesDeed, DoesWhere, LeadsTo, MakesCall, Outcome, Progress, at_start}
 use Rattle.gt_run.specs.declared.lists.Duty.{Duty}
-use Rattle.gt_interleaving.specs.Texts.{AreCallsOf, AreCallsOfList, AreOfALegalOrder, HasList, IsAnswerOf, IsQuiet, IsViewOf, MakesNoAccess, ReachesNoBytes, TextsAreOfALegalOrder}
+use Rattle.gt_interleaving.specs.Texts.{AreCallsOf, AreCallsOfList, AreOfALegalOrder, HasList, IsAnswerOf, IsQuiet, IsViewOf, ReadsNoBytes, AsksNoBytes, TextsAreOfALegalOrder}
 
 -- a request that reaches no bytes
 abbrev NoBytes : Request → Type 0
 NoBytes (requests.Load handle off len) = ⊥
-NoBytes (requests.Store handle off bytes) = ⊥
 NoBytes (requests.Peek frame off len) = ⊥
-NoBytes (requests.Poke frame off bytes) = ⊥
 NoBytes (requests.Copy args) = ⊥
 NoBytes request = Unit {0}
 
@@ -72,16 +74,16 @@ quiet-table bytes (tables.SetupTable frames) = tt
 quiet-table bytes (tables.QuerySize to) = tt
 quiet-table bytes (tables.GetVersion to) = tt
 
-quiet-access : (handle : List ℕ → Handle) (bytes : Bor (List ℕ)) (call : AccessCall) → ReachesNoBytes call → NoBytes (access_request handle bytes call)
+quiet-access : (handle : List ℕ → Handle) (bytes : Bor (List ℕ)) (call : AccessCall) → AsksNoBytes call → NoBytes (access_request handle bytes call)
 unfolding access_request
 quiet-access handle bytes (accesses.Unmap label) q = tt
 quiet-access handle bytes (accesses.Load label off len) q = absurd q
-quiet-access handle bytes (accesses.Store label off hex) q = absurd q
+quiet-access handle bytes (accesses.Store label off hex) q = tt
 quiet-access handle bytes (accesses.Peek frame off len) q = absurd q
-quiet-access handle bytes (accesses.Poke frame off hex) q = absurd q
+quiet-access handle bytes (accesses.Poke frame off hex) q = tt
 quiet-access handle bytes (accesses.Copy source dest len) q = absurd q
 
-quiet-request : (named : List Named) (dom : DomId) (bytes : Bor (List ℕ)) (call : ScriptCall) → MakesNoAccess call → NoBytes (request_of named dom bytes call)
+quiet-request : (named : List Named) (dom : DomId) (bytes : Bor (List ℕ)) (call : ScriptCall) → ReadsNoBytes call → NoBytes (request_of named dom bytes call)
 quiet-request named dom bytes (calls.Table call) q = quiet-table bytes call
 quiet-request named dom bytes (calls.Map label to gref flags) q = tt
 quiet-request named dom bytes (calls.Access call) q = quiet-access (handle_of named dom) bytes call q
@@ -127,7 +129,7 @@ map-same (Ok handle) Starved e = absurd e
 map-same (Ok handle) Wrote e = absurd e
 map-same (Err denial) (Kept given p) e = absurd e
 map-same (Err denial) (Told verdict) e = sym (ap answer_of e)
-map-same (Err denial) Starved e = ap (λ (d : Denial). answers.Denied d) e
+map-same (Err denial) Starved e = (denial, refl, inl e)
 map-same (Err denial) Wrote e = absurd e
 
 module _ {P : Type 0} (may : P → AllowRelation) (m : Monitor P) where
@@ -140,6 +142,13 @@ module _ {P : Type 0} (may : P → AllowRelation) (m : Monitor P) where
     plain request verdict told answer other fits none same is answered kept =
         let z = plain-made may m d e request verdict stays other fits none answered kept in (Told verdict, z.0, is ∙ same, z.1)
 
+    -- a store or a poke: it wrote, a rule refused it, or its access could not be made
+    storing : (request : Request) (bytes : List ℕ) → IsStoring request → (IsOfMapping (asked request) → ⊥) → FitsTypes request → (answer : Answer) (r : Result Writing Denial) → answer ≡ plain_answer r
+        → Accesses may m d request (IsWrittenBy d.seat.dom bytes) r e → KeepsPinned d e → IsMade request answer d e
+    storing request bytes is other fits answer (Ok w) told accessed kept = (Wrote, [], told, writes-made may m d e request bytes w stays is accessed kept)
+    storing request bytes is other fits answer (Err denial) told (inl called) kept = plain request (Refused denial) (answers.Denied denial) answer other fits tt refl told called kept
+    storing request bytes is other fits answer (Err denial) told (inr lost) kept = (Starved, [], (denial, told, lost.2), lost-made may m d e request lost.0 stays is lost.1 kept)
+
     is-made : (request : Request) (answer : Answer) → NoBytes request → FitsTypes request → AnswersCall may m d request answer e → IsMade request answer d e
     is-made (requests.Map dom gref flags) answer quiet fits x = let z = map-made may m d e dom gref flags x.0 stays x.2 in
         (z.0, z.2.0, subst (IsAnswerOf z.0) (sym x.1) (map-same x.0 z.0 z.1), z.2.1)
@@ -150,8 +159,8 @@ module _ {P : Type 0} (may : P → AllowRelation) (m : Monitor P) where
     is-made (requests.GetVersion dom) answer quiet fits x = plain (requests.GetVersion dom) (verdict_of_version x.0) (version_answer x.0) answer (λ q. q) fits (version-pin x.0) (version-same x.0) x.1 x.2.0 x.2.1
     is-made (requests.Load handle off len) answer quiet fits x = absurd quiet
     is-made (requests.Peek frame off len) answer quiet fits x = absurd quiet
-    is-made (requests.Store handle off bytes) answer quiet fits x = absurd quiet
-    is-made (requests.Poke frame off bytes) answer quiet fits x = absurd quiet
+    is-made (requests.Store handle off bytes) answer quiet fits x = storing (requests.Store handle off bytes) bytes.now tt (λ q. q) fits answer x.0 x.1 x.2.0 x.2.1
+    is-made (requests.Poke frame off bytes) answer quiet fits x = storing (requests.Poke frame off bytes) bytes.now tt (λ q. q) fits answer x.0 x.1 x.2.0 x.2.1
     is-made (requests.Copy args) answer quiet fits x = absurd quiet
     is-made (requests.Grant gref entry) answer quiet fits x = plain (requests.Grant gref entry) (verdict_of x.0) (plain_answer x.0) answer (λ q. q) fits (plain-pin x.0) (plain-same x.0) x.1 x.2.0 x.2.1
     is-made (requests.GrantBytes gref bytes) answer quiet fits x = plain (requests.GrantBytes gref bytes) (verdict_of x.0) (plain_answer x.0) answer (λ q. q) fits (plain-pin x.0) (plain-same x.0) x.1 x.2.0 x.2.1
@@ -169,7 +178,7 @@ module _ {P : Type 0} (may : P → AllowRelation) (m : Monitor P) where
       lines : AreCallsOf may duty made p.outcomes
       mine : IsOf may m p.domain
 
-    one-call : (line : ℕ) (call : ScriptCall) (p q : Progress) → MakesNoAccess call → ((named : List Named) (request : Request) → SaysRequest named duty.part.dom call request → FitsTypes request)
+    one-call : (line : ℕ) (call : ScriptCall) (p q : Progress) → ReadsNoBytes call → ((named : List Named) (request : Request) → SaysRequest named duty.part.dom call request → FitsTypes request)
         → MakesCall may duty line call p q → Come p → Come q
     one-call line call p q none fits x come =
         let says = x.says in

@@ -1,12 +1,10 @@
--- The lists of a run that make no access to bytes, and the legal order whose answers they print.
+-- The lists of a run that read and copy no bytes, and the legal order whose answers they print.
 use Rattle.std.specs.Prelude.{◌≡◌, ◌⊎◌, ℕ, ◌<◌, ◌==◌, true, List, [], ◌∷◌, ◌++◌, length}
 use mathlib.Core.Option.{some}
 use lib.ListN.{get_elem?}
 use Rattle.atomic_table.specs.Table.{State}
-use Rattle.gt_types.specs.Denial.{denial_of}
 use Rattle.gt_types.specs.declared.config.Config.{Config}
-use Rattle.gt_types.specs.declared.denial.Facts.TheVariants.{None as NoFacts}
-use Rattle.gt_types.specs.declared.denial.Rule.TheVariants.{N26}
+use Rattle.gt_types.specs.declared.denial.Denial.{Denial}
 use Rattle.gt_words.specs.Conditions.{Board}
 use Rattle.gt_words.specs.History.{History}
 use Rattle.gt_words.specs.Rule.{Shows, id_at}
@@ -17,6 +15,7 @@ use Rattle.gt_core.specs.History.{History as Items}
 use Rattle.gt_core.specs.Standing.{answer_of}
 use Rattle.gt_core.specs.declared.trace.Answer.{Answer}
 use Rattle.gt_core.specs.declared.trace.Answer.TheVariants as answers
+use Rattle.gt_live.specs.Accesses.{IsOfAccess}
 use Rattle.gt_live.specs.Domains.{AllowRelation, HasLeft}
 use Rattle.gt_live.specs.declared.domain.Domain.{Domain}
 use Rattle.gt_live.specs.declared.domain.Left.{Left}
@@ -36,29 +35,31 @@ use Rattle.gt_run.specs.declared.lists.Duty.{Duty}
 use Rattle.gt_run.specs.Printing.{Served}
 use Rattle.gt_run.specs.Serving.{IsServed, MakesCall, Outcome, Progress}
 
--- the line asks for no access to bytes
-abbrev pub ReachesNoBytes : AccessCall → Type 0
-ReachesNoBytes (accesses.Unmap label) = Unit {0}
-ReachesNoBytes call = ⊥
+-- the line asks for no read of bytes and for no copy
+abbrev pub AsksNoBytes : AccessCall → Type 0
+AsksNoBytes (accesses.Unmap label) = Unit {0}
+AsksNoBytes (accesses.Store label off hex) = Unit {0}
+AsksNoBytes (accesses.Poke frame off hex) = Unit {0}
+AsksNoBytes call = ⊥
 
-abbrev pub MakesNoAccess : ScriptCall → Type 0
-MakesNoAccess (calls.Access call) = ReachesNoBytes call
-MakesNoAccess call = Unit {0}
+abbrev pub ReadsNoBytes : ScriptCall → Type 0
+ReadsNoBytes (calls.Access call) = AsksNoBytes call
+ReadsNoBytes call = Unit {0}
 
--- Each call of the duty's list makes no access to bytes, and what it asks has the numbers that its types can hold,
+-- Each call of the duty's list reads no bytes and copies none, and what it asks has the numbers that its types can hold,
 -- whatever its labels name
 abbrev pub IsQuiet : {P : Type 0} → Duty P → Type 0
 IsQuiet duty =
     (task : Task) (call : ScriptCall) → IsIn task duty.part.tasks.now → (task.dom.0 == duty.part.dom.0) ≡ true
     → task.deed ≡ Do call
-    → MakesNoAccess call
+    → ReadsNoBytes call
     × ((named : List Named) (request : Request) → SaysRequest named duty.part.dom call request → FitsTypes request)
 
 -- a call with this outcome was answered so
 abbrev pub IsAnswerOf : CallOutcome → Answer → Type 0
 IsAnswerOf (Told verdict) answer = answer ≡ answer_of verdict
 IsAnswerOf (Kept handle p) answer = answer ≡ answers.Mapped handle
-IsAnswerOf Starved answer = answer ≡ answers.Denied (denial_of N26 NoFacts)
+IsAnswerOf Starved answer = (denial : Denial) × (answer ≡ answers.Denied denial) × IsOfAccess denial
 IsAnswerOf Wrote answer = answer ≡ answers.Done
 
 -- the call m of a run is the one that a line of the duty's list made, and what came of that: its domain was asked what
@@ -82,7 +83,7 @@ AreCallsOf may duty (m ∷ ms) outcomes =
     (before : List Outcome) × (o : Outcome) × (outcomes ≡ before ++ o ∷ []) × IsCallOf may duty m o
     × AreCallsOf may duty ms before
 
--- the list of the domain at the position i was served, and makes no access
+-- the list of the domain at the position i was served, and reads and copies no bytes
 pub record HasList {P : Type 0} (may : P → AllowRelation) (m : Monitor P) (i : ℕ) (s : Served P) : Type 0 where
   pub monitor : s.duty.monitor.now ≡ m
   pub dom : s.duty.part.dom ≡ id_at m.words.layout.ids i
@@ -112,7 +113,7 @@ pub record AreOfALegalOrder {P : Type 0} (may : P → AllowRelation) (m : Monito
   pub legal : IsLegalOrder m.config (may m.rights) m.words.layout h seats items
   pub each : (i : ℕ) → i < length m.config.domains.items → AreCallsOfList may (lists i) (seats i).calls
 
--- If each domain's list was served and makes no access, and words and views show a state in which each domain has the
+-- If each domain's list was served and reads and copies no bytes, and words and views show a state in which each domain has the
 -- view with which its list ended or it left, the text of the lists is that of a legal order
 abbrev pub TextsAreOfALegalOrder : {P : Type 0} → (P → AllowRelation) → Monitor P → Type 0
 TextsAreOfALegalOrder {P} may m =

@@ -18,12 +18,12 @@ use Rattle.gt_calls.specs.declared.request.Request.{Request}
 use Rattle.gt_calls.specs.declared.request.Request.TheVariants as requests
 use Rattle.gt_frames.specs.Receipts.{Writing}
 use Rattle.gt_types.specs.declared.DomId.{DomId}
-use Rattle.gt_live.specs.Accesses.{AnsweredBy, IsWrittenBy, onward}
+use Rattle.gt_live.specs.Accesses.{Accessed, IsWrittenBy, onward}
 use Rattle.gt_live.specs.Domains.{AllowRelation, knowledge}
 use Rattle.gt_live.specs.Walks.{IsWalk, Made, MakesStep, after, shown}
 use Rattle.gt_live.specs.declared.domain.Domain.{Domain}
 use Rattle.gt_live.specs.declared.monitor.Monitor.{Monitor}
-use Rattle.gt_order.specs.Calling.{IsStoring, StaysOf, WasMade, WritesAreMade}
+use Rattle.gt_order.specs.Calling.{IsStoring, LostWritesAreMade, StaysOf, WasMade, WritesAreMade}
 use Rattle.gt_order.specs.Runs.{FitsTypes, IsWrite, WritesOnce}
 use Rattle.gt_order.specs.Runs.Outcome.{Wrote}
 
@@ -73,24 +73,33 @@ no-bytes-given (requests.Store handle off bytes) is = (tt, tt)
 no-bytes-given (requests.Poke frame off bytes) is = (tt, tt)
 no-bytes-given request is = absurd is
 
+-- a store or a poke that came to its access made no step on the words
+record IsUnseen (k : Layout) (way : Continuation) (access : Step) (v w : View) (a : Accessed k way access v w) : Type 0 where
+  first : a.comes.steps ≡ []
+  last : a.ends.steps ≡ []
+  view : w ≡ v
+
+unseen : (k : Layout) (way : Continuation) (access : Step) (v w : View) → IsOneWrite k way → (a : Accessed k way access v w) → IsUnseen k way access v w a
+unseen k way access v w one a =
+    let first = no-walk k way v a.comes.steps one.0 a.comes.walked in
+    let none : MakesNone k (onward way (shown a.comes.steps ++ Nothing ∷ [])) [] =
+    λ seen u z made. one.1 seen u z (subst (λ (xs : List Moment). MakesStep k (way ((shown xs ++ Nothing ∷ []) ++ [])) seen u z) first made) in
+    let last = no-walk k (onward way (shown a.comes.steps ++ Nothing ∷ [])) a.at a.ends.steps none a.ends.walked in
+    record { first = first; last = last; view = a.ends.view ∙ (ap (λ (xs : List Moment). after xs a.at) last ∙ (a.comes.view ∙ ap (λ (xs : List Moment). after xs v) first)) }
+
 pub writes-made : {P : Type 0} (may : P → AllowRelation) (m : Monitor P) → WritesAreMade may m
 writes-made may m d e request bytes r stays is answered kept =
-    let k : Layout = m.words.layout in let way : Continuation = path_of (knowledge m.config (may m.rights) d) d.seat.dom request in let one = store-way may m d request is in
-    let a = answered.1 in let first = no-walk k way d.seat.view a.comes.steps one.0 a.comes.walked in
-    let none : MakesNone k (onward way (shown a.comes.steps ++ Nothing ∷ [])) [] =
-    λ seen u w made. one.1 seen u w (subst (λ (xs : List Moment). MakesStep k (way ((shown xs ++ Nothing ∷ []) ++ [])) seen u w) first made) in
-    let last = no-walk k (onward way (shown a.comes.steps ++ Nothing ∷ [])) a.at a.ends.steps none a.ends.walked in
-    let view : e.seat.view ≡ d.seat.view = a.ends.view ∙ (ap (λ (xs : List Moment). after xs a.at) last ∙ (a.comes.view ∙ ap (λ (xs : List Moment). after xs d.seat.view) first)) in
+    let way : Continuation = path_of (knowledge m.config (may m.rights) d) d.seat.dom request in
+    let a = answered.1 in let u = unseen m.words.layout way answered.0 d.seat.view e.seat.view (store-way may m d request is) a in
     let once : WritesOnce way = record {
       access = answered.0;
       writes = is-write d.seat.dom bytes answered.0 r answered.2;
-      next = ap (λ (xs : List Moment). way (shown xs)) (sym first) ∙ a.comes.next;
-      done = (λ i. way ((shown (sym first i) ++ Nothing ∷ []) ++ shown (sym last i))) ∙ a.ends.answered;
+      next = ap (λ (xs : List Moment). way (shown xs)) (sym u.first) ∙ a.comes.next;
+      done = (λ i. way ((shown (sym u.first i) ++ Nothing ∷ []) ++ shown (sym u.last i))) ∙ a.ends.answered;
     } in
-    record {
-      before = stays.before;
-      afterwards = stays.afterwards;
-      seat = stays.seat;
-      fits = no-bytes-given request is;
-      answered = (refl, view, kept.0, once);
-    }
+    record { before = stays.before; afterwards = stays.afterwards; seat = stays.seat; fits = no-bytes-given request is; answered = (refl, u.view, kept.0, once) }
+
+pub lost-made : {P : Type 0} (may : P → AllowRelation) (m : Monitor P) → LostWritesAreMade may m
+lost-made may m d e request access stays is a kept =
+    let u = unseen m.words.layout (path_of (knowledge m.config (may m.rights) d) d.seat.dom request) access d.seat.view e.seat.view (store-way may m d request is) a in
+    record { before = stays.before; afterwards = stays.afterwards; seat = stays.seat; fits = no-bytes-given request is; answered = (refl, u.view, kept.0) }

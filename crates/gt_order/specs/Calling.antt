@@ -16,8 +16,11 @@ use Rattle.gt_calls.specs.declared.held.Held.{Held}
 use Rattle.gt_calls.specs.declared.request.Request.{Request}
 use Rattle.gt_calls.specs.declared.request.Request.TheVariants as requests
 use Rattle.gt_frames.specs.Receipts.{Writing}
-use Rattle.gt_live.specs.Accesses.{IsWrittenBy}
-use Rattle.gt_live.specs.Domains.{Accesses, AllowRelation, Answered, IsOf, KeepsPinned, MapAnswered, verdict_of}
+use Rattle.gt_calls.specs.Path.{path_of}
+use Rattle.gt_calls.specs.declared.action.Step.{Step}
+use Rattle.gt_live.specs.Accesses.{Accessed, IsWrittenBy}
+use Rattle.gt_live.specs.Domains.{Accesses, AllowRelation, Answered, IsOf, KeepsPinned, MapAnswered, known}
+use Rattle.gt_live.specs.Domains.{verdict_of}
 use Rattle.gt_live.specs.Ending.{IsOfMapping}
 use Rattle.gt_live.specs.Mappings.{Removes}
 use Rattle.gt_live.specs.declared.domain.Domain.{Domain}
@@ -80,3 +83,11 @@ WritesAreMade may m =
     (d e : Domain) (request : Request) (bytes : List ℕ) (r : Writing) → StaysOf may m d e → IsStoring request
     → Accesses may m d request (IsWrittenBy d.seat.dom bytes) (Ok r) e → KeepsPinned d e
     → WasMade may m request Wrote [] d e
+
+-- a store or a poke that came to its access and could not make it: it made no step on the words, and is as if it was
+-- never asked
+abbrev pub LostWritesAreMade : {P : Type 0} → (P → AllowRelation) → Monitor P → Type 0
+LostWritesAreMade may m =
+    (d e : Domain) (request : Request) (access : Step) → StaysOf may m d e → IsStoring request
+    → Accessed m.words.layout (path_of (known may m d) d.seat.dom request) access d.seat.view e.seat.view
+    → KeepsPinned d e → WasMade may m request Starved [] d e

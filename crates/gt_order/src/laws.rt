@@ -1,5 +1,6 @@
 //! What the definitions of this crate come to. Each law is a function that does nothing, whose contract is the law.
-ghost use Rattle.gt_order.specs.Calling.{MapsAreMade, PlainCallsAreMade, UnmapsAreMade, WritesAreMade};
+ghost use Rattle.gt_order.specs.Calling.{LostWritesAreMade, MapsAreMade, PlainCallsAreMade, UnmapsAreMade};
+ghost use Rattle.gt_order.specs.Calling.{WritesAreMade};
 ghost use Rattle.gt_order.specs.Leaving.{LeavingIsUnmapping};
 ghost use Rattle.gt_order.specs.Laws.{CoreSeesTheWords, RunsHaveLegalOrders, StepsKeepAgreement};
 
@@ -26,6 +27,7 @@ pub fn calls_of_domains_are_made<P: Allows>(monitor: &Monitor<P>)
     ensures unmaps { UnmapsAreMade P.may monitor.now }
     ensures maps { MapsAreMade P.may monitor.now }
     ensures writes { WritesAreMade P.may monitor.now }
+    ensures lost { LostWritesAreMade P.may monitor.now }
 {}
 
 /// A law: the whole of each run of the monitor, whose calls read no bytes and copy none and are all finished, is one legal
