@@ -1,0 +1,77 @@
+use Rattle.std.proofs.Common.{rules, ◌≡◌, ◌<◌, length, get_or, true, false, refl, sym, subst, List, Bool}
+use Rattle.std.proofs.lemmas.Option.{slice_get_read}
+use Rattle.gt_replay.specs.Orders.{passed, raised}
+use Rattle.gt_replay.specs.Walking.{Moves}
+use Rattle.gt_replay.specs.declared.walker.Walker.{Walker}
+use Rattle.gt_replay.proofs.Coming.{comes_made, comes_passed, comes_raised}
+use Rattle.gt_replay.proofs.Moving.{awaits, tells}
+use Rattle.gt_replay.proofs.replay.Replay.advance.Goals as goal
+
+pub tick-requires : goal.tick-requires
+tick-requires c = c.is_calling.ensures.open c.if-is_calling.true
+
+pub give_back-requires-clause-end : goal.give_back-requires-clause-end
+give_back-requires-clause-end c = c.in_default.ensures.end
+
+pub give_back-requires-clause-idle : goal.give_back-requires-clause-idle
+give_back-requires-clause-idle c = c.is_calling.ensures.idle c.if-is_calling.false
+
+pub begin-requires-clause-next : goal.begin-requires-clause-next
+begin-requires-clause-next c = sym c.in-Some.ensures.task
+
+pub begin-requires-clause-room : goal.begin-requires-clause-room
+begin-requires-clause-room c = c.in-Some.ensures.room refl
+
+pub begin-requires-clause-does : goal.begin-requires-clause-does
+begin-requires-clause-does c = c.in-Do.is
+
+pub begin-requires-clause-idle : goal.begin-requires-clause-idle
+begin-requires-clause-idle c = c.is_calling.ensures.idle c.if-is_calling.false
+
+pub skip-requires : goal.skip-requires
+skip-requires c = c.in-Some.ensures.room refl
+
+pub skip-requires-then-is_raised : goal.skip-requires-then-is_raised
+skip-requires-then-is_raised c = c.in-Some.ensures.room refl
+
+pub returns-then-is_calling : goal.returns-then-is_calling
+returns-then-is_calling c = λ k hs come.
+    let within : c.args.turn.place < length c.args.self.now.walkers.items = search rules in
+    comes_made k hs c.args.self.now _ c.args.turn.place c.index_mut-walker.result.now c.tick.new.self c.as_slice-types.result.now c.tick.result come
+    (slice_get_read c.args.self.now.walkers.items _ c.args.turn.place c.index_mut-walker.result.now refl within c.index_mut-walker.ensures.value) c.as_slice-types.ensures.value
+    c.tick.ensures.config c.tick.ensures.rights refl refl refl c.tick.ensures.makes
+
+pub returns-in_default : goal.returns-in_default
+returns-in_default c = λ k hs come.
+    let within : c.args.turn.place < length c.args.self.now.walkers.items = search rules in
+    comes_made k hs c.args.self.now _ c.args.turn.place c.index_mut-walker.result.now c.give_back.new.self c.as_slice-types.result.now c.give_back.result come
+    (slice_get_read c.args.self.now.walkers.items _ c.args.turn.place c.index_mut-walker.result.now refl within c.index_mut-walker.ensures.value) c.as_slice-types.ensures.value
+    c.give_back.ensures.config c.give_back.ensures.rights refl refl refl (c.give_back.ensures.makes c.as_slice-types.result.now)
+
+pub returns-in-Do : goal.returns-in-Do
+returns-in-Do c = λ k hs come.
+    let within : c.args.turn.place < length c.args.self.now.walkers.items = search rules in
+    comes_made k hs c.args.self.now _ c.args.turn.place c.index_mut-walker.result.now c.begin.new.self c.as_slice-types.result.now c.begin.result come
+    (slice_get_read c.args.self.now.walkers.items _ c.args.turn.place c.index_mut-walker.result.now refl within c.index_mut-walker.ensures.value) c.as_slice-types.ensures.value
+    c.begin.ensures.config c.begin.ensures.rights refl refl refl c.begin.ensures.makes
+
+pub returns-then-raise : goal.returns-then-raise
+returns-then-raise c = λ k hs come some.
+    let within : c.args.turn.place < length c.args.self.now.walkers.items = search rules in
+    let v : Walker = c.index_mut-walker.result.now in
+    comes_raised k hs c.args.self.now _ c.args.turn.place c.in-Tell.flag v c.skip.new.self come
+    (slice_get_read c.args.self.now.walkers.items _ c.args.turn.place v refl within c.index_mut-walker.ensures.value)
+    (subst (λ (w : Walker). Moves c.args.self.now.types.items v (raised v.dom c.in-Tell.flag) w) (sym c.skip.ensures)
+    (tells c.args.self.now.types.items v c.in-Some.task.now c.in-Tell.flag (sym c.in-Some.ensures.task) c.in-Tell.is (c.is_calling.ensures.idle c.if-is_calling.false)))
+    refl refl refl (c.raise.ensures c.if-raise.true)
+
+pub returns-then-is_raised : goal.returns-then-is_raised
+returns-then-is_raised c = λ k hs come some.
+    let within : c.args.turn.place < length c.args.self.now.walkers.items = search rules in
+    let v : Walker = c.index_mut-walker.result.now in
+    comes_passed k hs c.args.self.now _ c.args.turn.place c.in-Await.flag v c.skip-then-is_raised.new.self come
+    (slice_get_read c.args.self.now.walkers.items _ c.args.turn.place v refl within c.index_mut-walker.ensures.value)
+    (subst (λ (w : Walker). Moves c.args.self.now.types.items v (passed v.dom c.in-Await.flag) w) (sym c.skip-then-is_raised.ensures)
+    (awaits c.args.self.now.types.items v c.in-Some.task.now c.in-Await.flag (sym c.in-Some.ensures.task) c.in-Await.is (c.is_calling.ensures.idle c.if-is_calling.false)))
+    (subst (λ (l : List Bool). get_or l c.in-Await.flag false ≡ true) c.as_slice.ensures.value (c.is_raised.ensures c.if-is_raised.true))
+    refl refl refl refl

@@ -1,0 +1,231 @@
+//! One order of a script's run, move by move.
+ghost use Rattle.std.specs.Prelude.{◌≡◌, true, false, map, All, IfOk, IfSome, IsOk, IsTrue, slice_set, get_or};
+ghost use Rattle.gt_script.specs.Contents.{told};
+ghost use Rattle.gt_script.specs.RunContents.{run_told};
+ghost use Rattle.gt_script.specs.RunScripts.{CanConfigure};
+ghost use Rattle.gt_host.specs.Playing.{StartsFor};
+ghost use Rattle.gt_replay.specs.Orders.{MayGive};
+ghost use Rattle.gt_replay.specs.Walking.{AreApart, IsFirst};
+
+use crate::fault::ReplayFault;
+use crate::walker::Walker;
+use gt_core::{Core, Seen, Step};
+use gt_host::Rights;
+use gt_lines::Text;
+use gt_script::{Deed, RunScript, Script};
+use gt_types::{Config, DomainConfig, StartFault};
+use std::alloc::{AllocError, Global};
+
+/// What a move did.
+#[derive(Clone, Copy, Debug, PartialEq, Eq)]
+pub enum Moved {
+    /// A flag was raised, or passed.
+    Flag,
+    /// A call began.
+    Began,
+    /// A call made this step, which saw this.
+    Stepped(Step, Seen),
+}
+
+/// Whose move is next: that of the domain at this place of the script's domains. At the end of its list it gives back
+/// the mapping at the place `choice` of those that it has; elsewhere `choice` is not looked at.
+#[derive(Clone, Copy, Debug, PartialEq, Eq)]
+pub struct Turn {
+    pub place: usize,
+    pub choice: usize,
+}
+
+/// A run of a script, in one order.
+#[derive(Drop)]
+pub struct Replay<'s, 'a> {
+    alloc: Global,
+    core: Core<Rights>,
+    walkers: Vec<Walker<'s, 'a>>,
+    told: Vec<bool>,
+    types: Vec<Text<'s>>,
+}
+
+// The domains of a script before the first lines of their lists.
+fn walkers_of<'s, 'a>(
+    alloc: Global,
+    script: &'s RunScript<'a>,
+    domains: &[DomainConfig],
+) -> Result<Vec<Walker<'s, 'a>>, AllocError>
+    ensures doms { IfOk result (λ walkers. map (λ w. w.dom) walkers.items ≡ map (λ d. d.id) domains.now) }
+    ensures first { IfOk result (λ walkers. All (IsFirst script.entry.now.tasks) walkers.items) }
+{
+    let mut walkers = Vec::new(alloc);
+    'domains: for domain in domains {
+        let tasks = script.list_of(alloc, domain.id)?;
+        walkers.push(Walker::new(alloc, domain.id, tasks))?;
+    }
+    Ok(walkers)
+}
+
+// A core with the domains and the rights of a script.
+fn start(alloc: Global, script: &Script) -> Result<Core<Rights>, ReplayFault>
+    requires { CanConfigure (told script.now) }
+    ensures starts { IfOk result (StartsFor (told script.now)) }
+    ensures apart { IsOk result → AreApart (told script.now).domains }
+{
+    let config = Config {
+        domains: Vec::from_slice(alloc, script.domains())?,
+        first_gen: script.first_gen(),
+    };
+    let rights = Rights::of(alloc, script)?;
+    match Core::new(alloc, config, rights) {
+        Ok(core) => Ok(core),
+        Err(StartFault::Memory) => Err(ReplayFault::Memory),
+        Err(StartFault::Config(_)) => unreachable!(),
+    }
+}
+
+// So many flags, of which none is raised.
+fn no_flags(alloc: Global, count: usize) -> Result<Vec<bool>, AllocError>
+    ensures { IfOk result (λ told. All (λ t. t ≡ false) told.items) }
+{
+    let mut told = Vec::new(alloc);
+    'flags: for _ in 0..count {
+        told.push(false)?;
+    }
+    Ok(told)
+}
+
+// A domain raises a flag. Answers whether there is such a flag.
+fn raise(told: &mut Vec<bool>, flag: usize) -> bool
+    ensures { IsTrue result → told.new.items ≡ slice_set told.old.items flag true }
+{
+    if flag >= told.len() {
+        return false;
+    }
+    told[flag] = true;
+    true
+}
+
+// A flag is raised.
+fn is_raised(told: &[bool], flag: usize) -> bool
+    ensures { IsTrue result → get_or told.now flag false ≡ true }
+{
+    flag < told.len() && told[flag]
+}
+
+impl<'s, 'a> Replay<'s, 'a> {
+    ghost use Rattle.std.specs.Prelude.{◌≡◌, List, [], IfOk, IfSome, IsSome};
+    ghost use Rattle.gt_script.specs.Contents.{told};
+    ghost use Rattle.gt_script.specs.RunContents.{RunContents, run_told};
+    ghost use Rattle.gt_script.specs.RunScripts.{CanConfigure};
+    ghost use Rattle.gt_replay.specs.Orders.{Happening, IsOrderOf};
+    ghost use Rattle.gt_replay.specs.Walking.{ComesOn, HasCome};
+
+    /// The domains of the script before the first lines of their lists, on a core at rest.
+    ///
+    /// # Errors
+    /// `Memory` if memory was refused.
+    pub fn new(alloc: Global, script: &'s RunScript<'a>) -> Result<Replay<'s, 'a>, ReplayFault>
+        requires { CanConfigure (told script.now.head) }
+        ensures { IfOk result (HasCome (run_told script.entry.now) []) }
+    {
+        let head = script.head();
+        let walkers = walkers_of(alloc, script, head.domains())?;
+        let told = no_flags(alloc, script.flags())?;
+        let types = head.type_names(alloc)?;
+        let core = start(alloc, head)?;
+        Ok(Replay {
+            alloc,
+            core,
+            walkers,
+            told,
+            types,
+        })
+    }
+
+    /// The core.
+    pub fn core(&self) -> &Core<Rights> {
+        &self.core
+    }
+
+    /// The domains, in the order of the script.
+    pub fn walkers(&self) -> &[Walker<'s, 'a>] {
+        self.walkers.as_slice()
+    }
+
+    /// For each flag whether it is raised.
+    pub fn told(&self) -> &[bool] {
+        self.told.as_slice()
+    }
+
+    /// Makes the next move of a domain. Answers what it did, or None if the domain has no move: it is at its end, or
+    /// awaits a flag that is not raised. The replay is of no use after None, or after an error.
+    ///
+    /// # Errors
+    /// `Memory` if memory was refused; `Keeps` if the domain can't give a mapping back.
+    pub fn advance(&mut self, turn: Turn) -> Result<Option<Moved>, ReplayFault>
+        ensures { (c : RunContents) (hs : List Happening) → HasCome c hs self.old →
+            IfOk result (λ m. IsSome m → ComesOn c hs self.new) }
+    {
+        if turn.place >= self.walkers.len() {
+            return Ok(None);
+        }
+        let types = self.types.as_slice();
+        let walker = &mut self.walkers[turn.place];
+        if walker.is_calling() {
+            return walker.tick(self.alloc, &mut self.core, types);
+        }
+        let Some(task) = walker.task() else {
+            return walker.give_back(&mut self.core, turn.choice);
+        };
+        match &task.deed {
+            Deed::Do(call) => walker.begin(self.alloc, &mut self.core, types, task, call),
+            Deed::Tell(flag) => {
+                if raise(&mut self.told, *flag) {
+                    return Ok(Some(walker.skip()));
+                }
+                Ok(None)
+            }
+            Deed::Await(flag) => {
+                if is_raised(self.told.as_slice(), *flag) {
+                    return Ok(Some(walker.skip()));
+                }
+                Ok(None)
+            }
+        }
+    }
+
+    /// The text of the run: the lines of the first domain's answers first. None if some domain is not at its end.
+    pub fn text(&self) -> Result<Option<Vec<u8>>, AllocError>
+        ensures { (c : RunContents) (hs : List Happening) → HasCome c hs self.now →
+            IfOk result (λ t. IfSome t (λ text. IsOrderOf c hs text.items)) }
+    {
+        let mut text = Vec::new(self.alloc);
+        'walkers: for walker in self.walkers.as_slice() {
+            if !walker.is_finished() {
+                return Ok(None);
+            }
+            text.extend_from_slice(walker.text.as_slice())?;
+        }
+        Ok(Some(text))
+    }
+}
+
+/// The text of a script's run in the order that the turns say. None if some domain is not at its end after them, or
+/// could not take its turn.
+///
+/// # Errors
+/// `Memory` if memory was refused; `Keeps` if a domain can't give a mapping back.
+pub fn text_of<'s, 'a>(
+    alloc: Global,
+    script: &'s RunScript<'a>,
+    turns: &[Turn],
+) -> Result<Option<Vec<u8>>, ReplayFault>
+    requires { CanConfigure (told script.now.head) }
+    ensures { IfOk result (λ t. IfSome t (λ text. MayGive (run_told script.now) text.items)) }
+{
+    let mut run = Replay::new(alloc, script)?;
+    'turns: for turn in turns {
+        let moved = run.advance(*turn)?;
+        if moved.is_none() {
+            return Ok(None);
+        }
+    }
+    Ok(run.text()?)
+}

@@ -1,0 +1,338 @@
+//! A domain on its list.
+ghost use Rattle.std.specs.Prelude.{◌≡◌, List, IfOk, OnOk};
+ghost use Rattle.gt_host.specs.Naming.{AreNamed};
+ghost use Rattle.gt_host.specs.Runs.{Named, handle_given, label_given as label_to_give, with_name};
+ghost use Rattle.gt_replay.specs.Orders.{given_up, held_after, without};
+
+use crate::fault::ReplayFault;
+use crate::replay::Moved;
+use gt_core::{Answer, Begun, Core, Handle, Request, Ticked};
+use gt_host::{Labels, Rights, bytes_said, label_given, push_answer_line, request_of};
+use gt_lines::{ScriptCall, Text};
+use gt_script::Task;
+use gt_types::DomId;
+use std::alloc::{AllocError, Global};
+
+/// What a domain has open.
+#[derive(Clone, Copy)]
+pub enum Doing<'s, 'a> {
+    Nothing,
+    /// The call of a line, which gives up this handle if it is answered Ok.
+    Line {
+        line: usize,
+        call: &'s ScriptCall<'a>,
+        gone: Option<Handle>,
+    },
+    /// An unmap at the end of its list.
+    GivesBack,
+}
+
+/// A domain on its list.
+#[derive(Drop)]
+pub struct Walker<'s, 'a> {
+    pub(crate) dom: DomId,
+    pub(crate) tasks: Vec<&'s Task<'a>>,
+    // How many of the tasks were begun.
+    pub(crate) next: usize,
+    pub(crate) doing: Doing<'s, 'a>,
+    pub(crate) labels: Labels<'a>,
+    // The handles of its mappings.
+    pub(crate) held: Vec<Handle>,
+    // The lines of its answers.
+    pub(crate) text: Vec<u8>,
+}
+
+// The handle that a request gives up, if it is answered Ok.
+fn given_up(request: Request<'_>) -> Option<Handle>
+    ensures { result ≡ given_up request.entry }
+{
+    match request {
+        Request::Unmap { handle } => Some(handle),
+        _ => None,
+    }
+}
+
+// All but the handle with this serial.
+fn without(alloc: Global, held: &[Handle], handle: Handle) -> Result<Vec<Handle>, AllocError>
+    ensures { IfOk result (λ left. left.items ≡ without handle held.now) }
+{
+    let mut left = Vec::new(alloc);
+    'held: for other in held {
+        if other.serial != handle.serial {
+            left.push(*other)?;
+        }
+    }
+    Ok(left)
+}
+
+// A map that is answered Ok gives its handle to its label.
+fn name_mapping<'a>(
+    labels: &mut Labels<'a>,
+    dom: DomId,
+    call: &ScriptCall<'a>,
+    answer: &Answer,
+) -> Result<(), AllocError>
+    ensures { OnOk result ((named : List Named) → AreNamed labels.old named → AreNamed labels.new
+        (with_name named dom (label_to_give call.now) (handle_given answer.now))) }
+{
+    match (label_given(call), answer) {
+        (Some(label), Answer::Mapped(handle)) => labels.name(dom, label, *handle),
+        _ => Ok(()),
+    }
+}
+
+// What a domain holds after this answer.
+fn hold(
+    alloc: Global,
+    held: &mut Vec<Handle>,
+    gone: Option<Handle>,
+    answer: &Answer,
+) -> Result<(), AllocError>
+    ensures { OnOk result (held.new.items ≡ held_after held.old.items gone answer.now) }
+{
+    match (gone, answer) {
+        (Some(handle), Answer::Done) => *held = without(alloc, held.as_slice(), handle)?,
+        (_, Answer::Mapped(handle)) => held.push(*handle)?,
+        _ => {}
+    }
+    Ok(())
+}
+
+impl<'s, 'a> Walker<'s, 'a> {
+    ghost use Rattle.std.specs.Prelude.{◌≡◌, ◌≢◌, ◌+◌, ◌<◌, ◌≤◌, [], false, length, slice_get, IfNone, IsSome, IsTrue};
+    ghost use Rattle.std.specs.Option.{option_map};
+    ghost use Rattle.gt_host.specs.Naming.{AreNamed};
+    ghost use Rattle.gt_replay.specs.Walking.{IsAtEnd, tasks_of};
+    ghost use Rattle.gt_replay.specs.declared.walker.Doing.TheVariants as doing;
+
+    /// The domain of this number before the first line of its list.
+    pub(crate) fn new(alloc: Global, dom: DomId, tasks: Vec<&'s Task<'a>>) -> Walker<'s, 'a>
+        ensures dom { result.dom ≡ dom }
+        ensures tasks { result.tasks.items ≡ tasks.entry.items }
+        ensures next { result.next ≡ 0 }
+        ensures doing { result.doing ≡ doing.Nothing }
+        ensures labels { AreNamed result.labels [] }
+        ensures held { result.held.items ≡ [] }
+        ensures text { result.text.items ≡ [] }
+    {
+        Walker {
+            dom,
+            tasks,
+            next: 0,
+            doing: Doing::Nothing,
+            labels: Labels::new(alloc),
+            held: Vec::new(alloc),
+            text: Vec::new(alloc),
+        }
+    }
+
+    /// Its domain.
+    pub fn dom(&self) -> DomId {
+        self.dom
+    }
+
+    /// How many lines of its list it has begun.
+    pub fn begun(&self) -> usize {
+        self.next
+    }
+
+    /// Whether it has a call open.
+    pub fn is_calling(&self) -> bool
+        ensures open { IsTrue result → self.now.doing ≢ doing.Nothing }
+        ensures idle { (result ≡ false) → self.now.doing ≡ doing.Nothing }
+    {
+        match self.doing {
+            Doing::Nothing => false,
+            Doing::Line { .. } | Doing::GivesBack => true,
+        }
+    }
+
+    /// Whether it is at the end of its list, with no call open and no mapping.
+    pub fn is_finished(&self) -> bool
+        ensures { IsTrue result → IsAtEnd self.now }
+    {
+        !self.is_calling() && self.next >= self.tasks.len() && self.held.is_empty()
+    }
+
+    /// The call of a line that it has open, if it has one.
+    pub fn call(&self) -> Option<&'s ScriptCall<'a>> {
+        match self.doing {
+            Doing::Line { call, .. } => Some(call),
+            Doing::Nothing | Doing::GivesBack => None,
+        }
+    }
+
+    /// The handles of its mappings, those of the oldest first.
+    pub fn held(&self) -> &[Handle] {
+        self.held.as_slice()
+    }
+
+    /// The lines of its answers so far.
+    pub fn text(&self) -> &[u8] {
+        self.text.as_slice()
+    }
+
+    // Goes past its next line, which tells or awaits a flag.
+    pub(crate) fn skip(&mut self) -> Moved
+        requires { self.old.next < length self.old.tasks.items }
+        ensures { self.new ≡ record self.old { next = self.old.next + 1 } }
+    {
+        self.next += 1;
+        Moved::Flag
+    }
+
+    /// Its next task, none at the end of its list.
+    pub fn task(&self) -> Option<&'s Task<'a>>
+        ensures task { option_map (λ t. t.now) result ≡ slice_get (tasks_of self.now) self.now.next }
+        ensures room { IsSome result → self.now.next < length self.now.tasks.items }
+        ensures end { IfNone result (length self.now.tasks.items ≤ self.now.next) }
+    {
+        if self.next < self.tasks.len() {
+            Some(self.tasks[self.next])
+        } else {
+            None
+        }
+    }
+}
+
+impl<'s, 'a> Walker<'s, 'a> {
+    ghost use Rattle.std.specs.Prelude.{◌≡◌, ◌≢◌, ◌<◌, ◌≤◌, ℕ, List, length, slice_get, IsTrue, IsSome, IfOk, Some};
+    ghost use Rattle.gt_core.specs.Standing.{setting_in};
+    ghost use Rattle.gt_host.specs.Rights.{may_by};
+    ghost use Rattle.gt_script.specs.declared.tasks.Deed.TheVariants as deeds;
+    ghost use Rattle.gt_replay.specs.Walking.{Answers, IsClosed, Makes, tasks_of};
+    ghost use Rattle.gt_replay.specs.declared.walker.Doing.TheVariants as doing;
+
+    // The call of this line has its answer.
+    fn answer(
+        &mut self,
+        alloc: Global,
+        types: &[Text],
+        line: usize,
+        call: &'s ScriptCall<'a>,
+        gone: Option<Handle>,
+        answer: &Answer,
+    ) -> Result<(), AllocError>
+        ensures { OnOk result (Answers types.now line call.now gone answer.now self.old self.new) }
+    {
+        name_mapping(&mut self.labels, self.dom, call, answer)?;
+        hold(alloc, &mut self.held, gone, answer)?;
+        push_answer_line(alloc, &mut self.text, types, line, self.dom, answer)?;
+        self.doing = Doing::Nothing;
+        Ok(())
+    }
+
+    // Begins the call of its next line.
+    pub(crate) fn begin(
+        &mut self,
+        alloc: Global,
+        core: &mut Core<Rights>,
+        types: &[Text],
+        task: &'s Task<'a>,
+        call: &'s ScriptCall<'a>,
+    ) -> Result<Option<Moved>, ReplayFault>
+        requires next { slice_get (tasks_of self.old) self.old.next ≡ Some task.now }
+        requires room { self.old.next < length self.old.tasks.items }
+        requires does { task.now.deed ≡ deeds.Do call.now }
+        requires idle { self.old.doing ≡ doing.Nothing }
+        ensures makes { IfOk result (λ m. IsSome m → Makes (setting_in may_by core.old) types.now
+            core.old.state self.old core.new.state self.new) }
+        ensures config { core.new.config ≡ core.old.config }
+        ensures rights { core.new.rights ≡ core.old.rights }
+    {
+        let bytes = bytes_said(alloc, call)?;
+        let request = request_of(&self.labels, self.dom, bytes.as_slice(), call);
+        let gone = given_up(request);
+        let begun = core.begin(self.dom, request)?;
+        match begun {
+            Begun::Open => {
+                self.next += 1;
+                let line = task.line;
+                self.doing = Doing::Line { line, call, gone };
+                Ok(Some(Moved::Began))
+            }
+            Begun::Done(answer) => {
+                self.next += 1;
+                self.answer(alloc, types, task.line, call, gone, &answer)?;
+                Ok(Some(Moved::Began))
+            }
+            Begun::Busy | Begun::NoDomain => Ok(None),
+        }
+    }
+
+    // Begins to give one of its mappings back, at the end of its list.
+    pub(crate) fn give_back(
+        &mut self,
+        core: &mut Core<Rights>,
+        choice: usize,
+    ) -> Result<Option<Moved>, ReplayFault>
+        requires end { length self.old.tasks.items ≤ self.old.next }
+        requires idle { self.old.doing ≡ doing.Nothing }
+        ensures makes { (types : List (List ℕ)) → IfOk result (λ m. IsSome m → Makes (setting_in may_by core.old) types
+            core.old.state self.old core.new.state self.new) }
+        ensures config { core.new.config ≡ core.old.config }
+        ensures rights { core.new.rights ≡ core.old.rights }
+    {
+        if choice >= self.held.len() {
+            return Ok(None);
+        }
+        let handle = self.held.remove(choice);
+        let begun = core.begin(self.dom, Request::Unmap { handle })?;
+        match begun {
+            Begun::Open => {
+                self.doing = Doing::GivesBack;
+                return Ok(Some(Moved::Began));
+            }
+            Begun::Done(_) => Err(ReplayFault::Keeps(self.dom)),
+            Begun::Busy | Begun::NoDomain => Ok(None),
+        }
+    }
+
+    // What it has open has this answer.
+    fn close(&mut self, alloc: Global, types: &[Text], answer: &Answer) -> Result<bool, ReplayFault>
+        ensures { IfOk result (λ b. IsTrue b → IsClosed types.now answer.now self.old self.new) }
+    {
+        match self.doing {
+            Doing::Nothing => Ok(false),
+            Doing::Line { line, call, gone } => {
+                self.answer(alloc, types, line, call, gone, answer)?;
+                Ok(true)
+            }
+            Doing::GivesBack => {
+                let Answer::Done = answer else {
+                    return Err(ReplayFault::Keeps(self.dom));
+                };
+                self.doing = Doing::Nothing;
+                Ok(true)
+            }
+        }
+    }
+
+    // Makes the next step of what it has open.
+    pub(crate) fn tick(
+        &mut self,
+        alloc: Global,
+        core: &mut Core<Rights>,
+        types: &[Text],
+    ) -> Result<Option<Moved>, ReplayFault>
+        requires { self.old.doing ≢ doing.Nothing }
+        ensures makes { IfOk result (λ m. IsSome m → Makes (setting_in may_by core.old) types.now
+            core.old.state self.old core.new.state self.new) }
+        ensures config { core.new.config ≡ core.old.config }
+        ensures rights { core.new.rights ≡ core.old.rights }
+    {
+        let ticked = core.tick(self.dom)?;
+        match ticked {
+            Ticked::Step(step, seen) => Ok(Some(Moved::Stepped(step, seen))),
+            Ticked::Done(step, seen, answer) => {
+                let closed = self.close(alloc, types, &answer)?;
+                if closed {
+                    Ok(Some(Moved::Stepped(step, seen)))
+                } else {
+                    Ok(None)
+                }
+            }
+            Ticked::Idle | Ticked::NoDomain => Ok(None),
+        }
+    }
+}
