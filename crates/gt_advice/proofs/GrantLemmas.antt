@@ -42,11 +42,11 @@ pub any_same : {X : Type 0} (f g : X → Bool) → ((x : X) → f x ≡ g x) →
 any_same f g same [] = refl
 any_same f g same (x ∷ xs) = ap (λ (b : Bool). b || list_any f xs) (same x) ∙ ap (λ (b : Bool). g x || b) (any_same f g same xs)
 
-any_never : {X : Type 0} (f : X → Bool) → ((x : X) → f x ≡ false) → (xs : List X) → list_any f xs ≡ false
+pub any_never : {X : Type 0} (f : X → Bool) → ((x : X) → f x ≡ false) → (xs : List X) → list_any f xs ≡ false
 any_never f never [] = refl
 any_never f never (x ∷ xs) = ap (λ (b : Bool). b || list_any f xs) (never x) ∙ any_never f never xs
 
-any_and : {X : Type 0} (a : Bool) (f : X → Bool) (xs : List X) → list_any (λ x. a && f x) xs ≡ (a && list_any f xs)
+pub any_and : {X : Type 0} (a : Bool) (f : X → Bool) (xs : List X) → list_any (λ x. a && f x) xs ≡ (a && list_any f xs)
 any_and true f xs = any_same (λ x. true && f x) f (λ x. refl) xs
 any_and false f xs = any_never (λ x. false && f x) (λ x. refl) xs
 
@@ -94,7 +94,7 @@ held xs t items =
     ∙ ap (λ (b : Bool). list_any (λ i. text.names_with (statements_in xs) i t) items && not b) (any_same (λ i. takes_out (names_of xs t) i) (λ i. text.names_without (statements_in xs) i t) (takes xs t) items)
 
 -- a statement grants by members what it grants by names
-by_names : (xs : List LinedStatement) (w s t : List ℕ) (a : Allowance) → (gives_source w (member_of xs s) a && reaches (member_of xs s) (member_of xs t) a) ≡ text.statement_grants (statements_in xs) s t w (Allow a)
+pub by_names : (xs : List LinedStatement) (w s t : List ℕ) (a : Allowance) → (gives_source w (member_of xs s) a && reaches (member_of xs s) (member_of xs t) a) ≡ text.statement_grants (statements_in xs) s t w (Allow a)
 by_names xs w s t a =
     ap (λ (b : Bool). ((has_grant a.classes && text.lists_word a.perms w) && b) && reaches (member_of xs s) (member_of xs t) a) (held xs s a.source)
     ∙ ap (λ (b : Bool). ((has_grant a.classes && text.lists_word a.perms w) && text.set_holds (statements_in xs) a.source s) && (b || (list_any text.is_self a.target && bytes_eq s t))) (held xs t a.target)
@@ -123,7 +123,7 @@ asked_among xs asked p (y ∷ ys) = go y.statement (asked_among xs asked p ys)
     go (GiveAttributes m ms) others = others
     go (Allow a) others = others
 
-any_asked : (xs : List LinedStatement) (asked : Option (List ℕ)) (p : Member → Bool) → list_any p (members_of xs asked) ≡ list_any (λ t. p (member_of xs t)) (types_asked xs asked)
+pub any_asked : (xs : List LinedStatement) (asked : Option (List ℕ)) (p : Member → Bool) → list_any p (members_of xs asked) ≡ list_any (λ t. p (member_of xs t)) (types_asked xs asked)
 any_asked xs asked p = asked_among xs asked p xs
 
 true_or : (b : Bool) → (true || b) ≡ true

@@ -16,8 +16,9 @@ use Rattle.gt_policy.specs.declared.statements.Statement.TheVariants.{Allow}
 use Rattle.gt_advice.specs.declared.findings.Finding.{Finding}
 use Rattle.gt_advice.specs.declared.findings.Kind.{Kind}
 use Rattle.gt_advice.specs.declared.findings.Kind.TheVariants.{Fault, OtherClass, OtherPermission, AllowsNothing, NeverAsked}
+use Rattle.gt_advice.specs.declared.findings.Kind.TheVariants.{Repeats, NeverNamed, NoDomain, NeverMatters, NeverMapped}
 use Rattle.gt_advice.specs.declared.members.Member.{Member}
-use Rattle.gt_advice.specs.Granting.{gives_some}
+use Rattle.gt_advice.specs.Granting.{exceeds_some, gives_some}
 
 -- the finding is an error
 abbrev pub is_error : Kind → Bool
@@ -26,6 +27,11 @@ is_error OtherClass = false
 is_error OtherPermission = false
 is_error AllowsNothing = false
 is_error NeverAsked = false
+is_error Repeats = false
+is_error NeverNamed = false
+is_error NoDomain = false
+is_error NeverMatters = false
+is_error NeverMapped = false
 
 -- the finding is that a statement allows nothing
 abbrev pub is_of_nothing : Kind → Bool
@@ -34,6 +40,24 @@ is_of_nothing OtherClass = false
 is_of_nothing OtherPermission = false
 is_of_nothing AllowsNothing = true
 is_of_nothing NeverAsked = false
+is_of_nothing Repeats = false
+is_of_nothing NeverNamed = false
+is_of_nothing NoDomain = false
+is_of_nothing NeverMatters = false
+is_of_nothing NeverMapped = false
+
+-- the finding is that a statement repeats an earlier one
+abbrev pub is_of_repeat : Kind → Bool
+is_of_repeat Fault = false
+is_of_repeat OtherClass = false
+is_of_repeat OtherPermission = false
+is_of_repeat AllowsNothing = false
+is_of_repeat NeverAsked = false
+is_of_repeat Repeats = true
+is_of_repeat NeverNamed = false
+is_of_repeat NoDomain = false
+is_of_repeat NeverMatters = false
+is_of_repeat NeverMapped = false
 
 -- the lines of the errors
 abbrev pub error_lines : List Finding → List ℕ
@@ -42,6 +66,10 @@ error_lines found = flat_map (λ x. if is_error x.kind then x.line ∷ [] else [
 -- the lines of the statements that are told to allow nothing
 abbrev pub nothing_lines : List Finding → List ℕ
 nothing_lines found = flat_map (λ x. if is_of_nothing x.kind then x.line ∷ [] else []) found
+
+-- the lines of the statements that are told to repeat an earlier one
+abbrev pub repeat_lines : List Finding → List ℕ
+repeat_lines found = flat_map (λ x. if is_of_repeat x.kind then x.line ∷ [] else []) found
 
 -- the statement grants some permission to some declared type on some declared type (SELinux policy language: allow)
 abbrev pub grants_something : List LinedStatement → Statement → Bool
@@ -57,7 +85,46 @@ allows_nothing xs (DeclareAttribute w) = false
 allows_nothing xs (GiveAttributes m ms) = false
 allows_nothing xs (Allow a) = has_grant a.classes && not (grants_something xs (Allow a))
 
+-- whatever the statement x grants to a declared type on a declared type, y grants too
+abbrev pub grants_no_more : List LinedStatement → Statement → Statement → Bool
+grants_no_more xs x y = not (list_any
+    (λ p. list_any
+    (λ s. list_any
+    (λ t. statement_grants (statements_in xs) s t (permission_name p) x
+    && not (statement_grants (statements_in xs) s t (permission_name p) y)) (types_in (statements_in xs)))
+    (types_in (statements_in xs))) every_permission)
+
+-- the statement grants something, and one of those before it grants all of that
+abbrev pub repeats : List LinedStatement → List LinedStatement → Statement → Bool
+repeats xs before x = grants_something xs x && list_any (λ y. grants_no_more xs x y.statement) before
+
+-- the lines of those statements that repeat one that comes before them
+abbrev pub lines_repeated : List LinedStatement → List LinedStatement → List LinedStatement → List ℕ
+lines_repeated xs before [] = []
+lines_repeated xs before (y ∷ ys) =
+    (if repeats xs before y.statement then y.line ∷ [] else []) ++ lines_repeated xs (before ++ y ∷ []) ys
+
 -- the same, of the members
+abbrev pub grants_with : List Member → Statement → Bool
+grants_with members x = list_any (λ p. gives_some (permission_name p) members members x) every_permission
+
+abbrev pub exceeds_with : List Member → Statement → Statement → Bool
+exceeds_with members x y = list_any (λ p. exceeds_some (permission_name p) members x y) every_permission
+
+abbrev pub no_more_with : List Member → Statement → Statement → Bool
+no_more_with members x y = not (exceeds_with members x y)
+
+abbrev pub repeats_with : List Member → List LinedStatement → Statement → Bool
+repeats_with members before x = grants_with members x && list_any (λ y. no_more_with members x y.statement) before
+
+abbrev pub repeat_line : List Member → List LinedStatement → LinedStatement → List ℕ
+repeat_line members before x = if repeats_with members before x.statement then x.line ∷ [] else []
+
+abbrev pub repeated_with : List Member → List LinedStatement → List LinedStatement → List ℕ
+repeated_with members before [] = []
+repeated_with members before (y ∷ ys) =
+    repeat_line members before y ++ repeated_with members (before ++ y ∷ []) ys
+
 abbrev pub is_useless_with : List Member → Statement → Bool
 is_useless_with members (DeclareType w ms) = false
 is_useless_with members (DeclareAttribute w) = false
@@ -69,19 +136,23 @@ is_useless_with members (Allow a) =
 abbrev pub useless_line : List Member → LinedStatement → List ℕ
 useless_line members x = if is_useless_with members x.statement then x.line ∷ [] else []
 
--- of what was added nothing is an error, nor about a statement that allows nothing
+-- of what was added nothing is an error, nor that a statement allows nothing or repeats another
 abbrev pub Quiet : List Finding → List Finding → Type 0
-Quiet old new = (error_lines new ≡ error_lines old) × (nothing_lines new ≡ nothing_lines old)
+Quiet old new =
+    (error_lines new ≡ error_lines old) × (nothing_lines new ≡ nothing_lines old) × (repeat_lines new ≡ repeat_lines old)
 
--- of what was added nothing is an error, and these are the lines of statements that allow nothing
-abbrev pub TellsNothing : List Finding → List Finding → List ℕ → Type 0
-TellsNothing old new lines = (error_lines new ≡ error_lines old) × (nothing_lines new ≡ nothing_lines old ++ lines)
+-- of what was added nothing is an error, these are the lines of statements that allow nothing, and those the lines of
+-- statements that repeat another
+abbrev pub TellsUseless : List Finding → List Finding → List ℕ → List ℕ → Type 0
+TellsUseless old new nothing repeated =
+    (error_lines new ≡ error_lines old) × (nothing_lines new ≡ nothing_lines old ++ nothing)
+    × (repeat_lines new ≡ repeat_lines old ++ repeated)
 
 -- What is found in a text. If it is no policy one error is told, at the line of its first fault. If it is one
--- no error is, and those statements are told to allow nothing that do.
+-- no error is, and those statements are told to allow nothing that do, and those to repeat an earlier one that do.
 pub data Judges (text : List ℕ) : List Finding → Type 0 where
   faulty : (f : TokenFault) (found : List Finding) → Says text (Err f) → error_lines found ≡ f.line ∷ []
       → Judges text found
   sound : (m : Meaning) (xs : List LinedStatement) (found : List Finding) → Says text (Ok m) → IsLined text xs
       → error_lines found ≡ [] → nothing_lines found ≡ map (λ x. x.line) (filter (λ x. allows_nothing xs x.statement) xs)
-      → Judges text found
+      → repeat_lines found ≡ lines_repeated xs [] xs → Judges text found

@@ -58,3 +58,22 @@ near_some w sources targets (DeclareType v ms) = false
 near_some w sources targets (DeclareAttribute v) = false
 near_some w sources targets (GiveAttributes m ms) = false
 near_some w sources targets (Allow a) = list_any (λ s. comes_near w targets s a) sources
+
+-- a statement grants it to the source on the target
+abbrev pub gives_one : List ℕ → Member → Member → Statement → Bool
+gives_one w s t (DeclareType v ms) = false
+gives_one w s t (DeclareAttribute v) = false
+gives_one w s t (GiveAttributes m ms) = false
+gives_one w s t (Allow a) = gives_source w s a && reaches s t a
+
+-- of a source to which both may grant it, a statement reaches a target on which the other does not
+abbrev pub exceeds_on : List ℕ → List Member → Allowance → Statement → Member → Bool
+exceeds_on w targets a other s = list_any (λ t. reaches s t a && not (gives_one w s t other)) targets
+
+-- a statement grants it to some of the types on some of them, where the other does not
+abbrev pub exceeds_some : List ℕ → List Member → Statement → Statement → Bool
+exceeds_some w members (DeclareType v ms) other = false
+exceeds_some w members (DeclareAttribute v) other = false
+exceeds_some w members (GiveAttributes m ms) other = false
+exceeds_some w members (Allow a) other =
+    list_any (λ s. gives_source w s a && exceeds_on w members a other s) members

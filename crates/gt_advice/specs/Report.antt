@@ -4,6 +4,7 @@ use Rattle.std.specs.Fmt.{decimal}
 use Rattle.gt_advice.specs.declared.findings.Finding.{Finding}
 use Rattle.gt_advice.specs.declared.findings.Kind.{Kind}
 use Rattle.gt_advice.specs.declared.findings.Kind.TheVariants.{Fault, OtherClass, OtherPermission, AllowsNothing, NeverAsked}
+use Rattle.gt_advice.specs.declared.findings.Kind.TheVariants.{Repeats, NeverNamed, NoDomain, NeverMatters, NeverMapped}
 
 -- how bad a finding is
 abbrev pub severity_text : Kind → List ℕ
@@ -12,6 +13,11 @@ severity_text OtherClass = codes "warning"
 severity_text OtherPermission = codes "warning"
 severity_text AllowsNothing = codes "warning"
 severity_text NeverAsked = codes "warning"
+severity_text Repeats = codes "warning"
+severity_text NeverNamed = codes "warning"
+severity_text NoDomain = codes "warning"
+severity_text NeverMatters = codes "warning"
+severity_text NeverMapped = codes "warning"
 
 -- `FILE:LINE:COLUMN: SEVERITY: MESSAGE`
 abbrev pub heading_text : List ℕ → Finding → List ℕ

@@ -131,7 +131,7 @@ fn push_quoted(out: &mut Vec<u8>, word: &[u8]) -> Result<(), AllocError> {
 }
 
 /// Appends the name that a misspelt one may be meant as, if there is one.
-pub(crate) fn push_hint(
+pub fn push_hint(
     alloc: Global,
     out: &mut Vec<u8>,
     word: &str,
@@ -146,7 +146,7 @@ pub(crate) fn push_hint(
 }
 
 /// A word in quotes, and what is said of it.
-pub(crate) fn said_of(alloc: Global, word: &str, said: &str) -> Result<Vec<u8>, AllocError> {
+pub fn said_of(alloc: Global, word: &str, said: &str) -> Result<Vec<u8>, AllocError> {
     let mut out = Vec::new(alloc);
     push_quoted(&mut out, word.as_bytes())?;
     push_text(&mut out, said)?;

@@ -1,15 +1,18 @@
 //! What is wrong or useless in a policy text.
-ghost use Rattle.std.specs.Prelude.{◌≡◌, ◌∷◌, [], true, false, is_some, map, filter, IfOk, OnOk};
+ghost use Rattle.std.specs.Prelude.{◌≡◌, ◌∷◌, [], true, false, is_some, map, filter, take, IfOk, OnOk};
 ghost use Rattle.std.specs.List.{list_any, flat_map};
 ghost use Rattle.gt_types.specs.Names.{every_permission, permission_name};
 ghost use Rattle.gt_policy.specs.Shown.{fault_shown};
-ghost use Rattle.gt_advice.specs.Check.{Judges, error_lines, nothing_lines, is_useless_with, useless_line, Quiet};
-ghost use Rattle.gt_advice.specs.Check.{is_error, is_of_nothing, TellsNothing, allows_nothing};
-ghost use Rattle.gt_advice.specs.Granting.{gives_some};
+ghost use Rattle.gt_advice.specs.Check.{Judges, Quiet, TellsUseless, allows_nothing, error_lines, exceeds_with};
+ghost use Rattle.gt_advice.specs.Check.{grants_with};
+ghost use Rattle.gt_advice.specs.Check.{is_error, is_of_nothing, is_of_repeat, is_useless_with, lines_repeated};
+ghost use Rattle.gt_advice.specs.Check.{no_more_with, nothing_lines, repeat_line, repeat_lines, repeated_with};
+ghost use Rattle.gt_advice.specs.Check.{repeats_with, useless_line};
+ghost use Rattle.gt_advice.specs.Granting.{exceeds_some, gives_some};
 
 use crate::fault::{Explained, PERMISSIONS, explain, push_hint, said_of};
-use crate::granting::{gives_some, has_grant};
-use crate::members::{Member, members_of};
+use crate::granting::{exceeds_some, gives_some, has_grant, names_type};
+use crate::members::{Member, is_same, members_of};
 use crate::places::{LineTokens, column_of_word, line_tokens};
 use gt_policy::{
     Allowance, LinedStatement, Permissions, Policy, PolicyFault, PolicyFaultKind, Statement,
@@ -17,6 +20,7 @@ use gt_policy::{
 };
 use gt_streams::push_text;
 use gt_types::{Memory, Perms};
+use itoa::Buffer;
 use std::alloc::{AllocError, Global};
 
 /// What a finding is about.
@@ -32,6 +36,16 @@ pub enum Kind {
     AllowsNothing,
     /// The permission `transfer`, for which no call asks.
     NeverAsked,
+    /// A statement that grants only what an earlier one grants.
+    Repeats,
+    /// A type that is in no set of an allow statement.
+    NeverNamed,
+    /// A type that no domain of the script has.
+    NoDomain,
+    /// A statement that grants nothing to domains of the script.
+    NeverMatters,
+    /// A label of a script that no map before it has.
+    NeverMapped,
 }
 
 /// Something in a text that is wrong or useless. Lines and columns are counted from 1.
@@ -45,8 +59,7 @@ pub struct Finding {
 
 // Whether a statement allows something to some of these types.
 fn allows_something(statement: &Statement, members: &[Member]) -> bool
-    ensures { result ≡ list_any (λ p. gives_some (permission_name p) members.now members.now statement.now)
-        every_permission }
+    ensures { result ≡ grants_with members.now statement.now }
 {
     Perms::EVERY.iter().any(|perm| gives_some(statement, members, members, perm.name()))
 }
@@ -63,11 +76,40 @@ fn is_useless(statement: &Statement, members: &[Member]) -> bool
     }
 }
 
-// Adds a finding that is no error, nor about a statement that allows nothing.
+// Whether a statement grants something that another does not.
+fn exceeds(statement: &Statement, other: &Statement, members: &[Member]) -> bool
+    ensures { result ≡ exceeds_with members.now statement.now other.now }
+{
+    Perms::EVERY.iter().any(|perm| exceeds_some(statement, other, members, perm.name()))
+}
+
+// Whether a statement grants nothing that another does not.
+fn grants_no_more(statement: &Statement, other: &Statement, members: &[Member]) -> bool
+    ensures { result ≡ no_more_with members.now statement.now other.now }
+{
+    !exceeds(statement, other, members)
+}
+
+// Whether one of these statements grants all that this one does.
+fn is_repeated(statement: &Statement, before: &[LinedStatement], members: &[Member]) -> bool
+    ensures { result ≡ list_any (λ y. no_more_with members.now statement.now y.statement) before.now }
+{
+    before.iter().any(|earlier| grants_no_more(statement, &earlier.statement, members))
+}
+
+// Whether a statement grants something, and one of those before it all of that.
+fn repeats(statement: &Statement, before: &[LinedStatement], members: &[Member]) -> bool
+    ensures { result ≡ repeats_with members.now before.now statement.now }
+{
+    allows_something(statement, members) && is_repeated(statement, before, members)
+}
+
+// Adds a finding that is no error, nor about a statement that allows nothing or repeats another.
 #[tactic(auto, using(crate::proofs::CheckLemmas::quiet_push))]
 fn push_quiet(found: &mut Vec<Finding>, finding: Finding) -> Result<(), AllocError>
     requires no_error { is_error finding.kind ≡ false }
     requires no_statement { is_of_nothing finding.kind ≡ false }
+    requires no_repeat { is_of_repeat finding.kind ≡ false }
     ensures { OnOk result (Quiet found.old.items found.new.items) }
 {
     found.push(finding)?;
@@ -205,38 +247,48 @@ fn warn_words(
 
 // Adds that a statement allows nothing.
 #[tactic(auto, using(crate::proofs::CheckLemmas::nothing_push))]
-fn push_telling(found: &mut Vec<Finding>, finding: Finding) -> Result<(), AllocError>
+fn push_nothing(found: &mut Vec<Finding>, finding: Finding) -> Result<(), AllocError>
     requires no_error { is_error finding.kind ≡ false }
     requires of_statement { is_of_nothing finding.kind ≡ true }
-    ensures { OnOk result (TellsNothing found.old.items found.new.items (finding.line ∷ [])) }
+    requires no_repeat { is_of_repeat finding.kind ≡ false }
+    ensures { OnOk result (TellsUseless found.old.items found.new.items (finding.line ∷ []) []) }
 {
     found.push(finding)?;
     Ok(())
 }
 
-// What is said of a statement that allows nothing.
-fn nothing_message(alloc: Global) -> Result<Vec<u8>, AllocError> {
+// Adds that a statement repeats another.
+#[tactic(auto, using(crate::proofs::CheckLemmas::repeat_push))]
+fn push_repeat(found: &mut Vec<Finding>, finding: Finding) -> Result<(), AllocError>
+    requires no_error { is_error finding.kind ≡ false }
+    requires no_statement { is_of_nothing finding.kind ≡ false }
+    requires of_repeat { is_of_repeat finding.kind ≡ true }
+    ensures { OnOk result (TellsUseless found.old.items found.new.items [] (finding.line ∷ [])) }
+{
+    found.push(finding)?;
+    Ok(())
+}
+
+fn message_of(alloc: Global, text: &str) -> Result<Vec<u8>, AllocError> {
     let mut message = Vec::new(alloc);
-    push_text(
-        &mut message,
-        "this statement allows nothing: its source or target set is empty",
-    )?;
+    push_text(&mut message, text)?;
     Ok(message)
 }
 
 // Tells that a statement allows nothing, if it does not.
-fn warn_useless(
+fn warn_nothing(
     alloc: Global,
     found: &mut Vec<Finding>,
     column: u32,
     stated: &LinedStatement,
     members: &[Member],
 ) -> Result<(), AllocError>
-    ensures { OnOk result (TellsNothing found.old.items found.new.items (useless_line members.now stated.now)) }
+    ensures { OnOk result (TellsUseless found.old.items found.new.items (useless_line members.now stated.now) []) }
 {
     if is_useless(&stated.statement, members) {
-        let message = nothing_message(alloc)?;
-        return push_telling(
+        let said = "this statement allows nothing: its source or target set is empty";
+        let message = message_of(alloc, said)?;
+        return push_nothing(
             found,
             Finding {
                 kind: Kind::AllowsNothing,
@@ -249,70 +301,322 @@ fn warn_useless(
     Ok(())
 }
 
+// What is said of a statement that repeats one of those before it.
+fn repeat_message(
+    alloc: Global,
+    stated: &LinedStatement,
+    before: &[LinedStatement],
+    members: &[Member],
+) -> Result<Vec<u8>, AllocError> {
+    let mut message = message_of(alloc, "this statement allows only what the one on line ")?;
+    let first = before.iter().find(|earlier| grants_no_more(
+        &stated.statement,
+        &earlier.statement,
+        members,
+    ));
+    if let Some(first) = first {
+        let mut digits = Buffer::new();
+        push_text(&mut message, digits.format(first.line))?;
+    }
+    push_text(&mut message, " allows")?;
+    Ok(message)
+}
+
+// Tells that a statement repeats one of those before it, if it does.
+fn warn_repeat(
+    alloc: Global,
+    found: &mut Vec<Finding>,
+    column: u32,
+    stated: &LinedStatement,
+    before: &[LinedStatement],
+    members: &[Member],
+) -> Result<(), AllocError>
+    ensures { OnOk result (TellsUseless found.old.items found.new.items []
+        (repeat_line members.now before.now stated.now)) }
+{
+    if repeats(&stated.statement, before, members) {
+        let message = repeat_message(alloc, stated, before, members)?;
+        return push_repeat(
+            found,
+            Finding {
+                kind: Kind::Repeats,
+                line: stated.line,
+                column,
+                message,
+            },
+        );
+    }
+    Ok(())
+}
+
+// The types of a policy, whether there is a script, and the types that its domains have.
+#[derive(Clone, Copy)]
+struct Types<'m, 'a> {
+    members: &'m [Member<'a>],
+    is_script: bool,
+    worn: &'m [Member<'a>],
+}
+
+// Whether a type is among these.
+fn is_member(members: &[Member], name: &TextPiece) -> bool {
+    members.iter().any(|member| is_same(&member.name, name))
+}
+
+// Whether some allow statement has a type in a set.
+fn is_named(statements: &[LinedStatement], members: &[Member], name: &TextPiece) -> bool {
+    match members.iter().find(|member| is_same(&member.name, name)) {
+        Some(member) => statements
+            .iter()
+            .any(|stated| names_type(&stated.statement, member)),
+        None => true,
+    }
+}
+
+// Whether there is a script, and no domain of it has this type.
+fn has_no_domain(types: &Types, name: &TextPiece) -> bool {
+    types.is_script && !is_member(types.worn, name)
+}
+
+// Tells that no allow statement names a type, or that no domain has it.
+fn warn_type(
+    alloc: Global,
+    found: &mut Vec<Finding>,
+    bytes: &[u8],
+    line: &LineTokens,
+    number: u32,
+    statements: &[LinedStatement],
+    types: &Types,
+    name: &TextPiece,
+) -> Result<(), AllocError>
+    ensures { OnOk result (Quiet found.old.items found.new.items) }
+{
+    let column = column_of_word(bytes, line, name.as_bytes(), 0);
+    if !is_named(statements, types.members, name) {
+        let message = said_of(alloc, name.as_str(), " is in no set of an allow statement")?;
+        let kind = Kind::NeverNamed;
+        return push_quiet(
+            found,
+            Finding {
+                kind,
+                line: number,
+                column,
+                message,
+            },
+        );
+    }
+    if has_no_domain(types, name) {
+        let message = said_of(
+            alloc,
+            name.as_str(),
+            " is the type of no domain of this script",
+        )?;
+        let kind = Kind::NoDomain;
+        return push_quiet(
+            found,
+            Finding {
+                kind,
+                line: number,
+                column,
+                message,
+            },
+        );
+    }
+    Ok(())
+}
+
+// Whether there is a script, and a statement allows something, but nothing to domains of the script.
+fn never_matters(statement: &Statement, types: &Types) -> bool {
+    types.is_script
+        && allows_something(statement, types.members)
+        && !allows_something(statement, types.worn)
+}
+
+// Tells that a statement allows nothing to domains of the script.
+fn warn_matter(
+    alloc: Global,
+    found: &mut Vec<Finding>,
+    column: u32,
+    stated: &LinedStatement,
+    types: &Types,
+) -> Result<(), AllocError>
+    ensures { OnOk result (Quiet found.old.items found.new.items) }
+{
+    if !never_matters(&stated.statement, types) {
+        return Ok(());
+    }
+    let said = "this statement allows nothing to the domains of this script";
+    let message = message_of(alloc, said)?;
+    let kind = Kind::NeverMatters;
+    push_quiet(
+        found,
+        Finding {
+            kind,
+            line: stated.line,
+            column,
+            message,
+        },
+    )
+}
+
+// Tells what is useless in the parts of a statement.
+fn warn_parts(
+    alloc: Global,
+    found: &mut Vec<Finding>,
+    bytes: &[u8],
+    line: &LineTokens,
+    stated: &LinedStatement,
+    statements: &[LinedStatement],
+    types: &Types,
+) -> Result<(), AllocError>
+    ensures { OnOk result (Quiet found.old.items found.new.items) }
+{
+    match &stated.statement {
+        Statement::Allow(allowed) => warn_words(alloc, found, bytes, line, stated.line, allowed),
+        Statement::DeclareType(name, _) => {
+            warn_type(
+                alloc,
+                found,
+                bytes,
+                line,
+                stated.line,
+                statements,
+                types,
+                name,
+            )
+        }
+        _ => Ok(()),
+    }
+}
+
 // Whether the statement is an allow statement that begins on this line.
 fn is_allow_on(stated: &LinedStatement, line: u32) -> bool {
     stated.line == line && matches!(stated.statement, Statement::Allow(_))
 }
 
-// Tells what is useless in a statement, which begins with the word `allow` of its line that comes after so many others.
-#[tactic(auto, using(crate::proofs::CheckLemmas::tells_after))]
+// How many statements at the end of these are allow statements that begin on this line.
+fn allows_on(statements: &[LinedStatement], line: u32) -> usize {
+    statements
+        .iter()
+        .rev()
+        .take_while(|stated| stated.line == line)
+        .filter(|stated| is_allow_on(stated, line))
+        .count()
+}
+
+// Tells what is useless in a statement, which comes after these.
+#[tactic(auto, using(crate::proofs::CheckLemmas::tells_all))]
 fn warn(
     alloc: Global,
     found: &mut Vec<Finding>,
     bytes: &[u8],
     stated: &LinedStatement,
-    before: usize,
-    members: &[Member],
+    before: &[LinedStatement],
+    statements: &[LinedStatement],
+    types: &Types,
 ) -> Result<(), AllocError>
-    ensures { OnOk result (TellsNothing found.old.items found.new.items (useless_line members.now stated.now)) }
+    ensures { OnOk result (TellsUseless found.old.items found.new.items (useless_line types.now.members.now stated.now)
+        (repeat_line types.now.members.now before.now stated.now)) }
 {
     let line = line_tokens(alloc, bytes, stated.line)?;
-    let column = column_of_word(bytes, &line, b"allow".as_slice(), before);
-    if let Statement::Allow(allowed) = &stated.statement {
-        warn_words(alloc, found, bytes, &line, stated.line, allowed)?;
-    }
-    warn_useless(alloc, found, column, stated, members)
+    let skipped = allows_on(before, stated.line);
+    let column = column_of_word(bytes, &line, b"allow".as_slice(), skipped);
+    warn_parts(alloc, found, bytes, &line, stated, statements, types)?;
+    warn_nothing(alloc, found, column, stated, types.members)?;
+    warn_repeat(alloc, found, column, stated, before, types.members)?;
+    warn_matter(alloc, found, column, stated, types)
 }
 
-// Tells what is useless in statements, whose types are these.
+// Tells what is useless in statements.
 fn warn_all(
     alloc: Global,
     bytes: &[u8],
     statements: &[LinedStatement],
-    members: &[Member],
+    types: &Types,
 ) -> Result<Vec<Finding>, AllocError>
     ensures no_error { IfOk result (λ v. error_lines v.items ≡ []) }
     ensures nothing { IfOk result (λ v. nothing_lines v.items
-        ≡ flat_map (λ x. useless_line members.now x) statements.now) }
+        ≡ flat_map (λ x. useless_line types.now.members.now x) statements.now) }
+    ensures repeated { IfOk result (λ v. repeat_lines v.items
+        ≡ repeated_with types.now.members.now [] statements.now) }
 {
     let mut found = Vec::new(alloc);
-    let mut line = 0;
-    let mut before: usize = 0;
-    'statements: for stated in statements {
-        if stated.line != line {
-            line = stated.line;
-            before = 0;
-        }
-        warn(alloc, &mut found, bytes, stated, before, members)?;
-        if is_allow_on(stated, line) {
-            before = before.saturating_add(1);
-        }
+    'statements: for (i, stated) in statements.iter().enumerate() {
+        warn(
+            alloc,
+            &mut found,
+            bytes,
+            stated,
+            &statements[..i],
+            statements,
+            types,
+        )?;
     }
     Ok(found)
 }
 
-// Tells what is useless in statements.
+// The types that domains of a script have; none if there is no script.
+fn worn_members<'a>(
+    alloc: Global,
+    statements: &[LinedStatement<'a>],
+    worn: Option<&[&str]>,
+) -> Result<Vec<Member<'a>>, AllocError> {
+    let mut members = Vec::new(alloc);
+    let Some(names) = worn else {
+        return Ok(members);
+    };
+    for name in names {
+        for member in members_of(alloc, statements, Some(*name))? {
+            members.push(member)?;
+        }
+    }
+    Ok(members)
+}
+
+// Tells what is useless in statements with these types, of which domains of a script have those, if there is a script.
+fn warn_with(
+    alloc: Global,
+    bytes: &[u8],
+    statements: &[LinedStatement],
+    members: &[Member],
+    is_script: bool,
+    worn: &[Member],
+) -> Result<Vec<Finding>, AllocError>
+    ensures no_error { IfOk result (λ v. error_lines v.items ≡ []) }
+    ensures nothing { IfOk result (λ v. nothing_lines v.items
+        ≡ flat_map (λ x. useless_line members.now x) statements.now) }
+    ensures repeated { IfOk result (λ v. repeat_lines v.items ≡ repeated_with members.now [] statements.now) }
+{
+    let types = Types {
+        members,
+        is_script,
+        worn,
+    };
+    warn_all(alloc, bytes, statements, &types)
+}
+
+// Tells what is useless in statements, and for the domains of a script, which have these types, if there is a script.
 fn warnings(
     alloc: Global,
     bytes: &[u8],
     statements: &[LinedStatement],
+    worn: Option<&[&str]>,
 ) -> Result<Vec<Finding>, AllocError>
     ensures no_error { IfOk result (λ v. error_lines v.items ≡ []) }
     ensures nothing { IfOk result (λ v. nothing_lines v.items
         ≡ map (λ x. x.line) (filter (λ x. allows_nothing statements.now x.statement) statements.now)) }
+    ensures repeated { IfOk result (λ v. repeat_lines v.items ≡ lines_repeated statements.now [] statements.now) }
 {
     let members = members_of(alloc, statements, None)?;
-    let found = warn_all(alloc, bytes, statements, members.as_slice())?;
+    let is_script = worn.is_some();
+    let live = worn_members(alloc, statements, worn)?;
+    let found = warn_with(
+        alloc,
+        bytes,
+        statements,
+        members.as_slice(),
+        is_script,
+        live.as_slice(),
+    )?;
     Ok(found)
 }
 
@@ -335,9 +639,8 @@ fn errors(alloc: Global, text: &str, fault: &PolicyFault) -> Result<Vec<Finding>
     Ok(found)
 }
 
-/// What is wrong or useless in a policy text. Of a text that is no policy it tells one error, at the line of its first
-/// fault. Of a policy it tells no error, and the statements that allow nothing are exactly those that it tells so.
-pub fn check(alloc: Global, text: &str) -> Result<Vec<Finding>, Memory>
+// What is wrong or useless in a policy text, and for the domains of a script, which have these types, if there is one.
+fn judge(alloc: Global, text: &str, worn: Option<&[&str]>) -> Result<Vec<Finding>, Memory>
     ensures { IfOk result (λ v. Judges text.now v.items) }
 {
     if let Err(fault) = Policy::parse(alloc, text) {
@@ -346,7 +649,7 @@ pub fn check(alloc: Global, text: &str) -> Result<Vec<Finding>, Memory>
     }
     match statements_of(alloc, text) {
         Ok(statements) => {
-            let found = warnings(alloc, text.as_bytes(), statements.as_slice())?;
+            let found = warnings(alloc, text.as_bytes(), statements.as_slice(), worn)?;
             Ok(found)
         }
         Err(fault) => {
@@ -354,4 +657,21 @@ pub fn check(alloc: Global, text: &str) -> Result<Vec<Finding>, Memory>
             Ok(found)
         }
     }
+}
+
+/// What is wrong or useless in a policy text. Of a text that is no policy it tells one error, at the line of its first
+/// fault. Of a policy it tells no error, and the statements that it tells to allow nothing, or to repeat an earlier
+/// one, are exactly those that do.
+pub fn check(alloc: Global, text: &str) -> Result<Vec<Finding>, Memory>
+    ensures { IfOk result (λ v. Judges text.now v.items) }
+{
+    judge(alloc, text, None)
+}
+
+/// The same of the policy block of a script whose domains have these types. It tells also the types that no domain
+/// has, and the statements that allow nothing to domains of the script.
+pub fn check_worn(alloc: Global, text: &str, worn: &[&str]) -> Result<Vec<Finding>, Memory>
+    ensures { IfOk result (λ v. Judges text.now v.items) }
+{
+    judge(alloc, text, Some(worn))
 }

@@ -1,11 +1,11 @@
 //! Which types a statement allows what.
-ghost use Rattle.std.specs.Prelude.{◌≡◌};
+ghost use Rattle.std.specs.Prelude.{◌≡◌, ◌&&◌, not};
 ghost use Rattle.std.specs.List.{list_any};
 ghost use Rattle.std.specs.Str.{bytes_eq};
 ghost use Rattle.gt_policy.specs.Granting.{lists_word, is_self};
 ghost use Rattle.gt_policy.specs.Resolving.{has_grant};
 ghost use Rattle.gt_advice.specs.Granting.{puts_in, takes_out, holds, reaches, gives_source, gives, gives_some};
-ghost use Rattle.gt_advice.specs.Granting.{comes_near, near_some};
+ghost use Rattle.gt_advice.specs.Granting.{comes_near, exceeds_on, exceeds_some, gives_one, near_some};
 
 use crate::members::{Member, is_same};
 use gt_policy::{Allowance, Permissions, SetElement, Statement, TextPiece};
@@ -181,6 +181,68 @@ pub(crate) fn near_some(
 {
     match statement {
         Statement::Allow(allowed) => near_any(allowed, sources, targets, perm),
+        _ => false,
+    }
+}
+
+// Whether a statement grants the permission to the source on the target.
+fn gives_one(statement: &Statement, source: &Member, target: &Member, perm: &str) -> bool
+    ensures { result ≡ gives_one perm.now source.now target.now statement.now }
+{
+    match statement {
+        Statement::Allow(allowed) => {
+            gives_source(allowed, source, perm) && reaches(allowed, source, target)
+        }
+        _ => false,
+    }
+}
+
+// Whether a statement that gives the source this permission reaches a target on which another does not grant it.
+fn exceeds_on(
+    allowed: &Allowance,
+    other: &Statement,
+    source: &Member,
+    targets: &[Member],
+    perm: &str,
+) -> bool
+    ensures { result ≡ exceeds_on perm.now targets.now allowed.now other.now source.now }
+{
+    targets.iter().any(|target| reaches(allowed, source, target)
+        && !gives_one(other, source, target, perm))
+}
+
+// Whether a statement grants the permission to some source on some target where another does not.
+fn exceeds_any(allowed: &Allowance, other: &Statement, members: &[Member], perm: &str) -> bool
+    ensures { result ≡ list_any (λ s. gives_source perm.now s allowed.now
+        && exceeds_on perm.now members.now allowed.now other.now s) members.now }
+{
+    members.iter().any(|source| {
+        gives_source(allowed, source, perm) && exceeds_on(allowed, other, source, members, perm)
+    })
+}
+
+/// Whether a statement grants the permission to some of the types on some of them where another statement does not.
+pub(crate) fn exceeds_some<'a>(
+    statement: &Statement,
+    other: &Statement,
+    members: &[Member<'a>],
+    perm: &str,
+) -> bool
+    ensures { result ≡ exceeds_some perm.now members.now statement.now other.now }
+{
+    match statement {
+        Statement::Allow(allowed) => exceeds_any(allowed, other, members, perm),
+        _ => false,
+    }
+}
+
+/// Whether the source or the target set of an allow statement holds the type.
+pub(crate) fn names_type(statement: &Statement, member: &Member) -> bool {
+    match statement {
+        Statement::Allow(allowed) => {
+            let names = member.names.as_slice();
+            holds(names, allowed.source.as_slice()) || holds(names, allowed.target.as_slice())
+        }
         _ => false,
     }
 }

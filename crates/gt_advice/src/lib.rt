@@ -7,7 +7,8 @@
 //!
 //! What holds: the statements told are exactly those that grant the permission, by the names in them,
 //! or for a denied question those that come near. An error is told exactly if a text is no policy,
-//! at the line of its first fault, and the statements told to allow nothing are exactly those that do.
+//! at the line of its first fault, and the statements told to allow nothing, or to repeat an earlier one,
+//! are exactly those that do.
 //!
 //! It uses `gt_policy` (the statements of a text), `gt_types` (permissions), `gt_streams` (text),
 //! `itoa` (numbers) and `strsim` (nearest names).
@@ -24,5 +25,6 @@ mod report;
 mod texts;
 
 pub use asking::{Answer, Explanation, Question, why};
-pub use findings::{Finding, Kind, check};
+pub use fault::{push_hint, said_of};
+pub use findings::{Finding, Kind, check, check_worn};
 pub use report::{push_json, push_report};

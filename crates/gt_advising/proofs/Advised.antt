@@ -56,7 +56,7 @@ some_error (x ∷ xs) line some = by (is_error x.kind) refl some (some_error xs 
 
 clean : (text : List ℕ) (found : List Finding) → Judges text found → IsClean text (not (errs found))
 clean text found (faulty f _ says line) = rw (some_error found f.line line) (f, says)
-clean text found (sound m xs _ says lined none _) = rw (no_error found none) (m, says)
+clean text found (sound m xs _ says lined none _ _) = rw (no_error found none) (m, says)
 
 -- the findings went out
 pub checked_text : (text : List ℕ) (found : List Finding) (report : List ℕ) (old new : Option (List ℕ)) (answer : Bool) → Judges text found → answer ≡ not (errs found) → Appends old new report

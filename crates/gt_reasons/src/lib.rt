@@ -24,8 +24,13 @@ mod syntax;
 mod texts;
 mod waits;
 
+pub use blocks::{block_text, has_policy};
+pub use columns::column_of;
 pub use limits::limit_of;
 pub use misfit::fitting;
+pub use reason::Reason;
 pub use refusals::push_refusals;
-pub use script::{push_block_reason, push_read_reason, push_script_reason};
+pub use script::{
+    block_reason, push_block_reason, push_read_reason, push_script_reason, script_reason,
+};
 pub use syntax::first_misfit;

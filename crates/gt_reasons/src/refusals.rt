@@ -18,6 +18,22 @@ struct Refusal<'t> {
     perm: &'t str,
 }
 
+// The refusal that the object of an answer line tells (docs/FORMATS.md, 'JSON Lines').
+fn refusal_of_object<'t>(line: &'t str) -> Option<Refusal<'t>> {
+    let members = line.strip_prefix("{\"line\":")?.strip_suffix("\"}")?;
+    let (number, rest) = members.split_once(",\"domain\":")?;
+    let (_, facts) = rest.split_once(",\"rule\":\"N5\",\"status\":-8,\"source\":\"")?;
+    let (source, rest) = facts.split_once("\",\"target\":\"")?;
+    let (target, perm) = rest.split_once("\",\"perm\":\"")?;
+    Some(Refusal {
+        line: number,
+        facts,
+        source,
+        target,
+        perm,
+    })
+}
+
 // The refusal that an answer line tells: none of a line with another answer, or of an audit line.
 fn refusal_of<'t>(line: &'t str) -> Option<Refusal<'t>> {
     let (call, facts) = line.split_once(" N5 -8 source=")?;
@@ -142,7 +158,7 @@ fn push_near(
 
 /// Appends, for each call that the policy refused, the rules of the script that come near: statements of its policy
 /// block, or triples, each with its line. What is refused again is told once. `printed` is the text that a play or a
-/// run printed for the script. After an Err a part of the lines may be there.
+/// run printed for the script, or its JSON Lines. After an Err a part of the lines may be there.
 pub fn push_refusals(
     alloc: Global,
     out: &mut Vec<u8>,
@@ -158,7 +174,7 @@ pub fn push_refusals(
     let block = block.as_ref().map(|text| text.as_str());
     let mut told: Vec<&str> = Vec::new(alloc);
     for line in text_lines(alloc, printed)?.as_slice() {
-        if let Some(refusal) = refusal_of(line) {
+        if let Some(refusal) = refusal_of(line).or_else(|| refusal_of_object(line)) {
             if !told.iter().any(|facts| *facts == refusal.facts) {
                 told.push(refusal.facts)?;
                 push_near(alloc, out, file, lines.as_slice(), block, refusal)?;

@@ -1,5 +1,5 @@
 //! Why a script was refused.
-ghost use Rattle.std.specs.Prelude.{OnOk};
+ghost use Rattle.std.specs.Prelude.{◌≡◌, ◌++◌, OnOk, codes};
 ghost use Rattle.gt_reasons.specs.Reasons.{TellsAt};
 
 use crate::blocks::{block_text, has_policy};
@@ -15,7 +15,6 @@ use gt_streams::text_of;
 use gt_texts::{push_number, push_text};
 use gt_types::LONGEST_TEXT;
 use std::alloc::{AllocError, Global};
-use std::io::{self, Write};
 
 // A reason that is about a whole line.
 fn said(alloc: Global, text: &str) -> Result<Reason, AllocError> {
@@ -80,7 +79,12 @@ fn line_reason(alloc: Global, lines: &[&str], fault: &ScriptFault) -> Result<Rea
     }
 }
 
-fn reason_of(alloc: Global, input: &[u8], fault: &ScriptFault) -> Result<Reason, AllocError> {
+/// Why a script has this fault, which `parse` or `parse_run` gave for these bytes.
+pub fn script_reason(
+    alloc: Global,
+    input: &[u8],
+    fault: &ScriptFault,
+) -> Result<Reason, AllocError> {
     match (fault.kind, text_of(input)) {
         (ScriptFaultKind::Limit, _) => limit_reason(alloc),
         (_, Err(_)) => utf8_reason(alloc, input),
@@ -116,12 +120,12 @@ pub fn push_script_reason(
 ) -> Result<(), AllocError>
     ensures { OnOk result (TellsAt file.now fault.now.line out.old.items out.new.items) }
 {
-    let reason = reason_of(alloc, input, fault)?;
+    let reason = script_reason(alloc, input, fault)?;
     push_reason(out, file, fault.line, &reason)
 }
 
-// What is wrong with the policy block of a script.
-fn block_reason(alloc: Global, input: &[u8]) -> Result<Reason, AllocError> {
+/// What is wrong with the policy block of a script.
+pub fn block_reason(alloc: Global, input: &[u8]) -> Result<Reason, AllocError> {
     let Ok(text) = text_of(input) else {
         return utf8_reason(alloc, input);
     };
@@ -160,6 +164,11 @@ pub fn push_block_reason(
 
 /// Appends why a file was not read: a line `FILE: REASON`, in the system's words. After an Err a part of it may be
 /// there.
-pub fn push_read_reason(out: &mut Vec<u8>, file: &str, error: &io::Error) -> io::Result<()> {
-    writeln!(out, "{file}: {error}")
+pub fn push_read_reason(out: &mut Vec<u8>, file: &str, said: &[u8]) -> Result<(), AllocError>
+    ensures { OnOk result (out.new.items ≡ out.old.items ++ file.now ++ codes ": " ++ said.now ++ codes "\n") }
+{
+    push_text(out, file)?;
+    push_text(out, ": ")?;
+    out.extend_from_slice(said)?;
+    push_text(out, "\n")
 }

@@ -1,6 +1,6 @@
 use Rattle.gt_advice.specs.Check.{sound}
 use Rattle.gt_advice.proofs.CheckLemmas.{judged_faulty}
-use Rattle.gt_advice.proofs.findings.check.Goals as goal
+use Rattle.gt_advice.proofs.findings.judge.Goals as goal
 
 pub returns-in-Err : goal.returns-in-Err
 returns-in-Err c =
@@ -9,7 +9,8 @@ returns-in-Err c =
 pub returns-in_ok-found-in-Ok : goal.returns-in_ok-found-in-Ok
 returns-in_ok-found-in-Ok c =
     let told = rw c.as_slice.ensures at c.in_ok-found-in-Ok.ensures.nothing in
-    sound c.in_default.ensures.ok.0 c.in-Ok.statements c.in_ok-found-in-Ok.found.items c.in_default.ensures.ok.1 c.in-Ok.ensures.ok c.in_ok-found-in-Ok.ensures.no_error told
+    let repeated = rw c.as_slice.ensures at c.in_ok-found-in-Ok.ensures.repeated in
+    sound c.in_default.ensures.ok.0 c.in-Ok.statements c.in_ok-found-in-Ok.found.items c.in_default.ensures.ok.1 c.in-Ok.ensures.ok c.in_ok-found-in-Ok.ensures.no_error told repeated
 
 pub returns-in_ok-found-in-Err-statements_of : goal.returns-in_ok-found-in-Err-statements_of
 returns-in_ok-found-in-Err-statements_of c =
