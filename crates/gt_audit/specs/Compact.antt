@@ -50,10 +50,10 @@ called asks.Unmap p = calls.Unmap (Some (domain_at p.dom, reference_at p.source)
 called asks.UnmapOfNothing p = calls.Unmap None
 called asks.Copy p =
     calls.Copy
-      (record { ptr = p.source; dom = domain_at p.dom; off = p.source_off })
-      (record { ptr = p.dest; dom = domain_at p.dest_dom; off = p.dest_off })
-      p.len
-      p.flags
+    (record { ptr = p.source; dom = domain_at p.dom; off = p.source_off })
+    (record { ptr = p.dest; dom = domain_at p.dest_dom; off = p.dest_off })
+    p.len
+    p.flags
 called asks.QuerySize p = calls.QuerySize (domain_at p.dom)
 called asks.GetVersion p = calls.GetVersion (domain_at p.dom)
 called asks.SetVersion p = calls.SetVersion p.source

@@ -259,10 +259,6 @@ impl Pieces {
     {
         let ahead = self.pieces.len() - self.at;
         let wanted = records / PIECE + 2;
-        add_pieces(
-            self.alloc,
-            &mut self.pieces,
-            wanted.saturating_sub(ahead),
-        )
+        add_pieces(self.alloc, &mut self.pieces, wanted.saturating_sub(ahead))
     }
 }

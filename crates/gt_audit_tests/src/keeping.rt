@@ -27,9 +27,15 @@ fn a_trail_keeps_each_record(rt: HostRuntime) -> Result<(), Fail> {
         trail.push(record(1, number));
         wanted.push(record(1, number))?;
     }
-    assert_eq!(rt; (trail.records()?.as_slice(), trail.lost()), (wanted.as_slice(), 0));
+    assert_eq!(rt;
+        (trail.records()?.as_slice(), trail.lost()),
+        (wanted.as_slice(), 0)
+    );
     assert_eq!(rt; (trail.len(), trail.is_empty()), (1000, false));
-    assert_eq!(rt; (trail.get(999), trail.get(1000)), (Some(record(1, 999)), None));
+    assert_eq!(rt;
+        (trail.get(999), trail.get(1000)),
+        (Some(record(1, 999)), None)
+    );
     Ok(())
 }
 
@@ -41,7 +47,10 @@ fn what_was_taken_and_what_is_left_are_all(rt: HostRuntime) -> Result<(), Fail> 
         trail.push(record(1, number));
     }
     let mut taken = trail.take(Trail::new(rt.alloc()));
-    assert_eq!(rt; (taken.len(), taken.lost(), trail.len(), trail.lost()), (600, 400, 0, 0));
+    assert_eq!(rt;
+        (taken.len(), taken.lost(), trail.len(), trail.lost()),
+        (600, 400, 0, 0)
+    );
     assert_eq!(rt; taken.get(599), Some(record(1, 599)));
     for number in 0..3 {
         trail.push(record(1, number));
@@ -49,7 +58,10 @@ fn what_was_taken_and_what_is_left_are_all(rt: HostRuntime) -> Result<(), Fail> 
     taken.clear();
     let again = trail.take(taken);
     let wanted = [record(1, 0), record(1, 1), record(1, 2)];
-    assert_eq!(rt; (again.records()?.as_slice(), again.lost()), (wanted.as_slice(), 0));
+    assert_eq!(rt;
+        (again.records()?.as_slice(), again.lost()),
+        (wanted.as_slice(), 0)
+    );
     assert!(rt; trail.is_empty());
     Ok(())
 }
@@ -64,7 +76,10 @@ fn a_trail_keeps_no_more_than_it_may(rt: HostRuntime) -> Result<(), Fail> {
         trail.push(record(1, number));
     }
     let wanted = [record(1, 0), record(1, 1)];
-    assert_eq!(rt; (trail.records()?.as_slice(), trail.lost()), (wanted.as_slice(), 3));
+    assert_eq!(rt;
+        (trail.records()?.as_slice(), trail.lost()),
+        (wanted.as_slice(), 3)
+    );
     trail.keep_at_most(3);
     trail.push(record(1, 5));
     assert_eq!(rt; (trail.len(), trail.lost()), (3, 3));

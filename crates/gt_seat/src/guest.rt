@@ -3,7 +3,7 @@ ghost use Rattle.std.specs.Prelude.{◌≡◌};
 ghost use Rattle.gt_live.specs.Domains.{IsOf};
 ghost use Rattle.gt_seat.specs.Seated.{StandsBy};
 
-use gt_audit::{Record, Trail};
+use gt_audit::Record;
 use gt_calls::{CopyArgs, Handle, Held, Place};
 use gt_entry::Entry;
 use gt_live::{Domain, Halfway, Left, Monitor};
@@ -63,7 +63,7 @@ impl<P: Allows + Drop> Drop for Guest<P> {
 
 impl<P: Allows + Drop> Guest<P> {
     ghost use Rattle.std.specs.Prelude.{◌≡◌, ◌≤◌, IsSome, None, OnOk, OnErr, is_some};
-    ghost use Rattle.gt_audit.specs.Telling.{ArePartsOf, HasNone, Tells};
+    ghost use Rattle.gt_audit.specs.Telling.{Tells};
     ghost use Rattle.gt_audit.specs.declared.record.Hypercall.TheVariants as Hypercall;
     ghost use Rattle.gt_calls.specs.declared.held.Held.{Held as Mapping};
     ghost use Rattle.gt_calls.specs.declared.request.Request.TheVariants as Request;
@@ -309,19 +309,6 @@ impl<P: Allows + Drop> Guest<P> {
         } }
     {
         self.domain.reserve_records(records)
-    }
-
-    /// Hands out its records, and goes on with none, in the room of `next`.
-    pub fn take_records(&mut self, next: Trail) -> Trail
-        requires idle { self.old.copying ≡ None }
-        requires empty { HasNone next }
-        ensures stays { StaysIdle self.old self.new }
-        ensures parts { ArePartsOf self.old.domain.trail result self.new.domain.trail }
-        ensures taken { result ≡ self.old.domain.trail }
-        ensures goes_on { self.new.domain
-            ≡ record self.old.domain { trail = record next { most = self.old.domain.trail.most } } }
-    {
-        self.domain.take_records(next)
     }
 
     /// The record of its calls at this place, counted from 0.

@@ -9,7 +9,7 @@ returns-in-Ok-clause-place c =
     let n = c.place_of_room-place.result in
     let ps : List (List Record) = c.args.pieces.now.items in
     let filled : AreFilled n ps =
-        subst (λ (qs : List (List Record)). AreFilled n qs) c.deref.ensures.value c.place_of_room-place.ensures.filled in
+    subst (λ (qs : List (List Record)). AreFilled n qs) c.deref.ensures.value c.place_of_room-place.ensures.filled in
     let last : n ≡ length ps = omega (arith, place-fits n ps filled) in
     subst (λ (qs : List (List Record)). HasRoomAt n qs) (sym c.in-Ok.ensures.added) (added-room n ps filled last)
 
@@ -22,5 +22,5 @@ returns-in-Err-clause-no_room c =
     let n = c.place_of_room-place.result in
     let ps : List (List Record) = c.args.pieces.now.items in
     let filled : AreFilled n ps =
-        subst (λ (qs : List (List Record)). AreFilled n qs) c.deref.ensures.value c.place_of_room-place.ensures.filled in
+    subst (λ (qs : List (List Record)). AreFilled n qs) c.deref.ensures.value c.place_of_room-place.ensures.filled in
     omega (arith, full-joined n ps filled (omega (arith, place-fits n ps filled)))

@@ -9,7 +9,7 @@ returns-then-is_full-clause-filled c =
     let piece : List Record = c.index-pieces-at.result in
     let full : length piece ≡ 256 = eqb-true _ _ (sym c.is_full.ensures.full ∙ c.if-is_full.true) in
     let at : length (get_or c.args.pieces.now c.args.at piece) ≡ 256 =
-        ap (λ (p : List Record). length p) (sym c.index-pieces-at.is) ∙ full in
+    ap (λ (p : List Record). length p) (sym c.index-pieces-at.is) ∙ full in
     rw add-one (filled-next c.args.at c.args.pieces.now piece c.requires (omega arith) at)
 
 pub returns-then-is_full-clause-room : goal.returns-then-is_full-clause-room

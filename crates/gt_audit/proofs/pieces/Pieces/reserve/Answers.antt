@@ -12,6 +12,6 @@ returns-clause-room c =
     let qs = c.add_pieces.new.pieces.items in
     let at = c.self.inside.at in
     let more : length qs ≡ length ps + c.saturating_sub.result → c.args.records ≤ room_of qs =
-        λ added. room-ahead at c.args.records qs (c.add_pieces.ensures.same.filled at c.self.invariant)
-          (omega (arith, added, place-fits at ps c.self.invariant)) in
+    λ added. room-ahead at c.args.records qs (c.add_pieces.ensures.same.filled at c.self.invariant)
+    (omega (arith, added, place-fits at ps c.self.invariant)) in
     if-ok c.add_pieces.result _ _ more c.add_pieces.ensures.added

@@ -7,8 +7,8 @@ use Rattle.gt_audit.proofs.trail.Trail.records.Goals.{in-Some+in_ok-push, in_def
 pub records-preserved : goal.records-preserved
 records-preserved c =
     elim c.match-get.branch [
-      in-Some+in_ok-push w ↦
-        rw add-one
+      | in-Some+in_ok-push w ↦
+          rw add-one
           (ap (λ v. v.items) w.records-is ∙ w.in_ok-push.ensures.items
           ∙ ap (λ (xs : List Record). xs ++ w.in-Some.told ∷ []) c.records.invariant
           ∙ sym (take_get _ _ _ (sym c.get.ensures ∙ w.in-Some.is)))
