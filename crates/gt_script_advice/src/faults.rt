@@ -1,0 +1,80 @@
+//! The error of bytes that are no script.
+ghost use Rattle.std.specs.Prelude.{◌≡◌, ◌⊎◌, ◌∷◌, [], ℕ, Some, IfOk};
+ghost use Rattle.gt_advice.specs.Check.{error_lines};
+ghost use Rattle.gt_script_advice.specs.Judging.{error_line, IsAtEither};
+
+use crate::warning::column_number;
+use gt_advice::{Finding, Kind};
+use gt_reasons::{Reason, block_reason, script_reason};
+use gt_script::ScriptError;
+use gt_types::Memory;
+use std::alloc::Global;
+
+// The line of a fault; none of refused memory.
+fn line_of(error: &ScriptError) -> Option<usize>
+    ensures { result ≡ error_line error.now }
+{
+    match error {
+        ScriptError::Memory => None,
+        ScriptError::Fault(fault) => Some(fault.line),
+        ScriptError::Policy(fault) => Some(fault.line),
+    }
+}
+
+fn reason_of(alloc: Global, input: &[u8], error: &ScriptError) -> Result<Reason, Memory> {
+    match error {
+        ScriptError::Memory => Err(Memory),
+        ScriptError::Fault(fault) => {
+            let reason = script_reason(alloc, input, fault)?;
+            Ok(reason)
+        }
+        ScriptError::Policy(_) => {
+            let reason = block_reason(alloc, input)?;
+            Ok(reason)
+        }
+    }
+}
+
+// The finding of a fault on this line. A script has far fewer lines than a number of 32 bits can count.
+fn error_at(
+    alloc: Global,
+    input: &[u8],
+    error: &ScriptError,
+    line: usize,
+) -> Result<Vec<Finding>, Memory>
+    ensures { IfOk result (λ v. error_lines v.items ≡ line ∷ []) }
+{
+    let Ok(number) = u32::try_from(line) else {
+        return Err(Memory);
+    };
+    let reason = reason_of(alloc, input, error)?;
+    let mut found = Vec::new(alloc);
+    found.push(Finding {
+        kind: Kind::Fault,
+        line: number,
+        column: column_number(reason.column),
+        message: reason.message,
+    })?;
+    Ok(found)
+}
+
+/// The error of bytes that are no script for `play`, nor for `run`: the one of the two that is further down.
+pub(crate) fn errors(
+    alloc: Global,
+    input: &[u8],
+    play: &ScriptError,
+    run: &ScriptError,
+) -> Result<Vec<Finding>, Memory>
+    ensures { IfOk result (λ v. IsAtEither play.now run.now v.items) }
+{
+    match (line_of(play), line_of(run)) {
+        (Some(line), Some(other)) => {
+            if line < other {
+                error_at(alloc, input, run, other)
+            } else {
+                error_at(alloc, input, play, line)
+            }
+        }
+        _ => Err(Memory),
+    }
+}
