@@ -1,8 +1,8 @@
 #!/usr/bin/env bash
 # bench/c.sh [LISTS [SEED]]: builds the static library for C, and tries it in C, C++ and Rust.
 #
-#   header    gthost.h compiles as C99 and C++, and says what the exports say (bench/header.py); the proofs of the
-#             exports are those that bench/walks.py writes
+#   header    gthost.h compiles as C99 and C++, and says what the exports say (tools/header.py); the proofs of the
+#             exports are those that tools/walks.py writes
 #   vmm       the program of crates/gt_c/README.md, linked as pkg-config says
 #   smoke     each answer of a short run is as the rules give it; each call of a handle of no domain
 #   memory    which calls take memory, and each allocation of a start failing in turn
@@ -14,7 +14,7 @@
 # All C is compiled with -Wall -Wextra -Wpedantic -Werror by each of gcc and clang that there is. smoke, memory, blk,
 # threads and 200 of the lists run under AddressSanitizer and UBSan too, blk and threads under ThreadSanitizer, where
 # the compiler has them. The sanitizers see the C side: the library is compiled by its own compiler.
-# LIBRARY=DIR takes the library from DIR, where bench/library.sh left it, and PLAY=FILE the built program gthost.
+# LIBRARY=DIR takes the library from DIR, where tools/library.sh left it, and PLAY=FILE the built program gthost.
 set -euo pipefail
 cd "$(dirname "$0")/.."
 lists="${1:-10000}"
@@ -27,10 +27,10 @@ wrapped=("-Wl,--wrap=malloc" "-Wl,--wrap=realloc" "-Wl,--wrap=free")
 library="${LIBRARY:-}"
 if [ -z "$library" ]; then
   library="$work/library"
-  ./bench/library.sh "$library" >"$work/log" 2>&1 || { cat "$work/log"; exit 1; }
+  ./tools/library.sh "$library" >"$work/log" 2>&1 || { cat "$work/log"; exit 1; }
 fi
 archive="$library/libgthost.a"
-python3 bench/walks.py --check
+python3 tools/walks.py --check
 xen=no
 ! printf '#include <xen/io/blkif.h>\n' | "${CC:-cc}" -include stdint.h -include string.h -E - >/dev/null 2>&1 || xen=yes
 
@@ -54,7 +54,7 @@ headers() {
   local cxx="${1/gcc/g++}"
   cxx="${cxx/clang/clang++}"
   ! command -v "$cxx" >/dev/null || "$cxx" "${warnings[@]}" -I"$library" -c "$work/only.cpp" -o "$work/only.o"
-  python3 bench/header.py >"$work/header.c"
+  python3 tools/header.py >"$work/header.c"
   "$1" -std=c11 "${warnings[@]}" -I"$library" -c "$work/header.c" -o "$work/header.o"
 }
 

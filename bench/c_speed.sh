@@ -1,12 +1,12 @@
 #!/usr/bin/env bash
-# Times the loads of `live_bench`, maps and unmaps on a running monitor, from C threads through the library
-# (bench/c/speed.c), beside `live_bench` itself. Prints millions of operations a second (a map or an unmap is one), how
+# Times the loads of `bench_live`, maps and unmaps on a running monitor, from C threads through the library
+# (bench/c/speed.c), beside `bench_live` itself. Prints millions of operations a second (a map or an unmap is one), how
 # many times longer a round takes from C, and below the table the instructions of a round on one thread, as valgrind
 # counts them.
 #
 # `bench/c_speed.sh [RUNS]` makes so many runs of each by turns (11), and takes from their time that of no rounds;
 # `PRIORITY='chrt -f 1' bench/c_speed.sh` runs them before other work; `bench/c_speed.sh 0` counts instructions only.
-# LIBRARY=DIR takes the library from DIR, where bench/library.sh left it.
+# LIBRARY=DIR takes the library from DIR, where tools/library.sh left it.
 set -euo pipefail
 cd "$(dirname "$0")/.."
 runs="${1:-11}"
@@ -17,11 +17,11 @@ trap 'rm -rf "$work"' EXIT
 library="${LIBRARY:-}"
 if [ -z "$library" ]; then
   library="$work/library"
-  ./bench/library.sh "$library" >"$work/log" 2>&1 || { cat "$work/log"; exit 1; }
+  ./tools/library.sh "$library" >"$work/log" 2>&1 || { cat "$work/log"; exit 1; }
 fi
 "${CC:-clang}" -std=c11 -O2 -pthread -I"$library" bench/c/speed.c "$library/libgthost.a" -o "$work/c"
-(cd crates/live_bench && rt run -- apart 1 0 >/dev/null 2>&1) # proves and builds it, where that is not done yet
-cp crates/live_bench/out/live_bench "$work/rattle"
+(cd crates/bench_live && rt run -- apart 1 0 >/dev/null 2>&1) # proves and builds it, where that is not done yet
+cp crates/bench_live/out/bench_live "$work/rattle"
 
 # There is room for 400,000 records ahead.
 rounds_of() {

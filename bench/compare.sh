@@ -1,6 +1,6 @@
 #!/usr/bin/env bash
-# Draws scripts and has gt_compare_cases make each on running domains and on the core, with everything compared after
-# each call. It is no part of the gate, whose scripts are in the data of gt_compare_cases: those of the files `drawn_*`
+# Draws scripts and has cases_compare make each on running domains and on the core, with everything compared after
+# each call. It is no part of the gate, whose scripts are in the data of cases_compare: those of the files `drawn_*`
 # were drawn here, as `bench/compare.sh --print SEED COUNT` prints them.
 #
 # A script has 2 to 6 domains of versions 1 and 2 with 1 to 64 frames each, and one more that only looks. Each domain
@@ -89,8 +89,8 @@ if [ "${1:-}" = --print ]; then
   exit
 fi
 seed="${1:-1}" files="${2:-10}"
-program="$top/crates/gt_compare_cases/out/gt_compare_cases"
-[ -x "$program" ] || { echo "first run 'rt run' in crates/gt_compare_cases, which builds it" >&2; exit 2; }
+program="$top/crates/cases_compare/out/cases_compare"
+[ -x "$program" ] || { echo "first run 'rt run' in crates/cases_compare, which builds it" >&2; exit 2; }
 work="$(mktemp -d)"
 trap 'rm -rf "$work"' EXIT
 names=()

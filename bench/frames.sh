@@ -2,15 +2,15 @@
 # Times frames and map handles: nanoseconds for one access, and for one handle kept and popped.
 # Each line is the time of COUNT accesses less that of none, divided by COUNT; the least of five runs.
 set -euo pipefail
-cd "$(dirname "$0")/../crates/frames_bench"
-[ -x out/frames_bench ] || rt run -- writes 0 > /dev/null 2>&1
+cd "$(dirname "$0")/../crates/bench_frames"
+[ -x out/bench_frames ] || rt run -- writes 0 > /dev/null 2>&1
 
 # nanoseconds of the quickest of five runs
 quickest() {
   local best=0 start took
   for _ in 1 2 3 4 5; do
     start=$(date +%s%N)
-    out/frames_bench "$1" "$2" > /dev/null
+    out/bench_frames "$1" "$2" > /dev/null
     took=$(($(date +%s%N) - start))
     if [ "$best" -eq 0 ] || [ "$took" -lt "$best" ]; then best=$took; fi
   done
@@ -21,7 +21,7 @@ each() {
   local none all
   none=$(quickest "$1" 0)
   all=$(quickest "$1" "$2")
-  echo "$1: $(((all - none) / $2)) ns each, of $2 ($(out/frames_bench "$1" "$2"))"
+  echo "$1: $(((all - none) / $2)) ns each, of $2 ($(out/bench_frames "$1" "$2"))"
 }
 
 each writes 20000

@@ -1,5 +1,5 @@
 #!/usr/bin/env bash
-# Times the loads of `live_bench`, whole calls on a running monitor, beside the bare words (`gt_bench`) and beside a
+# Times the loads of `bench_live`, whole calls on a running monitor, beside the bare words (`bench_words`) and beside a
 # program in C that keeps its entries as Xen keeps them, under a lock for the table and one for each entry: the
 # table's lock with its readers in one word, or spread over a word for each thread. Whole calls are recorded (`on`),
 # recorded into room that was made before the first call (`ahead`), recorded while the records are taken every 128
@@ -25,8 +25,8 @@ read -ra priority <<<"${PRIORITY:-}"
 work="$(mktemp -d)"
 trap 'rm -rf "$work"' EXIT
 
-built=(live_bench)
-[ "$table" = bytes ] || built+=(gt_bench)
+built=(bench_live)
+[ "$table" = bytes ] || built+=(bench_words)
 for program in "${built[@]}"; do # proves and builds them, where that is not done yet
   (cd "$top/crates/$program" && rt run -- apart 1 0 >/dev/null 2>&1)
   cp "$top/crates/$program/out/$program" "$work/$program"
@@ -36,8 +36,8 @@ done
 "${CC:-clang}" -O2 -pthread -o "$work/plain" "$top/bench/live_bytes.c"
 "${CC:-clang}" -O2 -pthread -DJOURNAL -o "$work/journal" "$top/bench/live_bytes.c"
 
-programs=(live_bench-on live_bench-ahead live_bench-taken live_bench-off gt_bench counted spread)
-movers=(live_bench plain journal)
+programs=(bench_live-on bench_live-ahead bench_live-taken bench_live-off bench_words counted spread)
+movers=(bench_live plain journal)
 
 # How often each thread of a program does what it does, in a run that is long enough to be timed. The journal of the C
 # program keeps what is written, so there is no memory for long runs of stores and copies.
@@ -47,7 +47,7 @@ rounds_of() {
     *" grants" | *" withdrawals") echo 200000 ;; # generations end them soon after a million
     *" "*-64) echo 100000 ;;
     *" "*-4096) echo 10000 ;;
-    live_bench-on* | live_bench-ahead* | live_bench-taken*) echo 200000 ;; # 400,000 records, for which `live_bench` makes room ahead
+    bench_live-on* | bench_live-ahead* | bench_live-taken*) echo 200000 ;; # 400,000 records, for which `bench_live` makes room ahead
     *) echo 3000000 ;;
   esac
 }
@@ -149,7 +149,7 @@ if [ "$table" != bytes ]; then
     for program in "${programs[@]}"; do
       echo "$load, $program: $(instructions "$program" "$load") instructions a round"
     done
-    for program in live_bench-on live_bench-ahead live_bench-off; do
+    for program in bench_live-on bench_live-ahead bench_live-off; do
       echo "$load, $program, 64 domains: $(instructions "$program" "$load" 64) instructions a round"
     done
   done
@@ -167,6 +167,6 @@ if [ "$table" != calls ]; then
     echo "$load: $(for program in "${movers[@]}"; do echo "$program $(instructions "$program" "$load")"; done | paste -sd' ') instructions a round"
   done
   for load in store-64 copy-64; do
-    echo "$load: $(resident "$work/live_bench" "$load" 1 1000000 off) KB resident after a million"
+    echo "$load: $(resident "$work/bench_live" "$load" 1 1000000 off) KB resident after a million"
   done
 fi

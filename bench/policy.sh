@@ -1,7 +1,7 @@
 #!/usr/bin/env bash
 # Times large policy texts over 256 types, each the quickest of five runs.
 #
-# First by the program policy_bench, in milliseconds: the text is parsed, its table compiled, and all
+# First by the program bench_policy, in milliseconds: the text is parsed, its table compiled, and all
 # triples are asked of the table; the time of making the text is taken off. Then what one question
 # costs in nanoseconds: by the table, over all 458,752 triples, and by the walk of the statements, over
 # the 1,792 triples of a type on itself. Then `gthost policy` as it is built, on the same texts from a
@@ -14,7 +14,7 @@ set -euo pipefail
 top="$(cd "$(dirname "${BASH_SOURCE[0]}")/.." && pwd)"
 "$top/gthost" policy </dev/null # proves and builds it, where that is not done yet; no policy prints nothing
 program="$top/crates/gthost/out/gthost"
-cd "$top/crates/policy_bench"
+cd "$top/crates/bench_policy"
 rt run -- make grant 0 > /dev/null 2>&1 # builds it anew, where it has changed
 work="$(mktemp -d)"
 trap 'rm -rf "$work"' EXIT
@@ -24,7 +24,7 @@ quickest() {
   local best=0 start took
   for _ in 1 2 3 4 5; do
     start=$(date +%s%N)
-    out/policy_bench "$@" > /dev/null
+    out/bench_policy "$@" > /dev/null
     took=$(($(date +%s%N) - start))
     if [ "$best" -eq 0 ] || [ "$took" -lt "$best" ]; then best=$took; fi
   done

@@ -1,7 +1,7 @@
 #!/usr/bin/env bash
-# Times the loads of `gt_bench` beside two programs in C: one that makes the same steps on the same words by hand, and
+# Times the loads of `bench_words` beside two programs in C: one that makes the same steps on the same words by hand, and
 # one with a ticket lock for each entry. Prints millions of operations a second (a map, an unmap, a grant, a revocation
-# or a withdrawal is one) and the ratios of `gt_bench` to the two. Below the table are the instructions of a round on
+# or a withdrawal is one) and the ratios of `bench_words` to the two. Below the table are the instructions of a round on
 # one thread, as valgrind counts them, in a run of 6 domains and in one of 64.
 #
 # `bench/words.sh [RUNS]` makes so many runs of each program by turns (21), and takes from their time that of no
@@ -15,8 +15,8 @@ read -ra priority <<<"${PRIORITY:-}"
 work="$(mktemp -d)"
 trap 'rm -rf "$work"' EXIT
 
-(cd "$top/crates/gt_bench" && rt run -- apart 1 0 >/dev/null 2>&1) # proves and builds it, where that is not done yet
-cp "$top/crates/gt_bench/out/gt_bench" "$work/proved"
+(cd "$top/crates/bench_words" && rt run -- apart 1 0 >/dev/null 2>&1) # proves and builds it, where that is not done yet
+cp "$top/crates/bench_words/out/bench_words" "$work/proved"
 for program in atomics locks; do
   "${CC:-clang}" -O2 -pthread -o "$work/$program" "$top/bench/words_$program.c"
 done

@@ -1,5 +1,5 @@
 /*
- * speed LOAD THREADS ROUNDS AUDIT: the loads of `live_bench`, through the library. LOAD is apart or adjacent, AUDIT is
+ * speed LOAD THREADS ROUNDS AUDIT: the loads of `bench_live`, through the library. LOAD is apart or adjacent, AUDIT is
  * on, ahead or off. Each thread maps an entry of the owner's and unmaps it, ROUNDS times. Prints how many were done.
  */
 #include "gthost.h"

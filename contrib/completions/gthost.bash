@@ -1,4 +1,4 @@
-# Completion of gthost for bash. Made by bench/pages.sh from the texts of --help.
+# Completion of gthost for bash. Made by tools/pages.sh from the texts of --help.
 _gthost() {
   local word="${COMP_WORDS[COMP_CWORD]}" before="${COMP_WORDS[COMP_CWORD - 1]}" words=""
   if [ "$COMP_CWORD" -eq 1 ]; then

@@ -1,4 +1,4 @@
-# Completion of gthost for fish. Made by bench/pages.sh from the texts of --help.
+# Completion of gthost for fish. Made by tools/pages.sh from the texts of --help.
 complete -c gthost -n __fish_use_subcommand -f -a play -d 'Runs a script line by line, and prints a line for each answer'
 complete -c gthost -n __fish_use_subcommand -f -a run -d 'Runs each domain of a script in a thread of its own, and prints its answers in its order'
 complete -c gthost -n __fish_use_subcommand -f -a policy -d 'Lists what a policy allows: a line SOURCE TARGET PERMISSION for each allowed triple'

@@ -1,4 +1,4 @@
-//! What `gthost.h` declares; `bench/header.py` compares the two.
+//! What `gthost.h` declares; `tools/header.py` compares the two.
 use std::os::raw::c_void;
 
 #[repr(C)]

@@ -1,0 +1,238 @@
+//! Accesses to frames, and map handles given back, in loops that are timed from outside.
+//!
+//! `bench_frames WORK COUNT` does the work so many times, and prints what it did, never a time. WORK
+//! is `writes`, `reads` or `copies` (of 4,096 bytes), `overlaps` (copies of 4,095 bytes within one
+//! frame), `words` (writes of 4 bytes), `named` (copies of 4,096 bytes among the 1,024 frames of 16
+//! domains), `locks` (of one of these frames), `locked` (copies of 4,096 bytes under two locks) or
+//! `handles` (that many in use, then all popped).
+//!
+//! It promises nothing beyond the calls that it makes, and uses `gt_frames`, `gt_handles` and
+//! `gt_types`. The script `bench/frames.sh` runs and times it.
+#![tactic(auto)]
+
+ghost use Rattle.std.specs.Prelude.{◌≡◌};
+
+use anyhow::{Result, bail};
+use gt_frames::{Frame, FrameName, Frames, Ground, Pool, Spot, Visits, Writ};
+use gt_handles::Handles;
+use gt_types::{Config, DomId, DomainConfig, FRAME_SIZE, Range, TypeId};
+use std::alloc::Global;
+use std::env;
+use std::sync::Wait;
+
+const OWNER: DomId = DomId(1);
+
+const BY_OWNER: Writ = Writ {
+    writer: OWNER,
+    basis: Ground::Owned,
+};
+
+/// Writes these bytes to the frame's beginning, and answers how often.
+fn write_all(frame: &mut Frame, bytes: &[u8], times: u32) -> u32 {
+    for done in 0..times {
+        if frame.owner() != OWNER || bytes.len() > usize::from(FRAME_SIZE) {
+            return done;
+        }
+        if frame.write(&BY_OWNER, 0, bytes).is_err() {
+            return done;
+        }
+    }
+    times
+}
+
+/// Reads the frame's beginning over these bytes, and answers how often.
+fn read_all(frame: &Frame, bytes: Vec<u8>, times: u32) -> u32 {
+    let mut bytes = bytes;
+    for done in 0..times {
+        if bytes.len() > usize::from(FRAME_SIZE) {
+            return done;
+        }
+        bytes = frame.read(0, bytes).into_bytes();
+    }
+    times
+}
+
+/// Copies one whole frame to another, and answers how often.
+fn copy_all(from: &Frame, to: &mut Frame, times: u32) -> u32 {
+    for done in 0..times {
+        if to.owner() != OWNER {
+            return done;
+        }
+        if Frame::copy_between(from, to, &BY_OWNER, 0, 0, FRAME_SIZE).is_err() {
+            return done;
+        }
+    }
+    times
+}
+
+/// Moves a frame's bytes up by one, and answers how often.
+fn shift_all(frame: &mut Frame, times: u32) -> u32 {
+    for done in 0..times {
+        if frame.owner() != OWNER {
+            return done;
+        }
+        if frame.copy_within(&BY_OWNER, 0, 1, FRAME_SIZE - 1).is_err() {
+            return done;
+        }
+    }
+    times
+}
+
+/// As many domains as a run may have, each with as many frames as it may have.
+fn config(alloc: Global) -> Result<Config> {
+    let mut domains = Vec::new(alloc);
+    for id in 0..16u16 {
+        domains.push(DomainConfig {
+            id: DomId(id),
+            label: TypeId(0),
+            frames: 64,
+            table_frames: 1,
+            version: 1,
+        })?;
+    }
+    Ok(Config {
+        domains,
+        first_gen: 0,
+    })
+}
+
+/// A frame of another domain than the owner's.
+fn far() -> FrameName
+    ensures { result ≡ record { owner = record { 0 = 15 }; number = 63 } }
+{
+    FrameName {
+        owner: DomId(15),
+        number: 63,
+    }
+}
+
+/// A frame of the owner's.
+fn near() -> FrameName
+    ensures { result ≡ record { owner = record { 0 = 1 }; number = 2 } }
+{
+    FrameName {
+        owner: OWNER,
+        number: 2,
+    }
+}
+
+/// Copies one whole frame of the run to another, and answers how often.
+fn copy_named(frames: &mut Frames, times: u32) -> u32 {
+    let whole = Range {
+        off: 0,
+        len: FRAME_SIZE,
+    };
+    let from = Spot {
+        frame: far(),
+        off: 0,
+    };
+    let to = Spot {
+        frame: near(),
+        off: 0,
+    };
+    for done in 0..times {
+        if !frames.has_range(from.frame, whole) || !frames.admits(to.frame, &BY_OWNER, whole) {
+            return done;
+        }
+        if frames.copy(&BY_OWNER, from, to, FRAME_SIZE).is_err() {
+            return done;
+        }
+    }
+    times
+}
+
+/// Locks a frame and frees it, and answers how often.
+fn lock_all<R: Wait>(rt: &R, pool: &Pool, visits: &mut Visits, times: u32) -> u32 {
+    for done in 0..times {
+        match pool.lock(rt, far()) {
+            Some(frame) => frame.free(visits),
+            None => return done,
+        }
+    }
+    times
+}
+
+/// Copies one whole frame to another under their locks, and answers how often.
+fn copy_locked<R: Wait>(rt: &R, pool: &Pool, visits: &mut Visits, times: u32) -> u32 {
+    for done in 0..times {
+        let Some(mut ends) = pool.lock_both(rt, far(), near()) else {
+            return done;
+        };
+        let copied = ends.copy(&BY_OWNER, 0, 0, FRAME_SIZE);
+        ends.free(visits);
+        if copied.is_err() {
+            return done;
+        }
+    }
+    times
+}
+
+/// Keeps so many values under handles.
+fn fill(handles: &mut Handles<u32>, count: u32) {
+    for value in 0..count {
+        if handles.reserve().is_err() {
+            return;
+        }
+        if handles.given() < u64::MAX {
+            let _ = handles.insert(value);
+        }
+    }
+}
+
+/// Pops all values, and answers how many there were.
+fn pop_all(handles: &mut Handles<u32>) -> usize {
+    let count = handles.len();
+    for done in 0..count {
+        if handles.pop().is_none() {
+            return done;
+        }
+    }
+    count
+}
+
+fn work_on_frames(rt: &HostRuntime, work: &str, count: u32) -> Result<u32> {
+    let alloc = rt.alloc();
+    let mut frame = Frame::new(alloc, OWNER, 0)?;
+    let mut other = Frame::new(alloc, OWNER, 1)?;
+    let page = vec![in alloc; 90u8; FRAME_SIZE as usize]?;
+    match work {
+        "writes" => Ok(write_all(&mut frame, &page, count)),
+        "words" => Ok(write_all(&mut frame, &[1, 2, 3, 4], count)),
+        "reads" => Ok(read_all(&frame, page, count)),
+        "copies" => Ok(copy_all(&frame, &mut other, count)),
+        "overlaps" => Ok(shift_all(&mut frame, count)),
+        "named" => Ok(copy_named(&mut Frames::new(alloc, &config(alloc)?)?, count)),
+        _ => bail!("no such work: {work}"),
+    }
+}
+
+fn work_on_pool<R: Wait>(rt: &R, alloc: Global, work: &str, count: u32) -> Result<u32> {
+    let (pool, mut all_visits) = Pool::new(alloc, &config(alloc)?)?;
+    let Some(mut visits) = all_visits.pop() else {
+        bail!("no domains");
+    };
+    match work {
+        "locks" => Ok(lock_all(rt, &pool, &mut visits, count)),
+        _ => Ok(copy_locked(rt, &pool, &mut visits, count)),
+    }
+}
+
+fn main(rt: HostRuntime) -> Result<()> {
+    let mut words = env::args(&rt)?.skip(1);
+    let (Some(work), Some(count)) = (words.next(), words.next()) else {
+        bail!("wanted: WORK COUNT");
+    };
+    let count = count.as_str().parse::<u32>()?;
+    if work.as_str() == "handles" {
+        let mut handles = Handles::new(rt.alloc());
+        fill(&mut handles, count);
+        println!(rt; "handles {}", pop_all(&mut handles))?;
+        return Ok(());
+    }
+    let done = match work.as_str() {
+        "locks" | "locked" => work_on_pool(&rt, rt.alloc(), work.as_str(), count)?,
+        other => work_on_frames(&rt, other, count)?,
+    };
+    println!(rt; "{} {done}", work.as_str())?;
+    Ok(())
+}

@@ -1,0 +1,45 @@
+-- What a mapper needs of the entry that it maps.
+use Rattle.std.specs.Prelude.{◌≡◌, ◌≢◌, ◌⊎◌, ℕ, ◌≤◌}
+use Rattle.gt_entry.specs.declared.entry.Entry.TheVariants.{Invalid}
+use Rattle.gt_types.specs.declared.Dir.TheVariants.{Read}
+use Rattle.gt_types.specs.declared.DomId.{DomId}
+use Rattle.gt_words.specs.Conditions.{Board, IsEntryOf, IsSeatOf, SeatOf}
+use Rattle.gt_words.specs.Controls.{ForwardsPin, LeadsTo}
+use Rattle.gt_words.specs.Rule.{Layout, id_at, position_in}
+use Rattle.gt_words.specs.Views.{IsIn, LivePin, last_of, pins, steps_on}
+use Rattle.gt_words.specs.declared.view.View.{View}
+use Rattle.bench_words.specs.declared.mapper.Target.{Target}
+
+-- the seat has published no entry from the reference n on
+abbrev pub IsUnusedFrom : ℕ → View → Type 0
+IsUnusedFrom n v = (r : ℕ) → n ≤ r → last_of r v ≡ record { generation = 0; entry = Invalid }
+
+-- the view has a read pin of a transitive entry of the domain m, another one than t, which forwarded the
+-- seat's domain and leads to the entry r of the domain t (own, after grant_table.h, transitive)
+pub record KeepsVia (k : Layout) (t r : ℕ) (m : DomId) (v : View) : Type 0 where
+  pub owner : ℕ
+  pub reference : ℕ
+  pub via : LivePin
+  pub held : IsIn via (pins (steps_on owner reference v))
+  pub same_kind : via.0 ≡ Read
+  pub forwarded : ForwardsPin via.1.entry (id_at k.ids v.position) Read
+  pub leads : LeadsTo via.1.entry (id_at k.ids t) r
+  pub named : id_at k.ids owner ≡ m
+  pub apart : t ≢ owner
+
+-- the target names the seat's own domain, or one whose transitive entry to the
+-- target is kept pinned (own, after grant_table.h, transitive)
+abbrev pub MayMap : Board → Target → View → Type 0
+MayMap b x v =
+    (id_at b.layout.ids v.position ≡ x.named)
+    ⊎ KeepsVia b.layout (position_in b.layout.ids x.granter) x.gref.0 x.named v
+
+-- the seat has the pins that it had, but for those of entries of the domain t
+abbrev pub KeepsPinsBeyond : ℕ → View → View → Type 0
+KeepsPinsBeyond t v w = (t' r' : ℕ) → t ≢ t' → pins (steps_on t' r' w) ≡ pins (steps_on t' r' v)
+
+-- the seat can map the target
+pub record CanMap (b : Board) (s : SeatOf) (x : Target) : Type 0 where
+  pub seat : IsSeatOf b s
+  pub entry : IsEntryOf b x.granter x.gref
+  pub may : MayMap b x s.view

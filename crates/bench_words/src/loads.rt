@@ -1,0 +1,316 @@
+//! The loads, and the words that they run on.
+ghost use Rattle.std.specs.Prelude.{◌≡◌, ◌≢◌, ◌+◌, ◌<◌, All, IfOk, IfSome, length, true};
+ghost use Rattle.gt_words.specs.Rule.{layout_of, position_in};
+ghost use Rattle.gt_words.specs.Views.{last_of};
+ghost use Rattle.gt_words.specs.Conditions.{HasDomain, IsSameSeat, IsSeatOf};
+ghost use Rattle.bench_words.specs.Mapping.{CanMap, IsUnusedFrom};
+
+use crate::mapper::{Mapper, Target, map_and_unmap, through_via};
+use crate::owner::{Row, page, publish, revoke_and_grant, withdraw_and_grant};
+use anyhow::{Result, bail};
+use gt_entry::Entry;
+use gt_positions::Positions;
+use gt_types::{
+    Config, DomId, DomainConfig, GrantRef, MAX_TABLE_FRAMES, StartFault, TABLE_ENTRIES, TypeId,
+};
+use gt_words::{Seat, Words};
+use std::alloc::{AllocError, Global};
+use std::thread::{self, Threads, join};
+
+/// What the threads do.
+#[derive(Clone, Copy, PartialEq, Eq)]
+pub enum Load {
+    /// Each maps an entry of its own, far from the others'.
+    Apart,
+    /// Each maps an entry of its own, beside the others'.
+    Adjacent,
+    /// All map one entry.
+    One,
+    /// The first is the owner of the one entry, who revokes and grants it; the others map it.
+    Grants,
+    /// The same with an owner who withdraws the entry, and grants it once it has no pin.
+    Withdrawals,
+}
+
+/// The most threads of a load.
+const MOST: usize = 4;
+
+/// The fewest domains of a run: the owner, the middle and one for each thread.
+pub(crate) const FEWEST: u16 = 6;
+
+/// The domain that grants.
+const OWNER: DomId = DomId(1);
+
+/// The domain that passes its grant on.
+const MIDDLE: DomId = DomId(2);
+
+/// The entry that the threads of a load share, and the first of those that they have for themselves.
+const SHARED: GrantRef = GrantRef(64);
+
+/// How far the entries of threads lie apart.
+const APART: u32 = 64;
+
+/// How far they lie apart if they are neighbours.
+const ADJACENT: u32 = 1;
+
+const UNUSED: Row = Row {
+    entry: Entry::Invalid,
+    generation: 0,
+};
+
+fn domain(id: u16) -> DomainConfig
+    ensures { result.id ≡ record { 0 = id } }
+{
+    DomainConfig {
+        id: DomId(id),
+        label: TypeId(0),
+        frames: 8,
+        table_frames: MAX_TABLE_FRAMES,
+        version: 1,
+    }
+}
+
+// So many domains with the numbers from 1 on: the owner, the middle, those of the threads, and others that do nothing.
+fn run_domains(alloc: Global, count: u16) -> Result<Config, AllocError>
+    ensures { IfOk result (λ c. c.first_gen ≡ 0) }
+{
+    let mut domains = Vec::new(alloc);
+    'domains: for before in 0..count {
+        domains.push(domain(before + 1))?;
+    }
+    Ok(Config {
+        domains,
+        first_gen: 0,
+    })
+}
+
+// A domain with this number is among these.
+fn is_placed(positions: &Positions, dom: DomId) -> bool
+    ensures { result ≡ true → position_in positions.now dom < length positions.now }
+{
+    positions.position(dom).is_some()
+}
+
+// The run has this domain.
+fn has_domain(alloc: Global, config: &Config, dom: DomId) -> Result<bool, StartFault>
+    ensures { IfOk result (λ b. b ≡ true → HasDomain (layout_of config.now) dom) }
+{
+    if let Err(fault) = config.check() {
+        return Err(StartFault::Config(fault));
+    }
+    let Ok(positions) = Positions::new(alloc, config) else {
+        return Err(StartFault::Memory);
+    };
+    Ok(is_placed(&positions, dom))
+}
+
+// The words, the seats of the owner and the middle, and those of the other domains.
+fn seats_of(alloc: Global, config: &Config) -> Result<(Words, Seat, Seat, Vec<Seat>), StartFault>
+    requires owner { HasDomain (layout_of config.now) OWNER }
+    requires middle { HasDomain (layout_of config.now) MIDDLE }
+    requires first { config.now.first_gen ≡ 0 }
+    ensures domains { IfOk result (λ r. HasDomain r.0.layout OWNER × HasDomain r.0.layout MIDDLE) }
+    ensures owner { IfOk result (λ r. IsSeatOf r.0 r.1 × IsUnusedFrom 0 r.1.view) }
+    ensures middle { IfOk result (λ r. IsSeatOf r.0 r.2 × IsUnusedFrom 0 r.2.view) }
+    ensures others { IfOk result (λ r. All (λ s. IsSeatOf r.0 s) r.3.items) }
+{
+    let (words, mut seats) = Words::new(alloc, config)?;
+    let owner = seats.remove(0);
+    let middle = seats.remove(0);
+    Ok((words, owner, middle, seats))
+}
+
+// A run of so many domains.
+fn start(alloc: Global, count: u16) -> Result<(Words, Seat, Seat, Vec<Seat>)>
+    ensures domains { IfOk result (λ r. HasDomain r.0.layout OWNER × HasDomain r.0.layout MIDDLE) }
+    ensures owner { IfOk result (λ r. IsSeatOf r.0 r.1 × IsUnusedFrom 0 r.1.view) }
+    ensures own { IfOk result (λ r. OWNER ≡ r.1.dom) }
+    ensures middle { IfOk result (λ r. IsSeatOf r.0 r.2 × IsUnusedFrom 0 r.2.view) }
+    ensures others { IfOk result (λ r. All (λ s. IsSeatOf r.0 s) r.3.items) }
+{
+    let config = run_domains(alloc, count)?;
+    if !has_domain(alloc, &config, OWNER)? || !has_domain(alloc, &config, MIDDLE)? {
+        bail!("no owner, or no middle");
+    }
+    let (words, owner, middle, seats) = seats_of(alloc, &config)?;
+    if owner.dom() != OWNER {
+        bail!("the first domain is not the owner");
+    }
+    Ok((words, owner, middle, seats))
+}
+
+// The transitive entry that passes the shared one on.
+fn via(dom: DomId) -> Entry
+    ensures { result ≢ Entry.Invalid }
+{
+    Entry::Via {
+        dom,
+        ro: false,
+        dom2: OWNER,
+        gref: SHARED,
+    }
+}
+
+// So many mappers, to each of which the owner grants an entry, these so far apart.
+fn grant_each(
+    alloc: Global,
+    words: &Words,
+    mut owner: Seat,
+    mut seats: Vec<Seat>,
+    count: usize,
+    stride: u32,
+) -> Result<Vec<Mapper>, AllocError>
+    requires domain { HasDomain words.now.layout OWNER }
+    requires owner { IsSeatOf words.now owner × IsUnusedFrom 0 owner.view }
+    requires seats { All (λ s. IsSeatOf words.now s) seats.items }
+    requires stride { (0 < stride) × (stride < 256) }
+    ensures { IfOk result (λ v. All (λ m. CanMap words.now m.seat m.target) v.items) }
+{
+    let mut mappers = Vec::new(alloc);
+    let mut gref = SHARED;
+    for _ in 0..count {
+        let Some(seat) = seats.pop() else {
+            break;
+        };
+        if gref.0 >= TABLE_ENTRIES {
+            break;
+        }
+        let named = seat.dom();
+        let mut row = UNUSED;
+        publish(words, &mut owner, gref, &mut row, page(named));
+        let target = Target {
+            granter: OWNER,
+            gref,
+            named,
+        };
+        mappers.push(Mapper { seat, target })?;
+        gref = GrantRef(gref.0 + stride);
+    }
+    Ok(mappers)
+}
+
+// A mapper of the shared entry, which the middle passes on to it by a transitive entry, and which keeps that pinned.
+fn passed_on(words: &Words, middle: &mut Seat, gref: GrantRef, seat: Seat) -> Option<Mapper>
+    requires domains { HasDomain words.now.layout OWNER × HasDomain words.now.layout MIDDLE }
+    requires middle { IsSeatOf words.now middle.old × IsUnusedFrom gref.0 middle.old.view }
+    requires seat { IsSeatOf words.now seat }
+    requires reference { gref.0 < TABLE_ENTRIES }
+    ensures middle { IsSameSeat middle.old middle.new × IsUnusedFrom (gref.0 + 1) middle.new.view }
+    ensures mapper { IfSome result (λ m. CanMap words.now m.seat m.target) }
+{
+    let target = Target {
+        granter: OWNER,
+        gref: SHARED,
+        named: MIDDLE,
+    };
+    let mut row = UNUSED;
+    publish(words, middle, gref, &mut row, via(seat.dom()));
+    through_via(words, seat, gref, target)
+}
+
+// So many mappers of the shared entry.
+fn pass_on(
+    alloc: Global,
+    words: &Words,
+    mut middle: Seat,
+    mut seats: Vec<Seat>,
+    count: usize,
+) -> Result<Vec<Mapper>, AllocError>
+    requires domains { HasDomain words.now.layout OWNER × HasDomain words.now.layout MIDDLE }
+    requires middle { IsSeatOf words.now middle × IsUnusedFrom 0 middle.view }
+    requires seats { All (λ s. IsSeatOf words.now s) seats.items }
+    ensures { IfOk result (λ v. All (λ m. CanMap words.now m.seat m.target) v.items) }
+{
+    let mut mappers = Vec::new(alloc);
+    for gref in 0..TABLE_ENTRIES {
+        if mappers.len() >= count {
+            break;
+        }
+        let Some(seat) = seats.pop() else {
+            break;
+        };
+        let Some(mapper) = passed_on(words, &mut middle, GrantRef(gref), seat) else {
+            break;
+        };
+        mappers.push(mapper)?;
+    }
+    Ok(mappers)
+}
+
+// Lets each mapper map and unmap so many times, in a thread of its own. Answers how often they did in all.
+fn map_in_threads<R: Threads + Sync>(
+    rt: &R,
+    words: &Words,
+    mappers: Vec<Mapper>,
+    rounds: u32,
+) -> Result<u64, AllocError>
+    requires { All (λ m. CanMap words.now m.seat m.target) mappers.items }
+{
+    let done = thread::map_vec(
+        rt,
+        mappers,
+        &|mapper: Mapper| map_and_unmap(words, mapper, rounds),
+    )?;
+    Ok(
+        done.iter()
+            .fold(0, |all, &more| all.saturating_add(u64::from(more))),
+    )
+}
+
+// Lets the owner of the shared entry do its part of the load. Answers how often it did.
+fn take_back_and_grant(words: &Words, owner: Seat, row: Row, load: Load, rounds: u32) -> u32
+    requires seat { IsSeatOf words.now owner }
+    requires own { (OWNER ≡ owner.dom) × HasDomain words.now.layout OWNER }
+    requires row { last_of SHARED.0 owner.view ≡ record { generation = row.generation; entry = row.entry } }
+{
+    match load {
+        Load::Withdrawals => withdraw_and_grant(words, owner, OWNER, SHARED, row, MIDDLE, rounds),
+        _ => revoke_and_grant(words, owner, SHARED, row, MIDDLE, rounds),
+    }
+}
+
+/// Runs a load in so many threads of a run of so many domains. Each thread does so many rounds. Answers how many were done
+/// in all.
+pub(crate) fn run<R: Threads + Sync>(
+    rt: &R,
+    alloc: Global,
+    load: Load,
+    threads: usize,
+    rounds: u32,
+    domains: u16,
+) -> Result<u64> {
+    if threads == 0 || threads > MOST {
+        bail!("threads: 1 to {MOST}");
+    }
+    if domains < FEWEST {
+        bail!("domains: {FEWEST} at least");
+    }
+    let (words, mut owner, middle, seats) = start(alloc, domains)?;
+    let shared = &words;
+    if load == Load::Apart || load == Load::Adjacent {
+        let stride = if load == Load::Apart { APART } else { ADJACENT };
+        let mappers = grant_each(alloc, &words, owner, seats, threads, stride)?;
+        return Ok(map_in_threads(rt, &words, mappers, rounds)?);
+    }
+    let mut row = UNUSED;
+    if !publish(&words, &mut owner, SHARED, &mut row, page(MIDDLE)) {
+        bail!("the shared entry can't be granted");
+    }
+    if load == Load::One {
+        let mappers = pass_on(alloc, &words, middle, seats, threads)?;
+        return Ok(map_in_threads(rt, &words, mappers, rounds)?);
+    }
+    let mappers = pass_on(alloc, &words, middle, seats, threads - 1)?;
+    let (granted, mapped) = join(
+        rt,
+        || -> u32
+            requires seat { IsSeatOf shared.now owner }
+            requires own { (OWNER ≡ owner.dom) × HasDomain shared.now.layout OWNER }
+            requires row { last_of SHARED.0 owner.view ≡ record { generation = row.generation; entry = row.entry } }
+        { take_back_and_grant(shared, owner, row, load, rounds) },
+        || -> Result<u64, AllocError>
+            requires { All (λ m. CanMap shared.now m.seat m.target) mappers.items }
+        { map_in_threads(rt, shared, mappers, rounds) },
+    );
+    Ok(mapped?.saturating_add(u64::from(granted)))
+}

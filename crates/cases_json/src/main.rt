@@ -1,0 +1,60 @@
+//! Writes texts as JSON Lines, and prints what `gt_json` writes for each, under the text's name.
+//!
+//! The words of the command line are the names of texts in `data/`: `run.txt` has lines that `play` and `run` print,
+//! of each form some, `policy.txt` such of `policy`, `entries.txt` such of `entries`, and `odd.txt` lines that
+//! none of them prints. `args` names them, and `stdout` has what must be printed. It was written by
+//! `tools/json_lines.py`, which makes JSON of texts in its own way, checks it by another reader, and makes the
+//! text of it again. After `odd.txt` a line says whether each write that fails was told.
+#![tactic(auto)]
+
+use anyhow::bail;
+use gt_failing::{FailingWriter, failing_line};
+use gt_json::{JsonFault, Printed, write_json};
+use std::alloc::Global;
+use std::fs;
+
+// The command that prints a text of this name.
+fn printed_by(name: &str) -> Printed {
+    match name {
+        "policy.txt" => Printed::Policy,
+        "entries.txt" => Printed::Entries,
+        _ => Printed::Run,
+    }
+}
+
+// Each write fails after so many bytes, for each number of them; then only the flush, and then nothing. The first
+// number after which the answer is another, or what went out is no beginning of the JSON.
+fn untold_write(alloc: Global, printed: Printed, text: &[u8], json: &[u8]) -> Option<usize> {
+    for left in 0..json.len().saturating_add(2) {
+        let is_short = left <= json.len();
+        let mut writer = FailingWriter::new(Vec::new(alloc), left);
+        let is_told = match write_json(alloc, printed, text, &mut writer) {
+            Ok(()) => !is_short,
+            Err(fault) => is_short && fault == JsonFault::Write,
+        };
+        if !is_told || writer.taken.as_slice() != &json[..left.min(json.len())] {
+            return Some(left);
+        }
+    }
+    None
+}
+
+fn main(rt: HostRuntime) -> anyhow::Result<()> {
+    let alloc = rt.alloc();
+    let names: Vec<String> = std::env::args(&rt)?.collect(alloc)?;
+    for name in names.iter().skip(1) {
+        let text = fs::read(&rt, name.as_str())?;
+        let printed = printed_by(name.as_str());
+        let mut json = Vec::new(alloc);
+        println!(rt; "== {name}")?;
+        if let Err(fault) = write_json(alloc, printed, text.as_slice(), &mut json) {
+            bail!("{fault:?}");
+        }
+        print!(rt; "{}", String::from_utf8_lossy(alloc, json.as_slice())?)?;
+        if name.as_str() == "odd.txt" {
+            let untold = untold_write(alloc, printed, text.as_slice(), json.as_slice());
+            print!(rt; "{}", failing_line(alloc, "write", untold)?)?;
+        }
+    }
+    Ok(())
+}

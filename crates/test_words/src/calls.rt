@@ -1,0 +1,407 @@
+//! A small caller, which meets each call's conditions by what the calls before ensured.
+ghost use Rattle.std.specs.Prelude.{◌≡◌, ◌≢◌, ◌+◌, ◌<◌, [], ◌∷◌, length, IfOk, IfSome, MatchResult};
+ghost use Rattle.gt_words.specs.Views.{last_of, last_seen, record_seen};
+ghost use Rattle.gt_words.specs.Rule.{layout_of};
+ghost use Rattle.test_words.specs.Pinned.{IsPinned};
+ghost use Rattle.gt_words.specs.Conditions.{KeepsPins, IsSeatOf, IsSameSeat, HasLooked, HasDomain, IsEntryOf};
+ghost use Rattle.gt_words.specs.Conditions.{position_at};
+
+use gt_entry::{Control, Entry, Half, Kind};
+use gt_types::{
+    Config, Dir, DomId, DomainConfig, GrantRef, LAST_GENERATION, MAX_PINS, Range, StartFault,
+    TABLE_ENTRIES, TypeId, Use,
+};
+use gt_words::{Pin, Seat, Words};
+use std::alloc::{AllocError, Global};
+
+/// What an owner keeps of one of its entries.
+#[derive(Drop)]
+pub(crate) struct Row {
+    pub entry: Entry,
+    pub generation: u32,
+}
+
+/// A control word and the entry that was read since.
+#[derive(Drop)]
+pub(crate) struct Sight {
+    pub word: u64,
+    pub entry: Entry,
+}
+
+// Looks at an entry and reads its body words.
+pub(crate) fn look(words: &Words, seat: &mut Seat, dom: DomId, gref: GrantRef) -> Sight
+    requires seat { IsSeatOf words.now seat.old }
+    requires entry { IsEntryOf words.now dom gref }
+    ensures seat { IsSameSeat seat.old seat.new }
+    ensures looked { HasLooked (position_at words.now dom) gref.0 seat.new.view result.word }
+    ensures entry { (record_seen (last_seen (position_at words.now dom) gref.0 seat.new.view)).entry ≡ result.entry }
+    ensures pins { KeepsPins seat.old.view seat.new.view }
+{
+    let word = words.load_control(seat, dom, gref);
+    let first = words.load_body(seat, dom, gref, Half::First);
+    let second = words.load_body(seat, dom, gref, Half::Second);
+    let entry = Entry::spelled(Control::unpack(word), first, second);
+    Sight { word, entry }
+}
+
+// Takes a pin of the entry that was looked at, if it permits or forwards the seat's domain and has room.
+pub(crate) fn try_pin(
+    words: &Words,
+    seat: &mut Seat,
+    dom: DomId,
+    gref: GrantRef,
+    sight: &Sight,
+    dir: Dir,
+) -> Option<Result<Pin, u64>>
+    requires seat { IsSeatOf words.now seat.old }
+    requires entry { IsEntryOf words.now dom gref }
+    requires looked { HasLooked (position_at words.now dom) gref.0 seat.old.view sight.now.word }
+    requires seen { (record_seen (last_seen (position_at words.now dom) gref.0 seat.old.view)).entry ≡ sight.now.entry }
+    ensures seat { IsSameSeat seat.old seat.new }
+    ensures pin { IfSome result (λ r. MatchResult r
+        (λ p. IsPinned words.now dom gref dir p seat.old.view seat.new.view)
+        (λ n. n ≢ sight.now.word)) }
+{
+    let control = Control::unpack(sight.word);
+    let range = Range { off: 0, len: 0 };
+    let mine = seat.dom();
+    if control.kind == Kind::Invalid || control.pins(dir) >= MAX_PINS {
+        return None;
+    }
+    if sight.entry.permits(mine, dir, Use::Copy, range) {
+        return Some(words.pin(seat, dom, gref, sight.word, dir));
+    }
+    if sight.entry.forwards(mine, dir) {
+        return Some(words.pin(seat, dom, gref, sight.word, dir));
+    }
+    None
+}
+
+// The owner publishes an entry in place of the invalid one. Answers 0 if its entry is not invalid, or worn.
+pub(crate) fn publish(
+    words: &Words,
+    seat: &mut Seat,
+    gref: GrantRef,
+    row: &mut Row,
+    entry: Entry,
+) -> Result<(), u64>
+    requires seat { IsSeatOf words.now seat.old }
+    requires reference { gref.0 < TABLE_ENTRIES }
+    requires row { last_of gref.0 seat.old.view ≡ record { generation = row.old.generation; entry = row.old.entry } }
+    requires given { entry ≢ Entry.Invalid }
+    ensures seat { IsSameSeat seat.old seat.new }
+    ensures row { last_of gref.0 seat.new.view ≡ record { generation = row.new.generation; entry = row.new.entry } }
+{
+    if !row.entry.is_invalid() || row.generation >= LAST_GENERATION {
+        return Err(0);
+    }
+    words.store_body(seat, gref, Half::First, entry.first_body());
+    words.store_body(seat, gref, Half::Second, entry.second_body());
+    let word = Control::of_entry(Entry::Invalid, row.generation, 0, 0).pack();
+    words.grant(seat, gref, word, entry)?;
+    row.entry = entry;
+    row.generation += 1;
+    Ok(())
+}
+
+// The owner revokes its entry, if it has no pins. Answers Ok if it is invalid already.
+pub(crate) fn revoke(
+    words: &Words,
+    seat: &mut Seat,
+    gref: GrantRef,
+    row: &mut Row,
+) -> Result<(), u64>
+    requires seat { IsSeatOf words.now seat.old }
+    requires reference { gref.0 < TABLE_ENTRIES }
+    requires row { last_of gref.0 seat.old.view ≡ record { generation = row.old.generation; entry = row.old.entry } }
+    ensures seat { IsSameSeat seat.old seat.new }
+    ensures row { last_of gref.0 seat.new.view ≡ record { generation = row.new.generation; entry = row.new.entry } }
+{
+    if row.entry.is_invalid() || row.generation > LAST_GENERATION {
+        return Ok(());
+    }
+    let word = Control::of_entry(row.entry, row.generation, 0, 0).pack();
+    words.revoke(seat, gref, word)?;
+    row.entry = Entry::Invalid;
+    Ok(())
+}
+
+// The owner withdraws its entry with the pins that it has. Answers Ok if it is invalid already.
+pub(crate) fn withdraw(
+    words: &Words,
+    seat: &mut Seat,
+    gref: GrantRef,
+    row: &mut Row,
+) -> Result<(), u64>
+    requires seat { IsSeatOf words.now seat.old }
+    requires reference { gref.0 < TABLE_ENTRIES }
+    requires entry { HasDomain words.now.layout seat.old.dom }
+    requires row { last_of gref.0 seat.old.view ≡ record { generation = row.old.generation; entry = row.old.entry } }
+    ensures seat { IsSameSeat seat.old seat.new }
+    ensures row { last_of gref.0 seat.new.view ≡ record { generation = row.new.generation; entry = row.new.entry } }
+{
+    if row.entry.is_invalid() {
+        return Ok(());
+    }
+    let owner = seat.dom();
+    let word = words.load_control(seat, owner, gref);
+    words.withdraw(seat, gref, word)?;
+    row.entry = Entry::Invalid;
+    Ok(())
+}
+
+// The owner makes its entry read-only or writable, if it is the other and has no write pin that it must not have.
+pub(crate) fn turn(
+    words: &Words,
+    seat: &mut Seat,
+    gref: GrantRef,
+    row: &mut Row,
+    ro: bool,
+) -> Result<bool, u64>
+    requires seat { IsSeatOf words.now seat.old }
+    requires reference { gref.0 < TABLE_ENTRIES }
+    requires entry { HasDomain words.now.layout seat.old.dom }
+    requires row { last_of gref.0 seat.old.view ≡ record { generation = row.old.generation; entry = row.old.entry } }
+    ensures seat { IsSameSeat seat.old seat.new }
+    ensures row { last_of gref.0 seat.new.view ≡ record { generation = row.new.generation; entry = row.new.entry } }
+{
+    let owner = seat.dom();
+    let word = words.load_control(seat, owner, gref);
+    let control = Control::unpack(word);
+    let turnable = !row.entry.is_invalid() && row.entry.is_read_only() != ro;
+    if !turnable
+        || row.generation >= LAST_GENERATION
+        || control.generation >= LAST_GENERATION
+        || control.writes > 0
+    {
+        return Ok(false);
+    }
+    if ro {
+        words.demote(seat, gref, word)?;
+    } else {
+        words.promote(seat, gref, word)?;
+    }
+    row.entry = row.entry.with_ro(ro);
+    row.generation += 1;
+    Ok(true)
+}
+
+// The other domain pins the entry and gives the pin back, and the owner tries to revoke it in between. Answers what the
+// owner was answered, or nothing if the pin was not taken.
+pub(crate) fn revoke_pinned(
+    words: &Words,
+    owner: &mut Seat,
+    other: &mut Seat,
+    dom: DomId,
+    gref: GrantRef,
+    row: &mut Row,
+    dir: Dir,
+) -> Option<Result<(), u64>>
+    requires owner { IsSeatOf words.now owner.old }
+    requires other { IsSeatOf words.now other.old }
+    requires entry { IsEntryOf words.now dom gref }
+    requires row { last_of gref.0 owner.old.view ≡ record { generation = row.old.generation; entry = row.old.entry } }
+    ensures owner { IsSameSeat owner.old owner.new }
+    ensures other { IsSameSeat other.old other.new }
+    ensures row { last_of gref.0 owner.new.view ≡ record { generation = row.new.generation; entry = row.new.entry } }
+{
+    let sight = look(words, other, dom, gref);
+    let Some(Ok(pin)) = try_pin(words, other, dom, gref, &sight, dir) else {
+        return None;
+    };
+    let answer = revoke(words, owner, gref, row);
+    words.unpin(other, pin);
+    Some(answer)
+}
+
+// The owner withdraws its entry, and grants this one in its place. Answers the word between, and what the grant was
+// answered.
+fn withdraw_and_grant(
+    words: &Words,
+    owner: &mut Seat,
+    gref: GrantRef,
+    row: &mut Row,
+    entry: Entry,
+) -> (u64, Result<(), u64>)
+    requires owner { IsSeatOf words.now owner.old }
+    requires entry { IsEntryOf words.now owner.old.dom gref }
+    requires row { last_of gref.0 owner.old.view ≡ record { generation = row.old.generation; entry = row.old.entry } }
+    requires given { entry ≢ Entry.Invalid }
+    ensures owner { IsSameSeat owner.old owner.new }
+    ensures row { last_of gref.0 owner.new.view ≡ record { generation = row.new.generation; entry = row.new.entry } }
+{
+    let dom = owner.dom();
+    let _ = withdraw(words, owner, gref, row);
+    let word = words.load_control(owner, dom, gref);
+    let early = publish(words, owner, gref, row, entry);
+    (word, early)
+}
+
+// The other domain pins the entry to write, the owner withdraws it, and grants this one in its place before and after
+// the pin is given back. Answers the word between, and what both grants were answered, or nothing if the pin was not
+// taken.
+pub(crate) fn withdraw_pinned(
+    words: &Words,
+    owner: &mut Seat,
+    other: &mut Seat,
+    gref: GrantRef,
+    row: &mut Row,
+    entry: Entry,
+) -> Option<(u64, Result<(), u64>, Result<(), u64>)>
+    requires owner { IsSeatOf words.now owner.old }
+    requires other { IsSeatOf words.now other.old }
+    requires entry { IsEntryOf words.now owner.old.dom gref }
+    requires row { last_of gref.0 owner.old.view ≡ record { generation = row.old.generation; entry = row.old.entry } }
+    requires given { entry ≢ Entry.Invalid }
+    ensures owner { IsSameSeat owner.old owner.new }
+    ensures other { IsSameSeat other.old other.new }
+    ensures row { last_of gref.0 owner.new.view ≡ record { generation = row.new.generation; entry = row.new.entry } }
+{
+    let dom = owner.dom();
+    let sight = look(words, other, dom, gref);
+    let Some(Ok(pin)) = try_pin(words, other, dom, gref, &sight, Dir::Write) else {
+        return None;
+    };
+    let (word, early) = withdraw_and_grant(words, owner, gref, row, entry);
+    words.unpin(other, pin);
+    let late = publish(words, owner, gref, row, entry);
+    Some((word, early, late))
+}
+
+// Takes a read pin of the entry that was looked at, if it can be.
+fn pin_to_read(
+    words: &Words,
+    seat: &mut Seat,
+    dom: DomId,
+    gref: GrantRef,
+    sight: &Sight,
+) -> Option<Pin>
+    requires seat { IsSeatOf words.now seat.old }
+    requires entry { IsEntryOf words.now dom gref }
+    requires looked { HasLooked (position_at words.now dom) gref.0 seat.old.view sight.now.word }
+    requires seen { (record_seen (last_seen (position_at words.now dom) gref.0 seat.old.view)).entry ≡ sight.now.entry }
+    ensures seat { IsSameSeat seat.old seat.new }
+    ensures pin { IfSome result (λ p. IsPinned words.now dom gref Dir.Read p seat.old.view seat.new.view) }
+{
+    match try_pin(words, seat, dom, gref, sight, Dir::Read) {
+        Some(Ok(pin)) => Some(pin),
+        _ => None,
+    }
+}
+
+// The other domain pins the entry twice for reading, and gives one pin back and then the other. Answers the control
+// words that the owner saw with both pins, with one and with none, or nothing if one was not taken.
+pub(crate) fn pin_twice(
+    words: &Words,
+    owner: &mut Seat,
+    other: &mut Seat,
+    dom: DomId,
+    gref: GrantRef,
+) -> Option<(u64, u64, u64)>
+    requires owner { IsSeatOf words.now owner.old }
+    requires other { IsSeatOf words.now other.old }
+    requires entry { IsEntryOf words.now dom gref }
+    ensures owner { IsSameSeat owner.old owner.new }
+    ensures other { IsSameSeat other.old other.new }
+{
+    let sight = look(words, other, dom, gref);
+    let Some(first) = pin_to_read(words, other, dom, gref, &sight) else {
+        return None;
+    };
+    let sight = look(words, other, dom, gref);
+    let Some(second) = pin_to_read(words, other, dom, gref, &sight) else {
+        return None;
+    };
+    let both = words.load_control(owner, dom, gref);
+    words.unpin(other, first);
+    let one = words.load_control(owner, dom, gref);
+    words.unpin(other, second);
+    let none = words.load_control(owner, dom, gref);
+    Some((both, one, none))
+}
+
+// Grants a page and revokes it again, so many times.
+pub(crate) fn toggle(
+    words: &Words,
+    mut seat: Seat,
+    gref: GrantRef,
+    mut row: Row,
+    times: u32,
+) -> (Seat, Row)
+    requires seat { IsSeatOf words.now seat }
+    requires reference { gref.0 < TABLE_ENTRIES }
+    requires row { last_of gref.0 seat.view ≡ record { generation = row.generation; entry = row.entry } }
+    ensures seat { IsSeatOf words.now result.0 }
+    ensures row { last_of gref.0 result.0.view ≡ record { generation = result.1.generation; entry = result.1.entry } }
+{
+    for _ in 0..times {
+        let _ = publish(words, &mut seat, gref, &mut row, page(5));
+        let _ = revoke(words, &mut seat, gref, &mut row);
+    }
+    (seat, row)
+}
+
+// Looks at an entry, pins it and gives the pin back, so many times.
+pub(crate) fn churn(words: &Words, mut seat: Seat, dom: DomId, gref: GrantRef, times: u32)
+    requires seat { IsSeatOf words.now seat }
+    requires entry { IsEntryOf words.now dom gref }
+{
+    for _ in 0..times {
+        let sight = look(words, &mut seat, dom, gref);
+        if let Some(Ok(pin)) = try_pin(words, &mut seat, dom, gref, &sight, Dir::Read) {
+            words.unpin(&mut seat, pin);
+        }
+    }
+}
+
+pub(crate) fn page(frame: u64) -> Entry
+    ensures { result ≢ Entry.Invalid }
+{
+    Entry::Page {
+        dom: DomId(2),
+        ro: false,
+        frame,
+    }
+}
+
+pub(crate) fn domain(id: u16) -> DomainConfig
+    ensures { (result.id ≡ record { 0 = id }) × (result.version ≡ 1) }
+{
+    DomainConfig {
+        id: DomId(id),
+        label: TypeId(0),
+        frames: 8,
+        table_frames: 1,
+        version: 1,
+    }
+}
+
+// Domains 1 and 2, each with a table of one frame in version 1.
+pub(crate) fn two_domains(alloc: Global) -> Result<Config, AllocError>
+    ensures ids { IfOk result (λ c. (layout_of c).ids ≡ record { 0 = 1 } ∷ record { 0 = 2 } ∷ []) }
+    ensures first { IfOk result (λ c. c.first_gen ≡ 0) }
+{
+    let mut domains = Vec::new(alloc);
+    domains.push(domain(1))?;
+    domains.push(domain(2))?;
+    Ok(Config {
+        domains,
+        first_gen: 0,
+    })
+}
+
+// The words of domains 1 and 2, and their seats.
+pub(crate) fn start(alloc: Global, config: &Config) -> Result<(Words, Seat, Seat), StartFault>
+    requires ids { (layout_of config.now).ids ≡ record { 0 = 1 } ∷ record { 0 = 2 } ∷ [] }
+    requires first { config.now.first_gen ≡ 0 }
+    ensures domain { IfOk result (λ r. HasDomain r.0.layout (record { 0 = 1 })) }
+    ensures second { IfOk result (λ r. HasDomain r.0.layout (record { 0 = 2 })) }
+    ensures owner { IfOk result (λ r. IsSeatOf r.0 r.1
+        × (last_of 0 r.1.view ≡ record { generation = 0; entry = Entry.Invalid })) }
+    ensures other { IfOk result (λ r. IsSeatOf r.0 r.2) }
+{
+    let (words, mut seats) = Words::new(alloc, config)?;
+    let other = seats.remove(1);
+    let owner = seats.remove(0);
+    Ok((words, owner, other))
+}

@@ -1,0 +1,29 @@
+#!/usr/bin/env bash
+# tools/library.sh DIR: leaves libgthost.a, gthost.h and gthost.pc in DIR, for a program in C:
+#   cc vmm.c $(PKG_CONFIG_PATH=DIR pkg-config --cflags --libs gthost)
+set -euo pipefail
+dir=${1:?tools/library.sh DIR}
+mkdir -p "$dir"
+dir=$(cd "$dir" && pwd)
+cd "$(dirname "$0")/.."
+kit=$(dirname "$(rt doc)")
+(cd crates/gt_c && rt lib)
+# one archive: the library, and the C allocator's functions that it calls
+{
+    echo "create $dir/libgthost.a"
+    echo "addlib crates/gt_c/out/libgt_c.a"
+    echo "addlib $kit/c/liblibc_c.a"
+    echo save
+    echo end
+} | ar -M
+ranlib "$dir/libgthost.a"
+cp include/gthost.h "$dir/gthost.h"
+cat >"$dir/gthost.pc" <<PC
+prefix=$dir
+Name: gthost
+Description: grant tables of a hypervisor
+Version: 1
+Cflags: -I\${prefix}
+Libs: -L\${prefix} -lgthost
+PC
+echo "$dir: libgthost.a gthost.h gthost.pc"

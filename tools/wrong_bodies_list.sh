@@ -1,0 +1,54 @@
+#!/usr/bin/env bash
+# Writes docs/WRONG_BODIES.md from the edits, each of which says in its line `bug:` what it would do.
+# usage: tools/wrong_bodies_list.sh            writes the page
+#        tools/wrong_bodies_list.sh --check    says whether the page is as it would be written
+set -euo pipefail
+cd "$(dirname "${BASH_SOURCE[0]}")/.."
+page=docs/WRONG_BODIES.md
+
+# The libraries of crates.txt in its order.
+crates() { sed -n 's/^\([a-z0-9_]*\)[ :].*/\1/p' crates.txt; }
+
+# One line for each edit of a folder.
+lines() {
+  local file
+  for file in "$1"/*.edit; do
+    [ -f "$file" ] || continue
+    grep -q '^bug: .' "$file" || { echo "$file has no line 'bug:'" >&2; return 1; }
+    printf -- '- `%s`: %s\n' "$(basename "$file" .edit)" "$(sed -n 's/^bug: //p' "$file" | head -n 1)"
+  done
+}
+
+count() { find crates/*/"$1" -name '*.edit' 2>/dev/null | wc -l; }
+
+write() {
+  local crate folder
+  cat <<END
+# Wrong bodies
+
+Made by \`tools/wrong_bodies_list.sh\` from the edits themselves; don't edit it.
+
+Each line is a body that the proofs refuse: an edit of a crate, and what it would do. The gate tries
+$(count must-fail) of them (\`must-fail/\`), those that a definition of meaning refuses. The other $(count wrong-bodies)
+(\`wrong-bodies/\`) are tried by \`tools/wrong_bodies.sh CRATE\`, which whoever changes a crate runs for it. Those of
+\`gt_positions\`, \`gt_commands\`, \`gt_seat\`, \`gt_c\` and \`gt_replay\`, and the newest of the accesses and the program, wait for such
+a run.
+
+A lock round the words of an entry can't be written as an edit: taking one asks for a bound \`Wait\`, and no
+signature of \`gt_words\` has it.
+END
+  for crate in $(crates); do
+    for folder in must-fail wrong-bodies; do
+      [ -n "$(find "crates/$crate/$folder" -name '*.edit' 2>/dev/null | head -n 1)" ] || continue
+      if [ $folder = must-fail ]; then printf '\n## %s, in the gate\n\n' "$crate"; else printf '\n## %s, outside the gate\n\n' "$crate"; fi
+      lines "crates/$crate/$folder"
+    done
+  done
+}
+
+if [ "${1:-}" = --check ]; then
+  write | cmp - "$page" || { echo "$page is stale: run tools/wrong_bodies_list.sh" >&2; exit 1; }
+else
+  write >"$page.new"
+  mv "$page.new" "$page"
+fi
