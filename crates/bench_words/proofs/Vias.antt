@@ -4,7 +4,8 @@ use Rattle.gt_entry.specs.Permits.{forwards}
 use Rattle.gt_entry.specs.declared.entry.Entry.{Entry}
 use Rattle.gt_types.specs.declared.Dir.TheVariants.{Read}
 use Rattle.gt_types.specs.declared.DomId.{DomId}
-use Rattle.gt_words.specs.Conditions.{Board, HasDomain, IsSameSeat, IsSeatOf, Pins, SeatOf}
+use Rattle.gt_words.specs.Conditions.{Board, HasDomain, IsSameSeat, IsSeatOf, SeatOf}
+use Rattle.gt_words.specs.Answers.{Pins}
 use Rattle.gt_words.specs.Controls.{LeadsTo}
 use Rattle.gt_words.specs.Laws.{domain_at}
 use Rattle.gt_words.specs.Rule.{Layout, id_at, position_in}

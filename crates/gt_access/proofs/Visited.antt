@@ -5,7 +5,8 @@ use Rattle.gt_frames.specs.declared.places.Spot.{Spot}
 use Rattle.gt_frames.specs.declared.pool.Ends.{Ends}
 use Rattle.gt_frames.specs.declared.writ.Writ.{Writ}
 use Rattle.gt_frames.specs.Frames.{FrameState, bytes_at, IsWrite}
-use Rattle.gt_frames.specs.Pool.{AreFresh, GoesOn, IsFreshIn, dest_of, dest_visit, frame_or, source_of, source_visit, visits_of}
+use Rattle.gt_frames.specs.Pool.{AreFresh, GoesOn, IsFreshIn, dest_of, dest_visit, frame_or, source_of, source_visit}
+use Rattle.gt_frames.specs.Pool.{visits_of}
 use Rattle.gt_frames.specs.Receipts.{Copying, Reading, Writing, reading_of}
 use Rattle.gt_frames.specs.Sets.{name_of}
 use Rattle.gt_frames.specs.Visits.{Visit, IsFresh, visit_in}

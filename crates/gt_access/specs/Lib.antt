@@ -1,3 +1,4 @@
 pub mod Accesses
+pub mod Prelude
 pub mod Routes
 pub mod Visiting

@@ -1,33 +1,10 @@
 -- The routes by which a domain reaches a frame: the pins that justify an access, by what its seat knows.
 use Rattle.std.specs.Prelude.{◌≡◌, ℕ, ◌<◌, Bool, true, List, [], ◌∷◌, ◌++◌}
-use Rattle.gt_types.specs.declared.DomId.{DomId}
-use Rattle.gt_types.specs.declared.Dir.{Dir}
-use Rattle.gt_types.specs.declared.Dir.TheVariants.{Read, Write}
-use Rattle.gt_types.specs.declared.Use.{Use}
-use Rattle.gt_types.specs.declared.Use.TheVariants.{Copy as ForCopy}
-use Rattle.gt_types.specs.declared.TypeId.{TypeId}
-use Rattle.gt_types.specs.declared.perms.Perms.{Perms}
-use Rattle.gt_types.specs.declared.config.DomainConfig.{DomainConfig}
-use Rattle.gt_types.specs.declared.limits.TheConstants.{TABLE_ENTRIES}
-use Rattle.gt_types.specs.Names.{copy}
-use Rattle.gt_entry.specs.Permits.{permits, forwards, is_of_frame}
-use Rattle.gt_words.specs.Controls.{generation_of}
-use Rattle.gt_words.specs.Rule.{Layout, position_in}
-use Rattle.gt_words.specs.Conditions.{SeatOf, HasDomain}
-use Rattle.gt_words.specs.Views.{IsIn, pins, steps_on}
-use Rattle.gt_words.specs.declared.view.EntryRecord.{EntryRecord}
-use Rattle.gt_words.specs.declared.view.View.{View}
-use Rattle.gt_calls.specs.declared.held.Held.{Held}
-use Rattle.gt_calls.specs.declared.held.Pins.{Pins}
-use Rattle.gt_calls.specs.declared.held.Route.{Route}
-use Rattle.gt_calls.specs.declared.held.Route.TheVariants.{Own, Direct, Through}
-use Rattle.gt_calls.specs.Holding.{owner_by}
-use Rattle.gt_calls.specs.Opening.{IsAllowed}
-use Rattle.gt_calls.specs.Resting.{LeadsTo}
-use Rattle.gt_calls.specs.Rules.{label_of, map_perms, triples}
-use Rattle.gt_frames.specs.declared.places.FrameName.{FrameName}
-use Rattle.gt_frames.specs.declared.writ.Writ.{Writ}
-use Rattle.gt_frames.specs.declared.writ.Ground.TheVariants.{Owned, Granted, Forwarded}
+use Rattle.gt_access.specs.Prelude.{DomId, Dir, Read, Write, Use, ForCopy, TypeId, Perms, DomainConfig, TABLE_ENTRIES}
+use Rattle.gt_access.specs.Prelude.{copy, permits, forwards, is_of_frame, generation_of, Layout, position_in, SeatOf}
+use Rattle.gt_access.specs.Prelude.{HasDomain, IsIn, pins, steps_on, EntryRecord, View, Held, Pins, Route, Own, Direct}
+use Rattle.gt_access.specs.Prelude.{Through, owner_by, IsAllowed, LeadsTo, label_of, map_perms, triples, FrameName}
+use Rattle.gt_access.specs.Prelude.{Writ, Owned, Granted, Forwarded}
 
 -- pins
 

@@ -1,5 +1,6 @@
 -- Which statements allow nothing.
-use Rattle.std.proofs.Common.{◌≡◌, ℕ, Bool, true, false, ◌&&◌, not, List, [], ◌∷◌, ◌++◌, map, None, refl, sym, ap, ap₂, ◌∙◌}
+use Rattle.std.proofs.Common.{◌≡◌, ℕ, Bool, true, false, ◌&&◌, not, List, [], ◌∷◌, ◌++◌, map, None, refl, sym, ap, ap₂}
+use Rattle.std.proofs.Common.{◌∙◌}
 use Rattle.std.specs.Prelude.{if◌then◌else◌, filter, is_some, Some, Err}
 use Rattle.std.specs.List.{flat_map, list_any}
 use Rattle.gt_types.specs.Names.{every_permission, permission_name}
@@ -16,11 +17,14 @@ use Rattle.gt_policy.specs.Spelling.{types_in}
 use Rattle.gt_policy.specs.declared.lined.LinedStatement.{LinedStatement}
 use Rattle.gt_policy.specs.declared.statements.Allowance.{Allowance}
 use Rattle.gt_policy.specs.declared.statements.Statement.{Statement}
-use Rattle.gt_policy.specs.declared.statements.Statement.TheVariants.{DeclareType, DeclareAttribute, GiveAttributes, Allow}
+use Rattle.gt_policy.specs.declared.statements.Statement.TheVariants.{DeclareType, DeclareAttribute, GiveAttributes}
+use Rattle.gt_policy.specs.declared.statements.Statement.TheVariants.{Allow}
 use Rattle.gt_advice.specs.declared.members.Member.{Member}
 use Rattle.gt_advice.specs.declared.findings.Finding.{Finding}
-use Rattle.gt_advice.specs.Check.{is_useless_with, allows_nothing, useless_line, is_error, is_of_nothing, is_of_repeat, error_lines, nothing_lines, repeat_lines, Quiet, TellsUseless, Judges, faulty}
-use Rattle.gt_advice.specs.Check.{grants_something, grants_with, grants_no_more, no_more_with, repeats, repeats_with, repeat_line, repeated_with, lines_repeated}
+use Rattle.gt_advice.specs.Check.{is_useless_with, allows_nothing, useless_line, is_error, is_of_nothing, is_of_repeat}
+use Rattle.gt_advice.specs.Check.{error_lines, nothing_lines, repeat_lines, Quiet, TellsUseless, Judges, faulty}
+use Rattle.gt_advice.specs.Check.{grants_something, grants_with, grants_no_more, no_more_with, repeats, repeats_with}
+use Rattle.gt_advice.specs.Check.{repeat_line, repeated_with, lines_repeated}
 use Rattle.std.proofs.lemmas.List.{append-nil}
 use Rattle.std.proofs.lemmas.List.Concat.{flat_map-append}
 use Rattle.gt_advice.specs.Granting.{exceeds_on, exceeds_some, gives_one, gives_some, gives_source, reaches}

@@ -1,5 +1,6 @@
 -- The names that stand for a type, and what statements grant.
-use Rattle.std.proofs.Common.{◌≡◌, ℕ, Bool, true, false, ◌&&◌, ◌||◌, not, ◌==◌, List, [], ◌∷◌, ◌++◌, length, map, Option, refl, sym, ap, ◌∙◌, arith}
+use Rattle.std.proofs.Common.{◌≡◌, ℕ, Bool, true, false, ◌&&◌, ◌||◌, not, ◌==◌, List, [], ◌∷◌, ◌++◌, length, map}
+use Rattle.std.proofs.Common.{Option, refl, sym, ap, ◌∙◌, arith}
 use Rattle.std.proofs.lemmas.Bool.Decides.{nat_tests}
 use Rattle.std.specs.Prelude.{if◌then◌else◌, filter, is_none, codes}
 use Rattle.std.specs.List.{flat_map, list_any}
@@ -18,7 +19,8 @@ use Rattle.gt_policy.specs.declared.statements.Mention.{Mention}
 use Rattle.gt_policy.specs.declared.statements.SetElement.{SetElement}
 use Rattle.gt_policy.specs.declared.statements.SetElement.TheVariants.{With, Without, Itself}
 use Rattle.gt_policy.specs.declared.statements.Statement.{Statement}
-use Rattle.gt_policy.specs.declared.statements.Statement.TheVariants.{DeclareType, DeclareAttribute, GiveAttributes, Allow}
+use Rattle.gt_policy.specs.declared.statements.Statement.TheVariants.{DeclareType, DeclareAttribute, GiveAttributes}
+use Rattle.gt_policy.specs.declared.statements.Statement.TheVariants.{Allow}
 use Rattle.gt_advice.specs.declared.members.Member.{Member}
 use Rattle.gt_advice.specs.declared.asking.Answer.{Answer}
 use Rattle.gt_advice.specs.declared.asking.Answer.TheVariants.{Allowed, Denied, NoSource, NoTarget, NoPermission}
@@ -26,7 +28,8 @@ use Rattle.gt_advice.specs.declared.asking.Question.{Question}
 use Rattle.gt_advice.specs.Granting.{puts_in, takes_out, holds, reaches, gives_source, gives, gives_some, near_some}
 use Rattle.gt_advice.specs.Members.{names_given, names_of, member_of, is_asked, members_in, members_of}
 use Rattle.gt_advice.specs.Texts.{entry_text}
-use Rattle.gt_advice.specs.Why.{types_asked, source_asked, target_asked, grants_asked, is_near, entry_if, entries_if, entries_of, answer_with, answer_of, lines_with, lines_of}
+use Rattle.gt_advice.specs.Why.{types_asked, source_asked, target_asked, grants_asked, is_near, entry_if, entries_if}
+use Rattle.gt_advice.specs.Why.{entries_of, answer_with, answer_of, lines_with, lines_of}
 
 -- bytes are compared either way round
 swap : (v w : List ℕ) → bytes_eq v w ≡ bytes_eq w v

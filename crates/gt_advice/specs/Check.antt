@@ -1,23 +1,11 @@
 -- What is told of a text: that it is no policy, or what is useless in it.
-use Rattle.std.specs.Prelude.{◌≡◌, ℕ, Bool, true, false, not, ◌&&◌, List, [], ◌∷◌, ◌++◌, Ok, Err, map, filter, if◌then◌else◌}
-use Rattle.std.specs.List.{flat_map, list_any}
-use Rattle.gt_types.specs.Names.{every_permission, permission_name}
-use Rattle.gt_policy.specs.Allowing.{Meaning}
-use Rattle.gt_policy.specs.Granting.{statement_grants}
-use Rattle.gt_policy.specs.Lined.{IsLined, statements_in}
-use Rattle.gt_policy.specs.Resolving.{has_grant}
-use Rattle.gt_policy.specs.Spelling.{types_in}
-use Rattle.gt_policy.specs.Whole.{Says}
-use Rattle.gt_policy.specs.declared.fault.TokenFault.{TokenFault}
-use Rattle.gt_policy.specs.declared.lined.LinedStatement.{LinedStatement}
-use Rattle.gt_policy.specs.declared.statements.Statement.{Statement}
-use Rattle.gt_policy.specs.declared.statements.Statement.TheVariants.{DeclareType, DeclareAttribute, GiveAttributes}
-use Rattle.gt_policy.specs.declared.statements.Statement.TheVariants.{Allow}
-use Rattle.gt_advice.specs.declared.findings.Finding.{Finding}
-use Rattle.gt_advice.specs.declared.findings.Kind.{Kind}
-use Rattle.gt_advice.specs.declared.findings.Kind.TheVariants.{Fault, OtherClass, OtherPermission, AllowsNothing, NeverAsked}
-use Rattle.gt_advice.specs.declared.findings.Kind.TheVariants.{Repeats, NeverNamed, NoDomain, NeverMatters, NeverMapped}
-use Rattle.gt_advice.specs.declared.members.Member.{Member}
+use Rattle.std.specs.Prelude.{◌≡◌, ℕ, Bool, true, false, not, ◌&&◌, List, [], ◌∷◌, ◌++◌, Ok, Err, map, filter}
+use Rattle.std.specs.Prelude.{if◌then◌else◌}
+use Rattle.gt_advice.specs.Prelude.{flat_map, list_any, every_permission, permission_name, Meaning, statement_grants}
+use Rattle.gt_advice.specs.Prelude.{IsLined, statements_in, has_grant, types_in, Says, TokenFault, LinedStatement}
+use Rattle.gt_advice.specs.Prelude.{Statement, DeclareType, DeclareAttribute, GiveAttributes, Allow, Finding, Kind}
+use Rattle.gt_advice.specs.Prelude.{Fault, OtherClass, OtherPermission, AllowsNothing, NeverAsked, Repeats, NeverNamed}
+use Rattle.gt_advice.specs.Prelude.{NoDomain, NeverMatters, NeverMapped, Member}
 use Rattle.gt_advice.specs.Granting.{exceeds_some, gives_some}
 
 -- the finding is an error

@@ -4,3 +4,4 @@ pub mod Members
 pub mod Texts
 pub mod Why
 pub mod Report
+pub mod Prelude

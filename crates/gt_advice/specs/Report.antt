@@ -3,7 +3,8 @@ use Rattle.std.specs.Prelude.{ℕ, List, ◌++◌, codes}
 use Rattle.std.specs.Fmt.{decimal}
 use Rattle.gt_advice.specs.declared.findings.Finding.{Finding}
 use Rattle.gt_advice.specs.declared.findings.Kind.{Kind}
-use Rattle.gt_advice.specs.declared.findings.Kind.TheVariants.{Fault, OtherClass, OtherPermission, AllowsNothing, NeverAsked}
+use Rattle.gt_advice.specs.declared.findings.Kind.TheVariants.{Fault, OtherClass, OtherPermission, AllowsNothing}
+use Rattle.gt_advice.specs.declared.findings.Kind.TheVariants.{NeverAsked}
 use Rattle.gt_advice.specs.declared.findings.Kind.TheVariants.{Repeats, NeverNamed, NoDomain, NeverMatters, NeverMapped}
 
 -- how bad a finding is

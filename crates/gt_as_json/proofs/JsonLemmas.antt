@@ -1,5 +1,6 @@
 -- From the text that a command wrote to memory to its JSON.
-use Rattle.std.proofs.Common.{◌≡◌, ◌⊎◌, ℕ, ◌≤◌, List, [], Option, None, Some, Result, Ok, Err, length, inl, inr, subst, sym}
+use Rattle.std.proofs.Common.{◌≡◌, ◌⊎◌, ℕ, ◌≤◌, List, [], Option, None, Some, Result, Ok, Err, length, inl, inr, subst}
+use Rattle.std.proofs.Common.{sym}
 use Rattle.gt_streams.specs.Streams.{OfInput}
 use Rattle.gt_json.specs.declared.places.Printed.{Printed}
 use Rattle.gt_as_json.specs.AsJson.{Promise, AsJson, Passes}

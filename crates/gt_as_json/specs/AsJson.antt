@@ -1,25 +1,12 @@
 -- What goes out for a command whose text is written as JSON.
 use Rattle.std.specs.Prelude.{◌≡◌, ◌⊎◌, ℕ, Bool, List, [], Option, Some, Result, Ok, Err}
-use Rattle.std.specs.Io.KnownBytes.{Appends, Keeps}
-use Rattle.gt_streams.specs.Streams.{AppendsBeginning}
-use Rattle.gt_json.specs.Lines.{json_text}
-use Rattle.gt_json.specs.declared.places.Printed.{Printed}
-use Rattle.gt_json.specs.declared.places.Printed.TheVariants.{Run, Policy, Entries}
-use Rattle.gt_script.specs.Script.{Tells}
-use Rattle.gt_script.specs.RunScripts.{RunTells}
-use Rattle.gt_host.specs.declared.fault.PlayFault.{PlayFault}
+use Rattle.gt_as_json.specs.Prelude.{Appends, Keeps, AppendsBeginning, json_text, Printed, Run, Policy, Entries, Tells}
+use Rattle.gt_as_json.specs.Prelude.{RunTells, PlayFault, Played, RunFault, Ran, ListingFault, Listed, Asked, DumpFault}
+use Rattle.gt_as_json.specs.Prelude.{Told}
 use Rattle.gt_host.specs.declared.fault.PlayFault.TheVariants as plays
-use Rattle.gt_host.specs.Playing.{Played}
-use Rattle.gt_run.specs.declared.fault.RunFault.{RunFault}
 use Rattle.gt_run.specs.declared.fault.RunFault.TheVariants as runs
-use Rattle.gt_run.specs.Runs.{Ran}
-use Rattle.gt_listing.specs.declared.fault.ListingFault.{ListingFault}
 use Rattle.gt_listing.specs.declared.fault.ListingFault.TheVariants as listings
-use Rattle.gt_listing.specs.Writing.{Listed}
-use Rattle.gt_dump.specs.declared.asked.Asked.{Asked}
-use Rattle.gt_dump.specs.declared.fault.DumpFault.{DumpFault}
 use Rattle.gt_dump.specs.declared.fault.DumpFault.TheVariants as dumps
-use Rattle.gt_dump.specs.Dumps.{Told}
 
 -- what a command promises of the bytes that its writer held and holds, and of its answer (own)
 abbrev pub Promise : Type 0 → Type 1

@@ -1,5 +1,7 @@
 -- Pieces, and the list that they make.
-use Rattle.std.proofs.Common.{◌≡◌, ◌≢◌, ◌≤◌, ◌<◌, ◌+◌, ◌-◌, ◌*◌, ◌/◌, ◌%◌, ℕ, zero, suc, refl, List, [], ◌∷◌, ◌++◌, length, ap, subst, sym, ◌∙◌, arith, slice_get, take, OnOk, Option, None, Some, Result, Ok, Err, get_or, append_assoc, append-nil, length-append}
+use Rattle.std.proofs.Common.{◌≡◌, ◌≢◌, ◌≤◌, ◌<◌, ◌+◌, ◌-◌, ◌*◌, ◌/◌, ◌%◌, ℕ, zero, suc, refl, List, [], ◌∷◌, ◌++◌}
+use Rattle.std.proofs.Common.{length, ap, subst, sym, ◌∙◌, arith, slice_get, take, OnOk, Option, None, Some, Result, Ok}
+use Rattle.std.proofs.Common.{Err, get_or, append_assoc, append-nil, length-append}
 use Rattle.std.proofs.Math.ListN.{set}
 use Rattle.std.proofs.Math.Seq.{get_or-append_seam}
 use Rattle.std.proofs.lemmas.Option.{get_or_from_slice_get, slice_get-get_or, slice_get_past}

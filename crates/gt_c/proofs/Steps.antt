@@ -14,9 +14,11 @@ pub use types.Logic.{Logic, sem}
 pub use types.SemTy.{Body}
 pub use contract.Monad.{fact}
 pub use contract.Running.{Running, MachineTables, tables}
-pub use types.Kit.{‵, raw, ◌⊛◌, some, later, prop, at_ret, Sq, ◌$◌, ◌∵◌, !, qed, done, move, keep, drop, use1, use2, use3}
+pub use types.Kit.{‵, raw, ◌⊛◌, some, later, prop, at_ret, Sq, ◌$◌, ◌∵◌, !, qed, done, move, keep, drop, use1, use2}
+pub use types.Kit.{use3}
 pub use types.Kit.{show, split, join, fsplit, pick, await, suffices, group}
-pub use types.Run.{enter, lit, bin, addr, stop, no_more, and_then, first, branches, skips, exec, returns, returns_within}
+pub use types.Run.{enter, lit, bin, addr, stop, no_more, and_then, first, branches, skips, exec, returns}
+pub use types.Run.{returns_within}
 pub use types.ByLocal.{alloc_all, pass_all, free_all, look_at, get, through, sets, lands_as, env}
 pub use types.Tokens.{lft_new, lft_end}
 pub use denote.Builtin.{u16, u32, u64, usize}
@@ -25,7 +27,8 @@ pub use denote.Laws.{Is, shows}
 pub use denote.Lend.{lends_ref, ref_back}
 pub use denote.Memory.{mem, part_at}
 pub use denote.Plain.{uint_Makes, uint_vals, uint_Tells}
-pub use denote.RawPtr.{Ptr, RawPtr, block_ptr, null_ptr, ptr_val, count_of, tests_null, rawptr_vals, rawptr_Tells, rawptr_Lawful}
+pub use denote.RawPtr.{Ptr, RawPtr, block_ptr, null_ptr, ptr_val, count_of, tests_null, rawptr_vals, rawptr_Tells}
+pub use denote.RawPtr.{rawptr_Lawful}
 pub use denote.Ref.{MutBor, MutRef}
 pub use denote.Signature.{plain}
 pub use denote.Steps.{nothing, owned, heard, peeks}

@@ -1,31 +1,10 @@
 -- What an export answers, of the call that it made.
 use Rattle.std.specs.Prelude.{◌≡◌, ◌≤◌, ◌⊎◌, ℕ, Bool, Option, Some, None, IsSome, Result, Ok, Err, OnOk, OnErr}
-use Rattle.gt_types.specs.declared.GrantRef.{GrantRef}
-use Rattle.gt_types.specs.declared.DomId.{DomId}
-use Rattle.gt_types.specs.declared.Memory.{Memory}
-use Rattle.gt_types.specs.declared.Size.{Size}
-use Rattle.gt_types.specs.declared.TypeId.{TypeId}
-use Rattle.gt_types.specs.declared.perms.Perms.{Perms}
-use Rattle.gt_types.specs.declared.denial.Denial.{Denial}
-use Rattle.gt_allow.specs.Looking.{Table, looks}
-use Rattle.gt_audit.specs.declared.record.Hypercall.{Hypercall}
-use Rattle.gt_audit.specs.declared.record.Record.{Record as Kept}
-use Rattle.gt_audit.specs.Telling.{Tells}
-use Rattle.gt_calls.specs.declared.action.Verdict.{Verdict}
-use Rattle.gt_calls.specs.declared.held.Held.{Held as Mapped}
-use Rattle.gt_calls.specs.declared.request.Request.{Request}
-use Rattle.gt_handles.specs.declared.handles.Handle.{Handle as Name}
-use Rattle.gt_live.specs.declared.domain.Domain.{Domain}
-use Rattle.gt_live.specs.declared.domain.Left.{Left}
-use Rattle.gt_live.specs.Domains.{Answered, HasLeft, KeepsPinned, MapAnswered, mapping_reply, subject_of, told_of}
-use Rattle.gt_live.specs.Domains.{verdict_of}
-use Rattle.gt_live.specs.Mappings.{Removes}
-use Rattle.gt_seat.specs.Encoding.{encoded}
-use Rattle.gt_seat.specs.Seated.{Ends, Seated, StaysIdle}
-use Rattle.gt_seat.specs.declared.answer.Answer.{Answer}
-use Rattle.gt_seat.specs.declared.answer.Outcome.{Outcome}
+use Rattle.gt_c.specs.Prelude.{GrantRef, DomId, Memory, Size, TypeId, Perms, Denial, Table, looks, Hypercall, Kept}
+use Rattle.gt_c.specs.Prelude.{Tells, Verdict, Mapped, Request, Name, Domain, Left, Answered, HasLeft, KeepsPinned}
+use Rattle.gt_c.specs.Prelude.{MapAnswered, mapping_reply, subject_of, told_of, verdict_of, Removes, encoded, Ends}
+use Rattle.gt_c.specs.Prelude.{Seated, StaysIdle, Answer, Outcome, Here}
 use Rattle.gt_seat.specs.declared.answer.Outcome.TheVariants as outcomes
-use Rattle.gt_c.specs.declared.here.Here.{Here}
 
 -- whose type may do what to whose, in a compiled policy
 abbrev pub may : Table → TypeId → TypeId → Perms → Bool

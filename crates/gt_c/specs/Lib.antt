@@ -3,5 +3,6 @@ pub mod Calling
 pub mod Faults
 pub mod Owning
 pub mod Pointing
+pub mod Prelude
 pub mod Promises
 pub mod Telling

@@ -1,33 +1,9 @@
 -- What exports tell in layouts of C: the places of a copy, a mapping, a record.
 use Rattle.std.specs.Prelude.{◌≡◌, ◌⊎◌, ◌≤◌, ℕ, List, Option, Some, None, Result, Ok, Err}
-use Rattle.std.specs.List.{slice_get}
-use Rattle.gt_types.specs.declared.Dir.{Dir}
-use Rattle.gt_types.specs.declared.Dir.TheVariants.{Read, Write}
-use Rattle.gt_types.specs.declared.denial.Denial.{Denial}
-use Rattle.gt_audit.specs.declared.record.Record.{Record as Kept}
-use Rattle.gt_calls.specs.declared.action.Place.{Place}
-use Rattle.gt_calls.specs.declared.held.Held.{Held as Mapped}
-use Rattle.gt_calls.specs.declared.request.CopyArgs.{CopyArgs}
-use Rattle.gt_calls.specs.declared.request.End.{End}
-use Rattle.gt_entry.specs.Entries.{frame_of}
-use Rattle.gt_handles.specs.declared.handles.Handle.{Handle as Name}
-use Rattle.gt_handles.specs.Handles.{value_of}
-use Rattle.gt_seat.specs.Encoding.{encoded}
-use Rattle.gt_seat.specs.Recording.{no_end, recorded}
-use Rattle.gt_seat.specs.Seated.{Begins, Ends}
-use Rattle.gt_seat.specs.declared.answer.Answer.{Answer}
-use Rattle.gt_seat.specs.declared.answer.Outcome.{Outcome}
+use Rattle.gt_c.specs.Prelude.{slice_get, Dir, Read, Write, Denial, Kept, Place, Mapped, CopyArgs, End, frame_of, Name}
+use Rattle.gt_c.specs.Prelude.{value_of, encoded, no_end, recorded, Begins, Ends, Answer, Outcome, Places, CopyEnd}
+use Rattle.gt_c.specs.Prelude.{Record, CopySettings, PlaceTold, PlacesTold, Mapping, Fault, Handle, Here}
 use Rattle.gt_seat.specs.declared.answer.Outcome.TheVariants as outcomes
-use Rattle.gt_seat.specs.declared.guest.Places.{Places}
-use Rattle.gt_seat.specs.declared.record.CopyEnd.{CopyEnd}
-use Rattle.gt_seat.specs.declared.record.Record.{Record}
-use Rattle.gt_c.specs.declared.copies.CopySettings.{CopySettings}
-use Rattle.gt_c.specs.declared.copies.PlaceTold.{PlaceTold}
-use Rattle.gt_c.specs.declared.copies.PlacesTold.{PlacesTold}
-use Rattle.gt_c.specs.declared.telling.Mapping.{Mapping}
-use Rattle.gt_c.specs.declared.faults.Fault.{Fault}
-use Rattle.gt_c.specs.declared.handle.Handle.{Handle}
-use Rattle.gt_c.specs.declared.here.Here.{Here}
 use Rattle.gt_c.specs.Calling.{may}
 
 -- an end of a copy as C asks it

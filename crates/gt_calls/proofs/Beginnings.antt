@@ -1,6 +1,10 @@
 -- A call before its first step: what is so of each, by what it asks.
-use Rattle.gt_calls.proofs.Words.{◌≡◌, ◌≤◌, ℕ, refl, [], Option, Some, None, sym, ap, ◌∙◌, subst, arith, DomId, GrantRef, Request, bytes_of, Asked, Copy, CopyArgs, Verdict, Phase, Ending, CallerKnowledge, begun, opens, Continuation, path, after_beginning, steps_of, remains, first_phase, at_source, action_at, HasShown, held_in, steps_left, MakesStep}
-use Rattle.gt_calls.{specs.Path.most_steps, proofs.Calls.at-source, proofs.Calls.wants-action, proofs.Shown.shown-source, proofs.Holds.held-source, proofs.Counts.at-source-left}
+use Rattle.gt_calls.proofs.Words.{◌≡◌, ◌≤◌, ℕ, refl, [], Option, Some, None, sym, ap, ◌∙◌, subst, arith, DomId}
+use Rattle.gt_calls.proofs.Words.{GrantRef, Request, bytes_of, Asked, Copy, CopyArgs, Verdict, Phase, Ending}
+use Rattle.gt_calls.proofs.Words.{CallerKnowledge, begun, opens, Continuation, path, after_beginning, steps_of, remains}
+use Rattle.gt_calls.proofs.Words.{first_phase, at_source, action_at, HasShown, held_in, steps_left, MakesStep}
+use Rattle.gt_calls.{specs.Path.most_steps, proofs.Calls.at-source, proofs.Calls.wants-action}
+use Rattle.gt_calls.{proofs.Shown.shown-source, proofs.Holds.held-source, proofs.Counts.at-source-left}
 use Rattle.gt_calls.specs.declared.request.Request.TheVariants as requests
 
 -- a step is to be made here, whatever is held

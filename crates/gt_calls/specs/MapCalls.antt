@@ -16,7 +16,8 @@ use Rattle.gt_calls.specs.declared.leg.Leg.{Leg}
 use Rattle.gt_calls.specs.declared.leg.LegPhase.{LegPhase}
 use Rattle.gt_calls.specs.declared.request.Asked.TheVariants.{Map}
 use Rattle.gt_calls.specs.Following.{Goes}
-use Rattle.gt_calls.specs.Machine.{ended_as, leg_step}
+use Rattle.gt_calls.specs.Machine.{ended_as}
+use Rattle.gt_calls.specs.Legs.{leg_step}
 use Rattle.gt_calls.specs.Rules.{CallerKnowledge}
 
 -- a map under way: what it asks, and where its leg is

@@ -1,29 +1,11 @@
 -- What is so of a call that no rule answers at its beginning.
-use Rattle.std.specs.Prelude.{◌≡◌, ◌≢◌, ◌⊎◌, ◌+◌, ◌<◌, ◌≤◌, ℕ, Bool, true, false, List, [], ◌∷◌, Some}
-use Rattle.std.specs.Prelude.{zero, suc, Option, None}
-use Rattle.std.proofs.Common.{arith}
-use Rattle.gt_types.specs.declared.limits.TheConstants.{FRAME_SIZE, LAST_GENERATION, MAX_MAPPINGS, MAX_TABLE_FRAMES}
-use Rattle.gt_types.specs.declared.DomId.{DomId}
-use Rattle.gt_types.specs.declared.GrantRef.{GrantRef}
-use Rattle.gt_types.specs.declared.TypeId.{TypeId}
-use Rattle.gt_types.specs.declared.Dir.TheVariants.{Write}
-use Rattle.gt_types.specs.declared.perms.Perms.{Perms}
-use Rattle.gt_types.specs.declared.rights.Triple.{Triple}
-use Rattle.gt_types.specs.Names.{resolved}
-use Rattle.gt_entry.specs.declared.entry.Entry.{Entry}
-use Rattle.gt_entry.specs.declared.change.Change.{Change}
-use Rattle.gt_entry.specs.declared.change.Change.TheVariants.{Demote as ToReadOnly, Promote as ToWritable}
-use Rattle.gt_handles.specs.declared.handles.Handle.{Handle}
-use Rattle.gt_calls.specs.declared.request.Asked.{Asked}
-use Rattle.gt_calls.specs.declared.request.Asked.TheVariants.{Grant, Revoke, Demote, Promote, Map, Unmap, Load}
-use Rattle.gt_calls.specs.declared.request.Asked.TheVariants.{SetVersion, SetupTable, QuerySize, GetVersion, Store}
-use Rattle.gt_calls.specs.declared.request.Asked.TheVariants.{Peek, Poke, Copy, Withdraw}
-use Rattle.gt_calls.specs.declared.judging.TheConstants.{END_OF_SERIALS}
-use Rattle.gt_calls.specs.declared.held.Held.{Held}
-use Rattle.gt_calls.specs.declared.request.CopyArgs.{CopyArgs}
-use Rattle.gt_calls.specs.declared.request.End.{End}
-use Rattle.gt_types.specs.declared.denial.Rule.{Rule}
-use Rattle.gt_calls.specs.declared.action.Verdict.{Verdict}
+use Rattle.std.specs.Prelude.{◌≡◌, ◌≢◌, ◌⊎◌, ◌+◌, ◌<◌, ◌≤◌, ℕ, Bool, true, false, List, [], ◌∷◌, Some, zero, suc}
+use Rattle.std.specs.Prelude.{Option, None}
+use Rattle.gt_calls.specs.Prelude.{arith, FRAME_SIZE, LAST_GENERATION, MAX_MAPPINGS, MAX_TABLE_FRAMES, DomId, GrantRef}
+use Rattle.gt_calls.specs.Prelude.{TypeId, Write, Perms, Triple, resolved, Entry, Change, ToReadOnly, ToWritable}
+use Rattle.gt_calls.specs.Prelude.{Handle, Asked, Grant, Revoke, Demote, Promote, Map, Unmap, Load, SetVersion}
+use Rattle.gt_calls.specs.Prelude.{SetupTable, QuerySize, GetVersion, Store, Peek, Poke, Copy, Withdraw, END_OF_SERIALS}
+use Rattle.gt_calls.specs.Prelude.{Held, CopyArgs, End, Rule, Verdict}
 use Rattle.gt_calls.specs.Rules.{CallerKnowledge, IsOfRun, is_already, cannot_stand, frames_of, is_invalid, size_of}
 use Rattle.gt_calls.specs.Rules.{map_dir, rights_to_map, rights_to_unmap, rights_to_copy, rights_to_setup}
 use Rattle.gt_calls.specs.Rules.{rights_to_query, is_source_granted, is_dest_granted, begun, first, refused_when}

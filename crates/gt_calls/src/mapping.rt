@@ -4,7 +4,7 @@ ghost use Rattle.gt_types.specs.declared.DomId.{DomId};
 ghost use Rattle.gt_types.specs.declared.GrantRef.{GrantRef};
 ghost use Rattle.gt_calls.specs.declared.action.Seen.{Seen};
 ghost use Rattle.gt_calls.specs.declared.leg.LegPhase.TheVariants.{Header};
-ghost use Rattle.gt_calls.specs.Machine.{leg_after};
+ghost use Rattle.gt_calls.specs.Legs.{leg_after};
 ghost use Rattle.gt_calls.specs.MapCalls.{BeginsAs, GoesOnAs, MapCall};
 ghost use Rattle.gt_calls.specs.Path.{map_leg};
 ghost use Rattle.gt_calls.specs.Rules.{CallerKnowledge};

@@ -1,5 +1,6 @@
 -- What comes after the walk: the defaults of flags, and what is needed.
-use Rattle.std.proofs.Common.{◌≡◌, ◌∙◌, ◌==◌, ◌+◌, ◌&&◌, ◌||◌, ℕ, Bool, true, false, true≢false, cond, not, refl, sym, ap, ap₂, subst, List, [], ◌∷◌, ◌++◌, Option, Some, None, codes, map, append_assoc}
+use Rattle.std.proofs.Common.{◌≡◌, ◌∙◌, ◌==◌, ◌+◌, ◌&&◌, ◌||◌, ℕ, Bool, true, false, true≢false, cond, not, refl, sym}
+use Rattle.std.proofs.Common.{ap, ap₂, subst, List, [], ◌∷◌, ◌++◌, Option, Some, None, codes, map, append_assoc}
 use Rattle.std.specs.Prelude.{fold, min, find, slice_get, option_and_then, option_map}
 use Rattle.std.specs.List.{list_any}
 use Rattle.std.specs.Option.{option_map_or, option_or}

@@ -1,5 +1,6 @@
 -- What the parser of command lines finds among the rules of a command.
-use Rattle.std.proofs.Common.{◌≡◌, ◌∙◌, ◌==◌, ◌+◌, ◌||◌, ℕ, Bool, true, false, true≢false, cond, refl, sym, ap, subst, append_assoc, List, [], ◌∷◌, ◌++◌, Option, Some, None, codes, map}
+use Rattle.std.proofs.Common.{◌≡◌, ◌∙◌, ◌==◌, ◌+◌, ◌||◌, ℕ, Bool, true, false, true≢false, cond, refl, sym, ap, subst}
+use Rattle.std.proofs.Common.{append_assoc, List, [], ◌∷◌, ◌++◌, Option, Some, None, codes, map}
 use Rattle.std.specs.Prelude.{min}
 use Rattle.std.specs.Str.{bytes_eq}
 use Rattle.std.proofs.lemmas.Slice.Eq.{bytes_eq-Decides}

@@ -1,5 +1,6 @@
 -- From what the parser makes of the words to what is answered.
-use Rattle.std.proofs.Common.{◌≡◌, ◌∙◌, ◌⊎◌, ◌<◌, ◌≤◌, ℕ, Bool, true, false, Result, Ok, Err, IfOk, arith, List, [], ◌∷◌, Option, Some, None, option_map, drop, refl, sym, ap, ap₂, subst, inl, inr}
+use Rattle.std.proofs.Common.{◌≡◌, ◌∙◌, ◌⊎◌, ◌<◌, ◌≤◌, ℕ, Bool, true, false, Result, Ok, Err, IfOk, arith, List, []}
+use Rattle.std.proofs.Common.{◌∷◌, Option, Some, None, option_map, drop, refl, sym, ap, ap₂, subst, inl, inr}
 use Rattle.std.specs.Prelude.{Box}
 use Rattle.std.proofs.Common.{Global}
 use Rattle.std.specs.Box.{box_value}
@@ -18,12 +19,15 @@ use Rattle.clap.proofs.ValueTestLemmas.{accepts-Accepts, Accepts-accepts}
 use Rattle.clap.specs.declared.parser.matches.ArgMatches.{ArgMatches}
 use Rattle.clap.specs.declared.parser.matches.ArgMatches.TheViews.{out-ArgMatches, out-SubCommand}
 use Rattle.clap.specs.declared.parser.matches.SubCommand.{SubCommand}
-use Rattle.gt_commands.specs.Commands.{IsAnswerTo, IsPlanOf, Request, asked, asked_by_plan, asked_by_some, asked_named, asked_with, domain_of, command_name, gthost_app, mode_of, nothing, read, refusals}
+use Rattle.gt_commands.specs.Commands.{IsAnswerTo, IsPlanOf, Request, asked, asked_by_plan, asked_by_some, asked_named}
+use Rattle.gt_commands.specs.Commands.{asked_with, domain_of, command_name, gthost_app, mode_of, nothing, read}
+use Rattle.gt_commands.specs.Commands.{refusals}
 use Rattle.gt_commands.specs.declared.invocation.Invocation.{Invocation}
 use Rattle.gt_commands.specs.declared.invocation.Mode.{Mode}
 use Rattle.gt_commands.specs.declared.invocation.Mode.TheVariants.{Play, Run, Policy, Rules, Check, Why, Entries}
 use Rattle.gt_commands.proofs.Top.{Comes, passes, helps, tells_version, refuses, words_come}
-use Rattle.gt_commands.proofs.Wrongs.{Wrong, unknown, stray, missing, valued, valueless, repeated, lacking, never_passes}
+use Rattle.gt_commands.proofs.Wrongs.{Wrong, unknown, stray, missing, valued, valueless, repeated, lacking}
+use Rattle.gt_commands.proofs.Wrongs.{never_passes}
 
 refusal_of_wrong : {kinds : Kinds} (e : Error) → Wrong kinds → HasKind kinds e → HasKind (refusals nothing) e
 refusal_of_wrong e unknown (inl memory) = inl memory

@@ -1,17 +1,22 @@
 -- What the parser makes of a whole command line.
-use Rattle.std.proofs.Common.{◌≡◌, ◌∙◌, ◌==◌, ◌&&◌, ◌||◌, ℕ, Bool, true, false, cond, refl, sym, ap, ap₂, subst, List, [], ◌∷◌, drop, map, Option, Some, None, option_map, codes, is_some}
+use Rattle.std.proofs.Common.{◌≡◌, ◌∙◌, ◌==◌, ◌&&◌, ◌||◌, ℕ, Bool, true, false, cond, refl, sym, ap, ap₂, subst, List}
+use Rattle.std.proofs.Common.{[], ◌∷◌, drop, map, Option, Some, None, option_map, codes, is_some}
 use Rattle.std.specs.Prelude.{slice_get, fold, find}
 use Rattle.std.specs.Str.{bytes_eq, chars}
 use Rattle.clap.specs.Lexer.{long_of, short_of}
 use Rattle.clap.specs.Kinds.{Kinds, or_else}
-use Rattle.clap.specs.Faults.{fault_of, is_simple_and_free, walk_fault, turn_fault, flags_fault, defaults_fault, settle_fault, check_fault, entered_fault, level_fault}
-use Rattle.clap.specs.Walk.{Names, Row, Text, Walk, answers_to, bundle_met, finished, first_of, idle, nothing_held, rows_after, settled, subcommand_met, walk_from, walked}
+use Rattle.clap.specs.Faults.{fault_of, is_simple_and_free, walk_fault, turn_fault, flags_fault, defaults_fault}
+use Rattle.clap.specs.Faults.{settle_fault, check_fault, entered_fault, level_fault}
+use Rattle.clap.specs.Walk.{Names, Row, Text, Walk, answers_to, bundle_met, finished, first_of, idle, nothing_held}
+use Rattle.clap.specs.Walk.{rows_after, settled, subcommand_met, walk_from, walked}
 use Rattle.clap.specs.Simple.{Shape, built, entered, names_of, subcommand_of}
 use Rattle.clap.specs.declared.error.kind.ErrorKind.TheVariants.{DisplayHelp, DisplayVersion}
 use Rattle.clap.proofs.WalkLemmas.{walk_stopped}
 use Rattle.clap.proofs.FaultLemmas.{stopped_fault}
-use Rattle.gt_commands.specs.Usage.{Given, Line, Word, asks_help, gives, is_true, line, long, mark, plain, short, value_of, word_of, wrong}
-use Rattle.gt_commands.specs.Commands.{Request, asked, asked_by, asked_of, asked_of_long, asked_of_none, command_name, every_mode, for_help, for_version, gthost_app, mode_of, nothing, read, usage_of}
+use Rattle.gt_commands.specs.Usage.{Given, Line, Word, asks_help, gives, is_true, line, long, mark, plain, short}
+use Rattle.gt_commands.specs.Usage.{value_of, word_of, wrong}
+use Rattle.gt_commands.specs.Commands.{Request, asked, asked_by, asked_of, asked_of_long, asked_of_none, command_name}
+use Rattle.gt_commands.specs.Commands.{every_mode, for_help, for_version, gthost_app, mode_of, nothing, read, usage_of}
 use Rattle.gt_commands.specs.declared.invocation.Mode.{Mode}
 use Rattle.gt_commands.specs.declared.invocation.Mode.TheVariants.{Play, Run, Policy, Rules, Check, Why, Entries}
 use Rattle.gt_commands.proofs.Ends.{end, flag_at_end, value_at_end}

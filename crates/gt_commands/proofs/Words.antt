@@ -1,11 +1,14 @@
 -- What the parser's walk meets in a word, by what the word is.
-use Rattle.std.proofs.Common.{◌≡◌, ◌==◌, ℕ, Bool, true, false, cond, refl, sym, subst, List, [], ◌∷◌, Option, Some, None, codes}
+use Rattle.std.proofs.Common.{◌≡◌, ◌==◌, ℕ, Bool, true, false, cond, refl, sym, subst, List, [], ◌∷◌, Option, Some}
+use Rattle.std.proofs.Common.{None, codes}
 use Rattle.std.specs.Prelude.{slice_get, drop, encode_utf8, length}
 use Rattle.std.specs.Str.{bytes_eq, chars}
 use Rattle.clap.specs.Lexer.{long_of, short_of}
 use Rattle.clap.specs.Kinds.{Kinds, or_else}
 use Rattle.clap.specs.Faults.{flags_fault, long_fault, settle_fault, word_fault}
-use Rattle.clap.specs.Walk.{Held, Rule, Row, Step, Text, Waiting, arg_by_long, arg_by_short, bundle_met, idle, long_word, next, option, plain_word, positional, reacted, subcommand_met, trailing, word_met}
+use Rattle.clap.specs.Walk.{Held, Rule, Row, Step, Text, Waiting, arg_by_long, arg_by_short, bundle_met, idle}
+use Rattle.clap.specs.Walk.{long_word, next, option, plain_word, positional, reacted, subcommand_met, trailing}
+use Rattle.clap.specs.Walk.{word_met}
 use Rattle.clap.specs.Simple.{Shape}
 use Rattle.clap.specs.declared.error.kind.ErrorKind.TheVariants.{DisplayHelp, UnknownArgument}
 use Rattle.gt_commands.specs.Usage.{Word, mark, long, short, plain, word_of, word_with, short_flags}

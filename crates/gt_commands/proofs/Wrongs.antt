@@ -1,7 +1,8 @@
 -- The kinds with which a line is refused that asks for neither help nor the version.
 use Rattle.std.proofs.Common.{◌≡◌, List, [], ◌∷◌, inl, inr}
 use Rattle.clap.specs.Kinds.{Kinds, or_else}
-use Rattle.clap.specs.declared.error.kind.ErrorKind.TheVariants.{ArgumentConflict, InvalidSubcommand, InvalidValue, MissingRequiredArgument}
+use Rattle.clap.specs.declared.error.kind.ErrorKind.TheVariants.{ArgumentConflict, InvalidSubcommand, InvalidValue}
+use Rattle.clap.specs.declared.error.kind.ErrorKind.TheVariants.{MissingRequiredArgument}
 use Rattle.clap.specs.declared.error.kind.ErrorKind.TheVariants.{MissingSubcommand, TooManyValues, UnknownArgument}
 
 pub data Wrong : Kinds → Type 0 where

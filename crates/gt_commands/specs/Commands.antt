@@ -1,25 +1,16 @@
 -- The commands of the program, and what the words of a command line ask for.
-use Rattle.std.specs.Prelude.{◌≡◌, ◌==◌, Bool, true, false, ℕ, List, [], ◌∷◌, Option, Some, None, Result}
-use Rattle.std.specs.Prelude.{MatchResult, codes, find, if◌then◌else◌, option_map}
-use Rattle.std.specs.Str.{bytes_eq}
-use Rattle.std.specs.Str.Parse.{digits_value, without_leading_plus}
-use Rattle.clap.specs.Kinds.{HasKind, Kinds}
-use Rattle.clap.specs.Simple.{on_top}
-use Rattle.clap.specs.ValueTests.{is_unsigned_in}
-use Rattle.clap.specs.Words.{App, Row, Text, first_of, new_app, with_subcommand}
-use Rattle.clap.specs.declared.error.Error.{Error}
-use Rattle.clap.specs.declared.error.kind.ErrorKind.TheVariants.{ArgumentConflict, DisplayHelp, DisplayVersion}
-use Rattle.clap.specs.declared.error.kind.ErrorKind.TheVariants.{InvalidSubcommand, InvalidValue, MissingRequiredArgument}
-use Rattle.clap.specs.declared.error.kind.ErrorKind.TheVariants.{MissingSubcommand, TooManyValues, UnknownArgument}
+use Rattle.std.specs.Prelude.{◌≡◌, ◌==◌, Bool, true, false, ℕ, List, [], ◌∷◌, Option, Some, None, Result, MatchResult}
+use Rattle.std.specs.Prelude.{codes, find, if◌then◌else◌, option_map}
+use Rattle.gt_commands.specs.Prelude.{bytes_eq, digits_value, without_leading_plus, HasKind, Kinds, on_top}
+use Rattle.gt_commands.specs.Prelude.{is_unsigned_in, App, Row, Text, first_of, new_app, with_subcommand, Error}
+use Rattle.gt_commands.specs.Prelude.{ArgumentConflict, DisplayHelp, DisplayVersion, InvalidSubcommand, InvalidValue}
+use Rattle.gt_commands.specs.Prelude.{MissingRequiredArgument, MissingSubcommand, TooManyValues, UnknownArgument}
+use Rattle.gt_commands.specs.Prelude.{Format, Plain, Json, Invocation, Mode, Play, Run, Policy, Rules, Check, Why}
+use Rattle.gt_commands.specs.Prelude.{Entries}
 use Rattle.gt_commands.specs.Rules.{command_app}
-use Rattle.gt_commands.specs.Usage.{Usage, Given, Line, gives, asks_help, wrong, Word, mark, long, short, plain, word_of, line}
-use Rattle.gt_commands.specs.Usage.{is_true, value_of}
-use Rattle.gt_commands.specs.declared.invocation.Format.{Format}
-use Rattle.gt_commands.specs.declared.invocation.Format.TheVariants.{Text as Plain, Json}
-use Rattle.gt_commands.specs.declared.invocation.Invocation.{Invocation}
+use Rattle.gt_commands.specs.Usage.{Usage, Given, Line, gives, asks_help, wrong, Word, mark, long, short, plain}
+use Rattle.gt_commands.specs.Usage.{word_of, line, is_true, value_of}
 use Rattle.gt_commands.specs.declared.invocation.Invocation.TheVariants as plans
-use Rattle.gt_commands.specs.declared.invocation.Mode.{Mode}
-use Rattle.gt_commands.specs.declared.invocation.Mode.TheVariants.{Play, Run, Policy, Rules, Check, Why, Entries}
 
 -- ---- the commands
 

@@ -1,3 +1,4 @@
 pub mod Usage
 pub mod Rules
 pub mod Commands
+pub mod Prelude

@@ -1,5 +1,6 @@
 -- A command's line: its flags, its options and its words, and what words give by them.
-use Rattle.std.specs.Prelude.{◌==◌, ◌&&◌, Bool, false, not, ℕ, List, [], ◌∷◌, ◌++◌, Option, Some, None, codes, map, find, option_map}
+use Rattle.std.specs.Prelude.{◌==◌, ◌&&◌, Bool, false, not, ℕ, List, [], ◌∷◌, ◌++◌, Option, Some, None, codes, map}
+use Rattle.std.specs.Prelude.{find, option_map}
 use Rattle.std.specs.Prelude.{if◌then◌else◌, slice_get}
 use Rattle.std.specs.List.{list_any}
 use Rattle.std.specs.Option.{option_map_or}

@@ -1,5 +1,11 @@
 -- The leg that an open call walks is the one that its pins tell.
-use Rattle.gt_core.proofs.Words.{◌≡◌, ◌+◌, ℕ, refl, Bool, true, List, [], ◌∷◌, ◌++◌, map, reverse, Option, Some, None, cond, sym, ap, ◌∙◌, false≢true, DomId, Dir, Read, Write, ForCopy, Entry, Page, Sub, Via, permits, Asked, CopyArgs, Held, Route, Direct, Through, Aim, Mapping, Source, Dest, Leg, last_first, pins_so_far, held_by, CallerKnowledge, is_source_granted, is_dest_granted, source_pair, dest_pair, IsFor, IsToward, IsReached, IsOnFrom, LeadsTo, History, Setting, known_at, legs_at, LegNow, numbered, begun_route, leg_now, copy_now, toward_source, from_source, after_source, source_now, dest_now, second_now}
+use Rattle.gt_core.proofs.Words.{◌≡◌, ◌+◌, ℕ, refl, Bool, true, List, [], ◌∷◌, ◌++◌, map, reverse, Option, Some, None}
+use Rattle.gt_core.proofs.Words.{cond, sym, ap, ◌∙◌, false≢true, DomId, Dir, Read, Write, ForCopy, Entry, Page, Sub}
+use Rattle.gt_core.proofs.Words.{Via, permits, Asked, CopyArgs, Held, Route, Direct, Through, Aim, Mapping, Source}
+use Rattle.gt_core.proofs.Words.{Dest, Leg, last_first, pins_so_far, held_by, CallerKnowledge, is_source_granted}
+use Rattle.gt_core.proofs.Words.{is_dest_granted, source_pair, dest_pair, IsFor, IsToward, IsReached, IsOnFrom, LeadsTo}
+use Rattle.gt_core.proofs.Words.{History, Setting, known_at, legs_at, LegNow, numbered, begun_route, leg_now, copy_now}
+use Rattle.gt_core.proofs.Words.{toward_source, from_source, after_source, source_now, dest_now, second_now}
 use Rattle.gt_core.proofs.{Legs.IsLegOf}
 use Rattle.gt_calls.specs.declared.held.Route.TheVariants.{Own}
 

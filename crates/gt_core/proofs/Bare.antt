@@ -1,5 +1,14 @@
 -- What a history leaves is the same without keys.
-use Rattle.gt_core.proofs.Words.{◌≡◌, ◌+◌, ◌⊎◌, inl, inr, ℕ, refl, Bool, true, false, List, [], ◌∷◌, ◌++◌, map, Option, Some, None, cond, sym, ap, ◌∙◌, ◌==◌, option_map, fun_ext, DomId, Entry, Header, Change, Half, asked, given_by, Request, Asked, Unmap, Load, Store, ByMapping, Seen, Step, Unpin, Answer, Happened, Began, Stepped, Item, Patch, written, History, Setting, Underway, Writing, entry_at, entry_after, change_at, change_of, raises_at, raise_after, body_at, or_else, stored_at, table_at, header_or, header_stored, open_call, underway_with, underway_after, maps_answered_at, one_if_mapped, contents_at, patches_by, patches_at, written_by, given_in, values, bare_handle, bare_request, bare_step, bare_happened, told, told_item, told_items, ToldItem, SameHistory, Held, Handle, arith}
+use Rattle.gt_core.proofs.Words.{◌≡◌, ◌+◌, ◌⊎◌, inl, inr, ℕ, refl, Bool, true, false, List, [], ◌∷◌, ◌++◌, map, Option}
+use Rattle.gt_core.proofs.Words.{Some, None, cond, sym, ap, ◌∙◌, ◌==◌, option_map, fun_ext, DomId, Entry, Header}
+use Rattle.gt_core.proofs.Words.{Change, Half, asked, given_by, Request, Asked, Unmap, Load, Store, ByMapping, Seen}
+use Rattle.gt_core.proofs.Words.{Step, Unpin, Answer, Happened, Began, Stepped, Item, Patch, written, History, Setting}
+use Rattle.gt_core.proofs.Words.{Underway, Writing, entry_at, entry_after, change_at, change_of, raises_at, raise_after}
+use Rattle.gt_core.proofs.Words.{body_at, or_else, stored_at, table_at, header_or, header_stored, open_call}
+use Rattle.gt_core.proofs.Words.{underway_with, underway_after, maps_answered_at, one_if_mapped, contents_at}
+use Rattle.gt_core.proofs.Words.{patches_by, patches_at, written_by, given_in, values, bare_handle, bare_request}
+use Rattle.gt_core.proofs.Words.{bare_step, bare_happened, told, told_item, told_items, ToldItem, SameHistory, Held}
+use Rattle.gt_core.proofs.Words.{Handle, arith}
 use Rattle.gt_core.specs.declared.trace.Answer.TheVariants.{Done}
 
 -- an answer that tells this, where bytes are no matter

@@ -1,6 +1,22 @@
 -- A beginning keeps what a core stands for.
-use Rattle.gt_core.proofs.Words.{arith, ◌≤◌, ◌≡◌, ◌≢◌, ◌<◌, ◌+◌, inl, ℕ, refl, true, false, List, [], ◌∷◌, length, Option, Some, None, sym, ap, ◌∙◌, subst, get_or, set, reverse, eqb-true, slice_get_read, position-Some, ◌==◌, is_some, position, slice_get, domain_of, DomId, Header, Held, Request, Asked, Seen, Verdict, Makes, Done, Call, Phase, asked, begun_of, given_by, CallerKnowledge, first, begun, knowledge_of, action_at, StandsAt, held_in, pins_at, GoesOn, Goes, Starts, Nothing, Step, Action, Rests, Pins, most_steps, steps_left, Item, Began, Answer, Open, State, state_of, kept_by, with_call, History, Setting, table_at, known_at, Underway, open_call, legs_at, one_if_mapped, stood, AnsweredBy, GivesValue, refusal_in, refusal_of, IsRight, IsClean, phase_refusal, FitsAsked, PhaseStands, OpenAgrees, CallAgrees, FitsGiven, GivenAgrees, Agrees, StateAgrees, DomainsStand, Opens, numbered, misses, ◌^◌, IsSaid, first_phase, IsAt, pins_by_call, steps_to_come, asks_memory, WantsMemory, IsOpened, answer_of, cond_both, StartOpen, OpeningOpen}
-use Rattle.gt_core.{specs.Standing.IsMapping, proofs.Keeping.KeepsEntries, proofs.Keeping.known-same, proofs.Keeping.open_call-own, proofs.Keeping.stood-own, proofs.Keeping.given-none, proofs.Keeping.quiet-stands, proofs.Steps.Observers.KeepsKnown, proofs.Steps.Observers.kept-known, proofs.Steps.Observers.kept-legs, proofs.Rows.has_id, proofs.Rows.found, proofs.Rows.not-found, proofs.Rows.state_of-set}
+use Rattle.gt_core.proofs.Words.{arith, ◌≤◌, ◌≡◌, ◌≢◌, ◌<◌, ◌+◌, inl, ℕ, refl, true, false, List, [], ◌∷◌, length}
+use Rattle.gt_core.proofs.Words.{Option, Some, None, sym, ap, ◌∙◌, subst, get_or, set, reverse, eqb-true}
+use Rattle.gt_core.proofs.Words.{slice_get_read, position-Some, ◌==◌, is_some, position, slice_get, domain_of, DomId}
+use Rattle.gt_core.proofs.Words.{Header, Held, Request, Asked, Seen, Verdict, Makes, Done, Call, Phase, asked, begun_of}
+use Rattle.gt_core.proofs.Words.{given_by, CallerKnowledge, first, begun, knowledge_of, action_at, StandsAt, held_in}
+use Rattle.gt_core.proofs.Words.{pins_at, GoesOn, Goes, Starts, Nothing, Step, Action, Rests, Pins, most_steps}
+use Rattle.gt_core.proofs.Words.{steps_left, Item, Began, Answer, Open, State, state_of, kept_by, with_call, History}
+use Rattle.gt_core.proofs.Words.{Setting, table_at, known_at, Underway, open_call, legs_at, one_if_mapped, stood}
+use Rattle.gt_core.proofs.Words.{AnsweredBy, GivesValue, refusal_in, refusal_of, IsRight, IsClean, phase_refusal}
+use Rattle.gt_core.proofs.Words.{FitsAsked, PhaseStands, OpenAgrees, CallAgrees, FitsGiven, GivenAgrees, Agrees}
+use Rattle.gt_core.proofs.Words.{StateAgrees, DomainsStand, Opens, numbered, misses, ◌^◌, IsSaid, first_phase, IsAt}
+use Rattle.gt_core.proofs.Words.{pins_by_call, steps_to_come, asks_memory, WantsMemory, IsOpened, answer_of, cond_both}
+use Rattle.gt_core.proofs.Words.{StartOpen, OpeningOpen}
+use Rattle.gt_core.{specs.Standing.IsMapping, proofs.Keeping.KeepsEntries, proofs.Keeping.known-same}
+use Rattle.gt_core.{proofs.Keeping.open_call-own, proofs.Keeping.stood-own, proofs.Keeping.given-none}
+use Rattle.gt_core.{proofs.Keeping.quiet-stands, proofs.Steps.Observers.KeepsKnown, proofs.Steps.Observers.kept-known}
+use Rattle.gt_core.{proofs.Steps.Observers.kept-legs, proofs.Rows.has_id, proofs.Rows.found, proofs.Rows.not-found}
+use Rattle.gt_core.{proofs.Rows.state_of-set}
 use Rattle.gt_calls.specs.declared.request.Request.TheVariants as requests
 
 -- beginnings

@@ -1,6 +1,22 @@
 -- What holds of each step of an open call: a line for each phase, by the file of the step that it makes.
-use Rattle.gt_core.proofs.Words.{◌≡◌, ◌≢◌, ◌⊎◌, inl, inr, ℕ, refl, false, List, [], ◌∷◌, Option, Some, None, sym, ap, subst, ◌==◌, domain_of, DomId, GrantRef, Change, control_of, Asked, Copy, CopyArgs, Step, Exchange, Seen, Taken, Missed, Makes, Aim, Mapping, Source, Dest, Phase, Storing, StoringSecond, Exchanging, Looking, Changing, Walking, Accessing, Asking, Last, Ending, Leg, LegPhase, Pinning, LegNext, Going, LegRefused, Pinned, last_first, pins_so_far, CallerKnowledge, begun, path, is_stopped, IsFor, phase_after, action_at, after_leg, leg_after, leg_step, HasShown, State, History, Setting, word_at, known_at, seen_by, StepsSoFar, PhaseStands, cond_both, Denial, legs_at, numbered, pins_at, reverse, refusal_in, IsClean, LeavesAll, first_at, is_demote, LegStands, Bool, true, eqb-true}
-use Rattle.gt_core.proofs.{Phases.OfAction, Phases.IsHere, Phases.words-of, Phases.by-quiet, Legs.Words, Legs.ComesTo, Legs.IsLegOf, Aims.pair_of, Aims.leg-here, Legs.as-tried, Phases.Judged, Steps.Look.asked-judged, Steps.Look.look-judged, Steps.Exchange.once-judged, Steps.Store.stored-refusal, Steps.Exchange.turn-below, Outcomes.after-plain, Steps.See.word-shows, Steps.See.IsWithin, Steps.Look.asks-run, Phases.by-giving, Phases.by-leg, Steps.Look.leg-within, Phases.state-some, Steps.Exchange.word-below, Phases.LeavesOrEnds, Phases.Leads, Steps.Exchange.turn-leads, Steps.Unpin.then-none, Phases.Placed, Steps.Unpin.give-placed, Steps.Pin.missed-comes, Steps.Look.looks-come, Steps.Store.IsStore, Steps.Pin.taken-leads, Steps.Look.look-placed}
+use Rattle.gt_core.proofs.Words.{◌≡◌, ◌≢◌, ◌⊎◌, inl, inr, ℕ, refl, false, List, [], ◌∷◌, Option, Some, None, sym, ap}
+use Rattle.gt_core.proofs.Words.{subst, ◌==◌, domain_of, DomId, GrantRef, Change, control_of, Asked, Copy, CopyArgs}
+use Rattle.gt_core.proofs.Words.{Step, Exchange, Seen, Taken, Missed, Makes, Aim, Mapping, Source, Dest, Phase, Storing}
+use Rattle.gt_core.proofs.Words.{StoringSecond, Exchanging, Looking, Changing, Walking, Accessing, Asking, Last, Ending}
+use Rattle.gt_core.proofs.Words.{Leg, LegPhase, Pinning, LegNext, Going, LegRefused, Pinned, last_first, pins_so_far}
+use Rattle.gt_core.proofs.Words.{CallerKnowledge, begun, path, is_stopped, IsFor, phase_after, action_at, after_leg}
+use Rattle.gt_core.proofs.Words.{leg_after, leg_step, HasShown, State, History, Setting, word_at, known_at, seen_by}
+use Rattle.gt_core.proofs.Words.{StepsSoFar, PhaseStands, cond_both, Denial, legs_at, numbered, pins_at, reverse}
+use Rattle.gt_core.proofs.Words.{refusal_in, IsClean, LeavesAll, first_at, is_demote, LegStands, Bool, true, eqb-true}
+use Rattle.gt_core.proofs.{Phases.OfAction, Phases.IsHere, Phases.words-of, Phases.by-quiet, Legs.Words, Legs.ComesTo}
+use Rattle.gt_core.proofs.{Legs.IsLegOf, Aims.pair_of, Aims.leg-here, Legs.as-tried, Phases.Judged}
+use Rattle.gt_core.proofs.{Steps.Look.asked-judged, Steps.Look.look-judged, Steps.Exchange.once-judged}
+use Rattle.gt_core.proofs.{Steps.Store.stored-refusal, Steps.Exchange.turn-below, Outcomes.after-plain}
+use Rattle.gt_core.proofs.{Steps.See.word-shows, Steps.See.IsWithin, Steps.Look.asks-run, Phases.by-giving}
+use Rattle.gt_core.proofs.{Phases.by-leg, Steps.Look.leg-within, Phases.state-some, Steps.Exchange.word-below}
+use Rattle.gt_core.proofs.{Phases.LeavesOrEnds, Phases.Leads, Steps.Exchange.turn-leads, Steps.Unpin.then-none}
+use Rattle.gt_core.proofs.{Phases.Placed, Steps.Unpin.give-placed, Steps.Pin.missed-comes, Steps.Look.looks-come}
+use Rattle.gt_core.proofs.{Steps.Store.IsStore, Steps.Pin.taken-leads, Steps.Look.look-placed}
 
 -- the pins of a walk that ends are a copy's, or none
 walk-over : (k : CallerKnowledge) (d : DomId) (r : Asked) (aim : Aim) (l : Leg) → IsFor k d r aim l → (last_first (pins_so_far aim) ≡ []) ⊎ ((copy : CopyArgs) × (r ≡ Copy copy) × Unit {0})

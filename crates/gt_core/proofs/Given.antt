@@ -1,5 +1,12 @@
 -- The handles that domains were answered: each serial once, and each mapping under one of them.
-use Rattle.gt_core.proofs.Words.{◌≡◌, ◌≤◌, ◌<◌, ◌+◌, inl, inr, ℕ, refl, Bool, true, false, List, [], ◌∷◌, Option, Some, None, cond, sym, ap, ◌∙◌, subst, arith, ◌==◌, ◌&&◌, eqb-true, eq-eqb, DomId, Denial, Handle, END_OF_SERIALS, Asked, Holder, ByMapping, ByLeg, Held, Seen, Step, Unpin, Makes, Verdict, asked, CallerKnowledge, begun, Continuation, after_beginning, steps_of, IsMapping, Answer, Happened, Began, Stepped, Item, History, Setting, Underway, Pin, live, same_handle, pinned_by, unpinned_by, open_call, underway_after, maps_answered_at, one_if_mapped, known_at, values, IsRight, StepsRightIn, AnsweredBy, bare_handle, IsGiven, IsKnown, AsksKnown, HappensKnown, IsRun, cond_both, All-nil, All}
+use Rattle.gt_core.proofs.Words.{◌≡◌, ◌≤◌, ◌<◌, ◌+◌, inl, inr, ℕ, refl, Bool, true, false, List, [], ◌∷◌, Option, Some}
+use Rattle.gt_core.proofs.Words.{None, cond, sym, ap, ◌∙◌, subst, arith, ◌==◌, ◌&&◌, eqb-true, eq-eqb, DomId, Denial}
+use Rattle.gt_core.proofs.Words.{Handle, END_OF_SERIALS, Asked, Holder, ByMapping, ByLeg, Held, Seen, Step, Unpin}
+use Rattle.gt_core.proofs.Words.{Makes, Verdict, asked, CallerKnowledge, begun, Continuation, after_beginning, steps_of}
+use Rattle.gt_core.proofs.Words.{IsMapping, Answer, Happened, Began, Stepped, Item, History, Setting, Underway, Pin}
+use Rattle.gt_core.proofs.Words.{live, same_handle, pinned_by, unpinned_by, open_call, underway_after, maps_answered_at}
+use Rattle.gt_core.proofs.Words.{one_if_mapped, known_at, values, IsRight, StepsRightIn, AnsweredBy, bare_handle}
+use Rattle.gt_core.proofs.Words.{IsGiven, IsKnown, AsksKnown, HappensKnown, IsRun, cond_both, All-nil, All}
 use Rattle.std.proofs.lemmas.List.Elements.{All-append, All-weaker}
 use Rattle.gt_core.proofs.{Steps.Observers.all-without}
 use Rattle.gt_core.specs.declared.trace.Answer.TheVariants as answers

@@ -1,11 +1,26 @@
 -- Every legal history can go on.
-use Rattle.gt_core.proofs.Words.{◌≡◌, ◌≢◌, ◌==◌, ◌<◌, ℕ, refl, true, false, List, [], ◌∷◌, ◌++◌, length, Option, Some, None, Bool, cond, cond_both, sym, ap, ◌∙◌, subst, reverse, same_Some, none-some, eqb-true, position-Some, position, get_or, set, slice_get, is_some, DomId, domain_of, Handle, Held, HandleMap, Asked, Seen, Nothing, Verdict, Granted, Given, KeptPin, Refused, Step, PinStep, ReadBytes, Action, Makes, Done, Call, Phase, knowledge_of, CallerKnowledge, path, action_at, Goes, Starts, Open, Item, Answer, AnswerDone, Mapped, State, state_of, sees, History, Setting, known_at, seen_by, Underway, values, open_call, DomainsStand, Agrees, CallAgrees, OpenAgrees, StateAgrees, applied, with_underway, with_mapping, Adds, AccessedBy, FrameSet, IsRight, CoreStands, FramesStand, core_of, Settled, Closed, answer_with, ticked_with, ticked_element, MayDo, grown, MappingsAgree, mappings_at, maps_answered_at, begun_of, asked, IsSaid, Request, table_at, Begin, Tick, journal_in, map, WriteBytes, CopyBytes, Denied, Did, Element, eq-eqb, CoreState, unwrap_or, nat_lt, replicate, WriteRecord, IsTrue, all_rightful, frames_of_all, pool_number, AreKept, all_zeros, frame_counts, first_state}
+use Rattle.gt_core.proofs.Words.{◌≡◌, ◌≢◌, ◌==◌, ◌<◌, ℕ, refl, true, false, List, [], ◌∷◌, ◌++◌, length, Option, Some}
+use Rattle.gt_core.proofs.Words.{None, Bool, cond, cond_both, sym, ap, ◌∙◌, subst, reverse, same_Some, none-some}
+use Rattle.gt_core.proofs.Words.{eqb-true, position-Some, position, get_or, set, slice_get, is_some, DomId, domain_of}
+use Rattle.gt_core.proofs.Words.{Handle, Held, HandleMap, Asked, Seen, Nothing, Verdict, Granted, Given, KeptPin}
+use Rattle.gt_core.proofs.Words.{Refused, Step, PinStep, ReadBytes, Action, Makes, Done, Call, Phase, knowledge_of}
+use Rattle.gt_core.proofs.Words.{CallerKnowledge, path, action_at, Goes, Starts, Open, Item, Answer, AnswerDone, Mapped}
+use Rattle.gt_core.proofs.Words.{State, state_of, sees, History, Setting, known_at, seen_by, Underway, values}
+use Rattle.gt_core.proofs.Words.{open_call, DomainsStand, Agrees, CallAgrees, OpenAgrees, StateAgrees, applied}
+use Rattle.gt_core.proofs.Words.{with_underway, with_mapping, Adds, AccessedBy, FrameSet, IsRight, CoreStands}
+use Rattle.gt_core.proofs.Words.{FramesStand, core_of, Settled, Closed, answer_with, ticked_with, ticked_element, MayDo}
+use Rattle.gt_core.proofs.Words.{grown, MappingsAgree, mappings_at, maps_answered_at, begun_of, asked, IsSaid, Request}
+use Rattle.gt_core.proofs.Words.{table_at, Begin, Tick, journal_in, map, WriteBytes, CopyBytes, Denied, Did, Element}
+use Rattle.gt_core.proofs.Words.{eq-eqb, CoreState, unwrap_or, nat_lt, replicate, WriteRecord, IsTrue, all_rightful}
+use Rattle.gt_core.proofs.Words.{frames_of_all, pool_number, AreKept, all_zeros, frame_counts, first_state}
 use Rattle.gt_calls.specs.Machine.{standing_after}
 use Rattle.gt_frames.specs.declared.places.FrameCount.{FrameCount}
 use Rattle.gt_calls.specs.Asking.{FitsAsked, given_by, judged_as}
 use Rattle.gt_calls.proofs.Advancing.{continues, opens as starts-open}
 use Rattle.gt_calls.specs.declared.call.Start.TheVariants.{Open as StartOpen}
-use Rattle.gt_core.specs.GoingOn.{AccessAnsweredSo, AnsweredSo, CallsCanBegin, IsAccess, IsOnWords, IsReached, MayBeGiven, OpenCallsCanAccess, OpenCallsCanGoOn, RunsStart, TellsAccess, begin_answer, beginning, step_after}
+use Rattle.gt_core.specs.GoingOn.{AccessAnsweredSo, AnsweredSo, CallsCanBegin, IsAccess, IsOnWords, IsReached}
+use Rattle.gt_core.specs.GoingOn.{MayBeGiven, OpenCallsCanAccess, OpenCallsCanGoOn, RunsStart, TellsAccess}
+use Rattle.gt_core.specs.GoingOn.{begin_answer, beginning, step_after}
 use Rattle.std.proofs.Common.{◌+◌, ◌-◌, ◌≤◌, arith, drop, length-drop, slice_range, take}
 use Rattle.std.proofs.lemmas.Bool.Decides.{nat_tests}
 use Rattle.std.proofs.lemmas.List.{length-take-le}
@@ -22,9 +37,14 @@ use Rattle.gt_core.specs.Accesses.{IsAdmitted, ground_of, name_of, route_of}
 use Rattle.gt_core.specs.History.{contents_at}
 use Rattle.gt_core.specs.declared.trace.Answer.TheVariants.{Bytes as BytesAnswer}
 use Rattle.gt_core.specs.declared.trace.Bytes.{Bytes}
-use Rattle.gt_core.specs.Standing.{answer_of, IsOpened}
+use Rattle.gt_core.specs.Acting.{answer_of, IsOpened}
 use Rattle.gt_core.specs.declared.core_state.Begun.TheVariants.{Open as BegunOpen, Done as BegunDone}
-use Rattle.gt_core.proofs.{Beginning.begin-answers, Beginning.begin-opened, Beginning.not-done, Beginning.opened, Keeping.known-same, Performing.kept-part, Performing.stepped-state, Playing.core-starts, Playing.legal-grows, Starting.get-replicate, Rows.found, Rows.has_id, Rows.not-found, Rows.state_of-set, Steps.Observers.stepped, Steps.Write.frames-begun, Steps.Write.frames-start, Stepping.Begins, Stepping.tick-does, Ticking.Ticks, Ticking.ticks, Values.call-ends, Beginning.place-at}
+use Rattle.gt_core.proofs.{Beginning.begin-answers, Beginning.begin-opened, Beginning.not-done, Beginning.opened}
+use Rattle.gt_core.proofs.{Keeping.known-same, Performing.kept-part, Performing.stepped-state, Playing.core-starts}
+use Rattle.gt_core.proofs.{Playing.legal-grows, Starting.get-replicate, Rows.found, Rows.has_id, Rows.not-found}
+use Rattle.gt_core.proofs.{Rows.state_of-set, Steps.Observers.stepped, Steps.Write.frames-begun}
+use Rattle.gt_core.proofs.{Steps.Write.frames-start, Stepping.Begins, Stepping.tick-does, Ticking.Ticks, Ticking.ticks}
+use Rattle.gt_core.proofs.{Values.call-ends, Beginning.place-at}
 use Rattle.gt_core.proofs.Starting.{starts as domains-start}
 
 -- the state of a domain of the run

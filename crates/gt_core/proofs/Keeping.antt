@@ -1,6 +1,22 @@
 -- What stays of a core's agreement with a history after one item more.
-use Rattle.gt_core.proofs.Words.{◌≡◌, ◌≢◌, ◌<◌, ◌+◌, ℕ, refl, Bool, true, false, List, ◌∷◌, length, Option, Some, None, cond, sym, ap, ◌∙◌, subst, eqb-true, eq-eqb, none-some, domain_of, ◌==◌, ◌&&◌, All, count_by, slice_get, option_map, fun_ext, DomId, Read, Write, TABLE_ENTRIES, Entry, Header, Half, IsEntry, HandleMap, Held, control_with, knowledge_of, PinCounts, Open, Item, changed_at, State, state_of, changed_in, History, Setting, live, entry_at, generation_at, body_at, table_at, reads_at, writes_at, control_at, known_at, mappings_at, maps_answered_at, is_pin_on, open_call, underway_after, Underway, change_at, stored_at, header_stored, stood, first_of_item, IsLawful, FitsTable, FitsWord, SlotAgrees, MappingsAgree, Agrees, StateAgrees, DomainsStand, CallAgrees, GivenAgrees, Dir, by_mapping, slot_after, with_slot, stood_with, MAX_PINS, cond_both, CountsChange, arith}
-use Rattle.gt_core.proofs.{Rows.get-changed, Rows.length-changed, Rows.state-changed, Mappings.mappings-same, Steps.Observers.pulled, Steps.Observers.unstored, Steps.Observers.KeepsKnown, Steps.Observers.KeepsAll, Steps.Observers.cond-same, Steps.Observers.kept-table, Steps.Observers.kept-live, Steps.Observers.answered-stays, Steps.Observers.kept-entry, Steps.Observers.kept-raises, Steps.Observers.other-entry, Steps.Observers.other-body, Steps.Observers.other-maps, Steps.Observers.other-raises, Steps.Observers.other-pins, Steps.Observers.other-table, Steps.Observers.other-known, Staying.place-stays}
+use Rattle.gt_core.proofs.Words.{◌≡◌, ◌≢◌, ◌<◌, ◌+◌, ℕ, refl, Bool, true, false, List, ◌∷◌, length, Option, Some, None}
+use Rattle.gt_core.proofs.Words.{cond, sym, ap, ◌∙◌, subst, eqb-true, eq-eqb, none-some, domain_of, ◌==◌, ◌&&◌, All}
+use Rattle.gt_core.proofs.Words.{count_by, slice_get, option_map, fun_ext, DomId, Read, Write, TABLE_ENTRIES, Entry}
+use Rattle.gt_core.proofs.Words.{Header, Half, IsEntry, HandleMap, Held, control_with, knowledge_of, PinCounts, Open}
+use Rattle.gt_core.proofs.Words.{Item, changed_at, State, state_of, changed_in, History, Setting, live, entry_at}
+use Rattle.gt_core.proofs.Words.{generation_at, body_at, table_at, reads_at, writes_at, control_at, known_at}
+use Rattle.gt_core.proofs.Words.{mappings_at, maps_answered_at, is_pin_on, open_call, underway_after, Underway}
+use Rattle.gt_core.proofs.Words.{change_at, stored_at, header_stored, stood, first_of_item, IsLawful, FitsTable}
+use Rattle.gt_core.proofs.Words.{FitsWord, SlotAgrees, MappingsAgree, Agrees, StateAgrees, DomainsStand, CallAgrees}
+use Rattle.gt_core.proofs.Words.{GivenAgrees, Dir, by_mapping, slot_after, with_slot, stood_with, MAX_PINS, cond_both}
+use Rattle.gt_core.proofs.Words.{CountsChange, arith}
+use Rattle.gt_core.proofs.{Rows.get-changed, Rows.length-changed, Rows.state-changed, Mappings.mappings-same}
+use Rattle.gt_core.proofs.{Steps.Observers.pulled, Steps.Observers.unstored, Steps.Observers.KeepsKnown}
+use Rattle.gt_core.proofs.{Steps.Observers.KeepsAll, Steps.Observers.cond-same, Steps.Observers.kept-table}
+use Rattle.gt_core.proofs.{Steps.Observers.kept-live, Steps.Observers.answered-stays, Steps.Observers.kept-entry}
+use Rattle.gt_core.proofs.{Steps.Observers.kept-raises, Steps.Observers.other-entry, Steps.Observers.other-body}
+use Rattle.gt_core.proofs.{Steps.Observers.other-maps, Steps.Observers.other-raises, Steps.Observers.other-pins}
+use Rattle.gt_core.proofs.{Steps.Observers.other-table, Steps.Observers.other-known, Staying.place-stays}
 
 -- what a domain itself knows is what the core keeps of it
 pub known-same : (s : Setting) (h : History) (d : State) → Agrees s h d

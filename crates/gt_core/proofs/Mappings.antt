@@ -1,5 +1,9 @@
 -- The handles of a domain, and its mappings as the history has them.
-use Rattle.gt_core.proofs.Words.{◌≡◌, ◌+◌, ℕ, zero, suc, refl, Bool, true, false, List, [], ◌∷◌, ◌++◌, length, Option, Some, None, cond, sym, ap, ◌∙◌, arith, subst, ◌==◌, fun_ext, eqb-true, true≢false, none-some, length-append, sum_by-cons, Handle, HandleMap, value_of, count_of, Held, mapping_of, same_handle, Adds, taken, MappingsAgree, slice_index_or, slice_set, AreApart, Slot}
+use Rattle.gt_core.proofs.Words.{◌≡◌, ◌+◌, ℕ, zero, suc, refl, Bool, true, false, List, [], ◌∷◌, ◌++◌, length, Option}
+use Rattle.gt_core.proofs.Words.{Some, None, cond, sym, ap, ◌∙◌, arith, subst, ◌==◌, fun_ext, eqb-true, true≢false}
+use Rattle.gt_core.proofs.Words.{none-some, length-append, sum_by-cons, Handle, HandleMap, value_of, count_of, Held}
+use Rattle.gt_core.proofs.Words.{mapping_of, same_handle, Adds, taken, MappingsAgree, slice_index_or, slice_set}
+use Rattle.gt_core.proofs.Words.{AreApart, Slot}
 use Rattle.std.{proofs.Common.is_some, proofs.Common.count_by, specs.Cmp.both_ways}
 use Rattle.gt_core.proofs.{Steps.Observers.cond-same, Steps.Observers.cond-apart}
 

@@ -1,6 +1,17 @@
 -- A call goes on from the states as its step left them: it comes to the same as from those before it, and what it leaves
 -- is what the step would leave after it.
-use Rattle.gt_core.proofs.Words.{◌≡◌, ◌<◌, ◌==◌, ℕ, zero, suc, refl, Bool, List, [], ◌∷◌, length, Option, Some, None, cond, ltb, sym, ap, ◌∙◌, subst, arith, same_Some, slice_get, get_or, set, position, position_or_len, DomId, DomainConfig, TypeId, Perms, Own, Header, HandleMap, Held, Entry, Via, CopyArgs, Route, Seen, Taken, Granted, Given, KeptPin, Refused, Step, PinStep, Unpin, StoreBody, StoreHeader, Exchange, ReadBytes, Action, Makes, Done, Call, Phase, Storing, StoringSecond, Walking, Aim, Mapping, Source, Dest, Leg, LegNext, Going, LegRefused, Pinned, CallerKnowledge, knowledge_of, phase_after, after_leg, after_source_pin, after_dest_pin, leg_after, action_at, Open, Answer, State, changed_in, applied, with_slot, with_own, with_header, without_mapping, with_underway, with_mapping, Settled, Closed, FrameSet, Adds, History, Setting, Underway, OpenAgrees, Unpinned, Stored, Holder, ByMapping, ByLeg, GrantRef, Half, FirstHalf, SecondHalf, first_body, second_body, AnswerDone, cond_both, position-Some, slice_get-get_or}
+use Rattle.gt_core.proofs.Words.{◌≡◌, ◌<◌, ◌==◌, ℕ, zero, suc, refl, Bool, List, [], ◌∷◌, length, Option, Some, None}
+use Rattle.gt_core.proofs.Words.{cond, ltb, sym, ap, ◌∙◌, subst, arith, same_Some, slice_get, get_or, set, position}
+use Rattle.gt_core.proofs.Words.{position_or_len, DomId, DomainConfig, TypeId, Perms, Own, Header, HandleMap, Held}
+use Rattle.gt_core.proofs.Words.{Entry, Via, CopyArgs, Route, Seen, Taken, Granted, Given, KeptPin, Refused, Step}
+use Rattle.gt_core.proofs.Words.{PinStep, Unpin, StoreBody, StoreHeader, Exchange, ReadBytes, Action, Makes, Done, Call}
+use Rattle.gt_core.proofs.Words.{Phase, Storing, StoringSecond, Walking, Aim, Mapping, Source, Dest, Leg, LegNext}
+use Rattle.gt_core.proofs.Words.{Going, LegRefused, Pinned, CallerKnowledge, knowledge_of, phase_after, after_leg}
+use Rattle.gt_core.proofs.Words.{after_source_pin, after_dest_pin, leg_after, action_at, Open, Answer, State}
+use Rattle.gt_core.proofs.Words.{changed_in, applied, with_slot, with_own, with_header, without_mapping, with_underway}
+use Rattle.gt_core.proofs.Words.{with_mapping, Settled, Closed, FrameSet, Adds, History, Setting, Underway, OpenAgrees}
+use Rattle.gt_core.proofs.Words.{Unpinned, Stored, Holder, ByMapping, ByLeg, GrantRef, Half, FirstHalf, SecondHalf}
+use Rattle.gt_core.proofs.Words.{first_body, second_body, AnswerDone, cond_both, position-Some, slice_get-get_or}
 use Rattle.gt_calls.specs.Following.{IsLeftAlike}
 use Rattle.gt_core.specs.declared.pin_counts.CountsChange.{CountsChange}
 use Rattle.gt_core.specs.declared.pin_counts.CountsChange.TheVariants.{Pinned as PinnedCount}

@@ -1,5 +1,15 @@
 -- An open call by its phase: which steps it may make, and what there is to show of each (EachStep does).
-use Rattle.gt_core.proofs.Words.{◌≡◌, ◌≢◌, ℕ, refl, Bool, false, List, [], ◌∷◌, Option, Some, None, cond, sym, ap, ◌∙◌, subst, reverse, ◌==◌, is_none, eq-eqb, true≢false, none-some, domain_of, DomId, GrantRef, DomainConfig, Publish, Held, Asked, Verdict, Step, LookHeader, LookControl, LookBody, PinStep, Unpin, StoreBody, StoreHeader, Exchange, ReadBytes, WriteBytes, Seen, Taken, Missed, Action, Makes, Done, Phase, Leg, LegPhase, AtHeader, Look, Body, last_first, begun, FitsStep, action_at, leg_step, next_to_give, IsQuiet, StandsAt, State, state_of, History, Setting, word_at, known_at, seen_by, legs_at, StepsSoFar, DomainsStand, StateAgrees, PhaseStands, numbered, pins_at, Rests, FitsAsked, length, ByLeg, IsExchanged, CallerKnowledge, Handle, ByMapping, Half, Call, FirstHalf, SecondHalf, Second, Pinning, Relook, held_of, cond_both, IsLegalHistory, ◌⊎◌, option_or, Denial, phase_after, LeavesAll, first_at, IsClean, phase_refusal}
+use Rattle.gt_core.proofs.Words.{◌≡◌, ◌≢◌, ℕ, refl, Bool, false, List, [], ◌∷◌, Option, Some, None, cond, sym, ap, ◌∙◌}
+use Rattle.gt_core.proofs.Words.{subst, reverse, ◌==◌, is_none, eq-eqb, true≢false, none-some, domain_of, DomId}
+use Rattle.gt_core.proofs.Words.{GrantRef, DomainConfig, Publish, Held, Asked, Verdict, Step, LookHeader, LookControl}
+use Rattle.gt_core.proofs.Words.{LookBody, PinStep, Unpin, StoreBody, StoreHeader, Exchange, ReadBytes, WriteBytes}
+use Rattle.gt_core.proofs.Words.{Seen, Taken, Missed, Action, Makes, Done, Phase, Leg, LegPhase, AtHeader, Look, Body}
+use Rattle.gt_core.proofs.Words.{last_first, begun, FitsStep, action_at, leg_step, next_to_give, IsQuiet, StandsAt}
+use Rattle.gt_core.proofs.Words.{State, state_of, History, Setting, word_at, known_at, seen_by, legs_at, StepsSoFar}
+use Rattle.gt_core.proofs.Words.{DomainsStand, StateAgrees, PhaseStands, numbered, pins_at, Rests, FitsAsked, length}
+use Rattle.gt_core.proofs.Words.{ByLeg, IsExchanged, CallerKnowledge, Handle, ByMapping, Half, Call, FirstHalf}
+use Rattle.gt_core.proofs.Words.{SecondHalf, Second, Pinning, Relook, held_of, cond_both, IsLegalHistory, ◌⊎◌}
+use Rattle.gt_core.proofs.Words.{option_or, Denial, phase_after, LeavesAll, first_at, IsClean, phase_refusal}
 use Rattle.gt_core.proofs.{Steps.See.word-shows, Steps.See.table-fits, Legs.Words, Entries.spelled}
 
 pub none-of : (k : CallerKnowledge) (d : DomId) (r q : Asked) → r ≡ q → begun k d r ≡ None → begun k d q ≡ None

@@ -1,6 +1,14 @@
 -- The live pins and the mappings are the same without keys, where each handle that is named is told by its serial.
-use Rattle.gt_core.proofs.Words.{◌≡◌, ◌+◌, ℕ, refl, Bool, true, List, [], ◌∷◌, ◌++◌, length, Option, Some, cond, sym, ap, ◌∙◌, subst, ◌==◌, count_by, option_map, eqb-true, sum_by-cons, fun_ext, DomId, Dir, Read, Write, Entry, Handle, Holder, ByMapping, ByLeg, Held, Seen, Taken, PinStep, Unpin, Answer, Happened, Stepped, History, Setting, Pin, live, without, is_holder, same_handle, holder_after, gather, by_leg, by_mapping, pinned_by, unpinned_by, is_pin_on, reads_at, writes_at, mappings_at, mapping_of, entry_at, generation_at, word_at, known_at, shown_at, subject_at, bare_handle, bare_happened, told, IsGiven, IsKnown, IsRun, AreAlike, map, map-append, length-map, All-head, All-tail, All, arith}
-use Rattle.gt_core.proofs.{Bare.bare-same, Bare.answer_from, Bare.bare, Bare.bared, Given.HeldGiven, Given.PinsGiven, Given.pins-given, Given.known-tells, Given.unpin-known}
+use Rattle.gt_core.proofs.Words.{◌≡◌, ◌+◌, ℕ, refl, Bool, true, List, [], ◌∷◌, ◌++◌, length, Option, Some, cond, sym}
+use Rattle.gt_core.proofs.Words.{ap, ◌∙◌, subst, ◌==◌, count_by, option_map, eqb-true, sum_by-cons, fun_ext, DomId, Dir}
+use Rattle.gt_core.proofs.Words.{Read, Write, Entry, Handle, Holder, ByMapping, ByLeg, Held, Seen, Taken, PinStep}
+use Rattle.gt_core.proofs.Words.{Unpin, Answer, Happened, Stepped, History, Setting, Pin, live, without, is_holder}
+use Rattle.gt_core.proofs.Words.{same_handle, holder_after, gather, by_leg, by_mapping, pinned_by, unpinned_by}
+use Rattle.gt_core.proofs.Words.{is_pin_on, reads_at, writes_at, mappings_at, mapping_of, entry_at, generation_at}
+use Rattle.gt_core.proofs.Words.{word_at, known_at, shown_at, subject_at, bare_handle, bare_happened, told, IsGiven}
+use Rattle.gt_core.proofs.Words.{IsKnown, IsRun, AreAlike, map, map-append, length-map, All-head, All-tail, All, arith}
+use Rattle.gt_core.proofs.{Bare.bare-same, Bare.answer_from, Bare.bare, Bare.bared, Given.HeldGiven, Given.PinsGiven}
+use Rattle.gt_core.proofs.{Given.pins-given, Given.known-tells, Given.unpin-known}
 use Rattle.std.proofs.lemmas.List.Elements.{All-weaker}
 
 abbrev pub bare_holder : Holder → Holder

@@ -1,5 +1,10 @@
 -- One event more, and what stands for each event.
-use Rattle.gt_core.proofs.Words.{◌≡◌, ◌<◌, ◌+◌, ℕ, refl, length, get_or, take, List, [], ◌∷◌, ◌++◌, sym, ap, ◌∙◌, subst, take_more, Event, Element, Result, OnErr, DomId, TypeId, Perms, Config, Request, frame_counts, FrameSet, all_zeros, AreKept, Begin, Tick, Begun, State, DomainsStand, CoreStands, Does, setting_of, begun_element, ticked_element, History, Setting, LegalAfter, MayDo, grown, history_after, IfOk, Ok, Err, Ticked, CoreState, StandsForSome, DoesAlone, Memory, Bool, zeros, stands, Did, IsLegalHistory}
+use Rattle.gt_core.proofs.Words.{◌≡◌, ◌<◌, ◌+◌, ℕ, refl, length, get_or, take, List, [], ◌∷◌, ◌++◌, sym, ap, ◌∙◌, subst}
+use Rattle.gt_core.proofs.Words.{take_more, Event, Element, Result, OnErr, DomId, TypeId, Perms, Config, Request}
+use Rattle.gt_core.proofs.Words.{frame_counts, FrameSet, all_zeros, AreKept, Begin, Tick, Begun, State, DomainsStand}
+use Rattle.gt_core.proofs.Words.{CoreStands, Does, setting_of, begun_element, ticked_element, History, Setting}
+use Rattle.gt_core.proofs.Words.{LegalAfter, MayDo, grown, history_after, IfOk, Ok, Err, Ticked, CoreState}
+use Rattle.gt_core.proofs.Words.{StandsForSome, DoesAlone, Memory, Bool, zeros, stands, Did, IsLegalHistory}
 use Rattle.gt_core.proofs.{Steps.Write.frames-begun, Steps.Write.frames-start}
 use Rattle.gt_core.specs.States.{core_of}
 

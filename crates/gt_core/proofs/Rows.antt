@@ -1,5 +1,9 @@
 -- A change of one element of a list; the state of a domain among the states, and a change of it.
-use Rattle.gt_core.proofs.Words.{◌≡◌, ◌<◌, ◌≤◌, ℕ, zero, suc, refl, Bool, true, false, List, [], ◌∷◌, length, Some, None, cond, ltb, ap, ◌∙◌, arith, get_or, set, eqb-true, eq-eqb, ltb-false, position-Some, slice_get_past, slice_get-get_or, Result, OnErr, position, slice_get, ◌==◌, position_or_len, State, find, cond_both, find_at, option_map, changed_at, state_of, changed_in}
+use Rattle.gt_core.proofs.Words.{◌≡◌, ◌<◌, ◌≤◌, ℕ, zero, suc, refl, Bool, true, false, List, [], ◌∷◌, length, Some}
+use Rattle.gt_core.proofs.Words.{None, cond, ltb, ap, ◌∙◌, arith, get_or, set, eqb-true, eq-eqb, ltb-false}
+use Rattle.gt_core.proofs.Words.{position-Some, slice_get_past, slice_get-get_or, Result, OnErr, position, slice_get}
+use Rattle.gt_core.proofs.Words.{◌==◌, position_or_len, State, find, cond_both, find_at, option_map, changed_at}
+use Rattle.gt_core.proofs.Words.{state_of, changed_in}
 
 abbrev pub has_id : ℕ → State → Bool
 has_id d x = x.id.0 == d

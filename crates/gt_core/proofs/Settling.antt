@@ -1,5 +1,12 @@
 -- How a call that nothing stood against is over, and how long the states are after a step.
-use Rattle.gt_core.proofs.Words.{◌≡◌, ◌++◌, ℕ, refl, List, length, take, ap, ◌∙◌, DomId, Step, PinStep, Unpin, StoreBody, StoreHeader, Exchange, Seen, Taken, Unpinned, Stored, State, changed_in, applied, with_slot, with_own, with_header, without_mapping, take_more, map-append, ◌<◌, ◌+◌, ◌%◌, map, get_or, [], ◌∷◌, Some, None, sym, set, replicate, min, HandleMap, DomainConfig, Invalid, ENTRIES, LAST_GENERATION, Own, Held, PinCounts, Asked, Load, Peek, ReadBytes, first_state, IsLoading, with_underway, AnswerDone, Closed, IsLoadOf, FrameSet, Answer, Call, Ends, Verdict, Granted, KeptPin, Given, Refused, answer_of, Settled}
+use Rattle.gt_core.proofs.Words.{◌≡◌, ◌++◌, ℕ, refl, List, length, take, ap, ◌∙◌, DomId, Step, PinStep, Unpin}
+use Rattle.gt_core.proofs.Words.{StoreBody, StoreHeader, Exchange, Seen, Taken, Unpinned, Stored, State, changed_in}
+use Rattle.gt_core.proofs.Words.{applied, with_slot, with_own, with_header, without_mapping, take_more, map-append, ◌<◌}
+use Rattle.gt_core.proofs.Words.{◌+◌, ◌%◌, map, get_or, [], ◌∷◌, Some, None, sym, set, replicate, min, HandleMap}
+use Rattle.gt_core.proofs.Words.{DomainConfig, Invalid, ENTRIES, LAST_GENERATION, Own, Held, PinCounts, Asked, Load}
+use Rattle.gt_core.proofs.Words.{Peek, ReadBytes, first_state, IsLoading, with_underway, AnswerDone, Closed, IsLoadOf}
+use Rattle.gt_core.proofs.Words.{FrameSet, Answer, Call, Ends, Verdict, Granted, KeptPin, Given, Refused, answer_of}
+use Rattle.gt_core.proofs.Words.{Settled}
 use Rattle.gt_core.{specs.declared.pin_counts.CountsChange.TheVariants.Pinned, proofs.Rows.length-changed_in}
 
 pub length-applied : (d : DomId) (step : Step) (seen : Seen) (xs : List State) → length (applied d step seen xs) ≡ length xs

@@ -1,7 +1,13 @@
 -- What the core shows of an entry, and of a mapping, is what the history left.
-use Rattle.gt_core.proofs.Words.{◌≡◌, ℕ, Bool, List, Option, Some, None, cond, sym, ap, ◌∙◌, get_or, position, domain_of, DomId, DomainConfig, Handle, value_of, Held, State, History, Setting, mapping_of, mappings_at, DomainsStand, place_of, subject_at, ◌<◌, ◌≤◌, refl, true, false, length, arith, subst, lt-ltb, nat_lt, ◌&&◌, is_some, slice_get, TABLE_ENTRIES, Entry, Header, Own, PinCounts, size_of, row_entry, row_generation, entry_at, generation_at, table_at, shown_at, Agrees, shown_in, le-ltb, entry_shown}
+use Rattle.gt_core.proofs.Words.{◌≡◌, ℕ, Bool, List, Option, Some, None, cond, sym, ap, ◌∙◌, get_or, position}
+use Rattle.gt_core.proofs.Words.{domain_of, DomId, DomainConfig, Handle, value_of, Held, State, History, Setting}
+use Rattle.gt_core.proofs.Words.{mapping_of, mappings_at, DomainsStand, place_of, subject_at, ◌<◌, ◌≤◌, refl, true}
+use Rattle.gt_core.proofs.Words.{false, length, arith, subst, lt-ltb, nat_lt, ◌&&◌, is_some, slice_get, TABLE_ENTRIES}
+use Rattle.gt_core.proofs.Words.{Entry, Header, Own, PinCounts, size_of, row_entry, row_generation, entry_at}
+use Rattle.gt_core.proofs.Words.{generation_at, table_at, shown_at, Agrees, shown_in, le-ltb, entry_shown}
 use Rattle.std.{specs.Prelude.option_map}
-use Rattle.gt_core.proofs.{Beginning.begin-nowhere, Beginning.agrees-found, Rows.has_id, Steps.See.table-fits, Steps.See.some-at}
+use Rattle.gt_core.proofs.{Beginning.begin-nowhere, Beginning.agrees-found, Rows.has_id, Steps.See.table-fits}
+use Rattle.gt_core.proofs.{Steps.See.some-at}
 
 some-domain : (o : Option DomainConfig) → (o ≡ None → ⊥) → is_some o ≡ true
 some-domain None n = absurd (n refl)

@@ -1,5 +1,14 @@
 -- A core at rest stands for the empty history.
-use Rattle.gt_core.proofs.Words.{◌≡◌, ◌<◌, ◌≤◌, ◌+◌, ℕ, refl, Bool, true, false, List, [], ◌∷◌, Option, Some, None, cond, ltb, sym, ap, ◌∙◌, arith, subst, map, replicate, min, get_or, eqb-true, ltb-false, ltb-true, none-some, same_Some, slice_get-get_or, slice_get_past, length-replicate, All-tail, fun_ext, ◌==◌, slice_get, All, option_map, domain_of, DomId, TypeId, Perms, Config, DomainConfig, Invalid, Own, PinCounts, ENTRIES, row_entry, row_generation, State, state_of, first_state, Setting, entry_at, raises_at, body_at, live, maps_answered_at, open_call, table_at, control_at, setting_of, Agrees, StateAgrees, SlotAgrees, FitsTable, FitsWord, IsLawful, DomainsStand, LAST_GENERATION, gather, get_or-replicate, header_from, LAST_VERSION, MAX_TABLE_FRAMES, cond_both, All-nil, IsWithinLimits}
+use Rattle.gt_core.proofs.Words.{◌≡◌, ◌<◌, ◌≤◌, ◌+◌, ℕ, refl, Bool, true, false, List, [], ◌∷◌, Option, Some, None}
+use Rattle.gt_core.proofs.Words.{cond, ltb, sym, ap, ◌∙◌, arith, subst, map, replicate, min, get_or, eqb-true}
+use Rattle.gt_core.proofs.Words.{ltb-false, ltb-true, none-some, same_Some, slice_get-get_or, slice_get_past}
+use Rattle.gt_core.proofs.Words.{length-replicate, All-tail, fun_ext, ◌==◌, slice_get, All, option_map, domain_of}
+use Rattle.gt_core.proofs.Words.{DomId, TypeId, Perms, Config, DomainConfig, Invalid, Own, PinCounts, ENTRIES}
+use Rattle.gt_core.proofs.Words.{row_entry, row_generation, State, state_of, first_state, Setting, entry_at, raises_at}
+use Rattle.gt_core.proofs.Words.{body_at, live, maps_answered_at, open_call, table_at, control_at, setting_of, Agrees}
+use Rattle.gt_core.proofs.Words.{StateAgrees, SlotAgrees, FitsTable, FitsWord, IsLawful, DomainsStand, LAST_GENERATION}
+use Rattle.gt_core.proofs.Words.{gather, get_or-replicate, header_from, LAST_VERSION, MAX_TABLE_FRAMES, cond_both}
+use Rattle.gt_core.proofs.Words.{All-nil, IsWithinLimits}
 use Rattle.gt_core.proofs.{Keeping.given-none, Mappings.no-handles, Steps.Store.room-there}
 
 state-of-map : (g : ℕ) (ds : List DomainConfig) (dom : DomId) → state_of (map (first_state g) ds) dom.0 ≡ option_map (first_state g) (domain_of ds dom)

@@ -1,5 +1,11 @@
 -- Where a call stands, it stands after an item of another domain, and after one that leaves its body words.
-use Rattle.gt_core.proofs.Words.{ℕ, None, Option, Some, arith, refl, subst, sym, ◌+◌, ◌∙◌, ◌∷◌, ◌≡◌, ◌≢◌, ◌≤◌, DomId, Rule, entry_of, first_body, control_of, Change, Publish, ToInvalid, ToWithdrawn, Half, FirstHalf, SecondHalf, Entry, Invalid, first, Phase, Accessing, Exchanging, Storing, StoringSecond, Walking, Leg, LegPhase, Body, AtHeader, Look, Pinning, Relook, Second, Asked, History, Setting, change_of, entry_after, generation_at, raise_after, IsSpelled, StepsSoFar, HasLooked, HasRead, IsShown, LegStands, PhaseStands, WhileSame, Item, body_at, entry_at, raises_at}
+use Rattle.gt_core.proofs.Words.{ℕ, None, Option, Some, arith, refl, subst, sym, ◌+◌, ◌∙◌, ◌∷◌, ◌≡◌, ◌≢◌, ◌≤◌, DomId}
+use Rattle.gt_core.proofs.Words.{Rule, entry_of, first_body, control_of, Change, Publish, ToInvalid, ToWithdrawn, Half}
+use Rattle.gt_core.proofs.Words.{FirstHalf, SecondHalf, Entry, Invalid, first, Phase, Accessing, Exchanging, Storing}
+use Rattle.gt_core.proofs.Words.{StoringSecond, Walking, Leg, LegPhase, Body, AtHeader, Look, Pinning, Relook, Second}
+use Rattle.gt_core.proofs.Words.{Asked, History, Setting, change_of, entry_after, generation_at, raise_after, IsSpelled}
+use Rattle.gt_core.proofs.Words.{StepsSoFar, HasLooked, HasRead, IsShown, LegStands, PhaseStands, WhileSame, Item}
+use Rattle.gt_core.proofs.Words.{body_at, entry_at, raises_at}
 
 same-after : (before first generation : ℕ) (Holds : Entry → Type 0) (entry : Entry) (c : Option Change) → generation ≤ first + before
     → (first + before ≡ generation → entry ≢ Invalid → Holds entry)

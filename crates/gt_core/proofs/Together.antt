@@ -1,7 +1,21 @@
 -- What an event does after a history, but for keys, is a function of the history. It is the same without keys. So runs
 -- that are alike stay so.
-use Rattle.gt_core.proofs.Words.{◌≡◌, ◌≢◌, ◌⊎◌, inl, inr, ℕ, refl, Bool, List, [], ◌∷◌, ◌++◌, Option, Some, None, sym, ap, ◌∙◌, take, drop, option_map, domain_of, DomId, DomainConfig, Denial, MAX_TABLE_FRAMES, Header, header_word, Handle, asked, begun_of, CallerKnowledge, path, Held, Request, Asked, Map, Unmap, Load, Store, Peek, SetupTable, QuerySize, GetVersion, Seen, Word, Step, LookHeader, LookControl, LookBody, PinStep, StoreHeader, Exchange, ReadBytes, Action, Makes, Verdict, Answer, Event, Begin, Tick, Happened, Began, Stepped, Item, Element, Busy, Idle, NoDomain, Did, History, Setting, Underway, open_call, values, known_at, seen_by, exchange_sees, table_at, maps_answered_at, contents_at, mappings_at, mapping_of, MayDo, IsRight, StepsRight, AnsweredBy, refusal_in, verdict_in, bare_handle, bare_request, bare_event, bare_step, told, told_item, ToldItem, AsksKnown, IsOfKnown, IsRun, Ends, BeginsRight, grown, told_items, SameHistory, HappensKnown, AreAlike, IsOf, SameEvent, SameElement, arith}
-use Rattle.gt_core.{proofs.Pins.word-bare, proofs.Pins.mapping-bare, proofs.Pins.known-bare, proofs.Bare.bare, proofs.Bare.bared, proofs.Bare.bare_asked, proofs.Bare.bare_call, proofs.Bare.asked-bare, proofs.Bare.values-bare, proofs.Bare.contents-bare, proofs.Bare.bare-same, proofs.Given.CallKnown, proofs.Given.open-known}
+use Rattle.gt_core.proofs.Words.{◌≡◌, ◌≢◌, ◌⊎◌, inl, inr, ℕ, refl, Bool, List, [], ◌∷◌, ◌++◌, Option, Some, None, sym}
+use Rattle.gt_core.proofs.Words.{ap, ◌∙◌, take, drop, option_map, domain_of, DomId, DomainConfig, Denial}
+use Rattle.gt_core.proofs.Words.{MAX_TABLE_FRAMES, Header, header_word, Handle, asked, begun_of, CallerKnowledge, path}
+use Rattle.gt_core.proofs.Words.{Held, Request, Asked, Map, Unmap, Load, Store, Peek, SetupTable, QuerySize, GetVersion}
+use Rattle.gt_core.proofs.Words.{Seen, Word, Step, LookHeader, LookControl, LookBody, PinStep, StoreHeader, Exchange}
+use Rattle.gt_core.proofs.Words.{ReadBytes, Action, Makes, Verdict, Answer, Event, Begin, Tick, Happened, Began}
+use Rattle.gt_core.proofs.Words.{Stepped, Item, Element, Busy, Idle, NoDomain, Did, History, Setting, Underway}
+use Rattle.gt_core.proofs.Words.{open_call, values, known_at, seen_by, exchange_sees, table_at, maps_answered_at}
+use Rattle.gt_core.proofs.Words.{contents_at, mappings_at, mapping_of, MayDo, IsRight, StepsRight, AnsweredBy}
+use Rattle.gt_core.proofs.Words.{refusal_in, verdict_in, bare_handle, bare_request, bare_event, bare_step, told}
+use Rattle.gt_core.proofs.Words.{told_item, ToldItem, AsksKnown, IsOfKnown, IsRun, Ends, BeginsRight, grown, told_items}
+use Rattle.gt_core.proofs.Words.{SameHistory, HappensKnown, AreAlike, IsOf, SameEvent, SameElement, arith}
+use Rattle.gt_core.{proofs.Pins.word-bare, proofs.Pins.mapping-bare, proofs.Pins.known-bare, proofs.Bare.bare}
+use Rattle.gt_core.{proofs.Bare.bared, proofs.Bare.bare_asked, proofs.Bare.bare_call, proofs.Bare.asked-bare}
+use Rattle.gt_core.{proofs.Bare.values-bare, proofs.Bare.contents-bare, proofs.Bare.bare-same, proofs.Given.CallKnown}
+use Rattle.gt_core.{proofs.Given.open-known}
 use Rattle.gt_core.specs.declared.trace.Answer.TheVariants as answers
 
 -- paths

@@ -1,6 +1,22 @@
 -- What an answer of a call is, by its last step.
-use Rattle.gt_core.proofs.Words.{◌≡◌, ◌⊎◌, inl, inr, ℕ, refl, Bool, true, false, List, [], ◌∷◌, length, Option, Some, cond, sym, ap, ◌∙◌, subst, eqb-true, ◌==◌, nat_lt, DomId, GrantRef, Denial, N18, N19, Entry, Header, Change, control_of, header_of, header_word, Held, Asked, Map, ByLeg, Seen, Taken, Missed, Verdict, Granted, Given, Refused, Step, LookHeader, PinStep, Unpin, StoreBody, Exchange, ReadBytes, Action, Makes, Done, Aim, Mapping, AsksSize, AsksVersion, Phase, Storing, StoringSecond, Exchanging, Looking, Changing, Walking, Accessing, Asking, Last, Ending, Leg, LegPhase, Pinning, Pinned, last_first, pins_so_far, CallerKnowledge, path, held_of, is_stopped, Continuation, IsFor, RestsOnWord, RestsOnRequest, phase_after, action_at, leg_after, leg_step, after_store, refused_as, next_to_give, HasShown, IsQuiet, IsTurn, held_in, AnswerDone, State, History, Setting, word_at, table_at, known_at, seen_by, StepsSoFar, GivesValue, PhaseStands, EndsAfter, EndsCopy, answer_with, MAX_TABLE_FRAMES, ◌-◌, without_last, Size, Version, cond_both, FirstHalf, SecondHalf, first_body, second_body, CopyBytes, CopyArgs, Copy, LookControl, Pins, LegStands, legs_at, numbered, pins_at, reverse, arith, stands}
-use Rattle.gt_core.proofs.{Phases.OfAction, Phases.IsHere, Phases.makes-same, EachStep.walk-comes, Legs.ComesTo, Legs.IsLegOf, Legs.Words, Aims.pair_of, Aims.leg-here, Phases.words-of, Phases.next_of, Outcomes.walk-done, Steps.See.table-fits}
+use Rattle.gt_core.proofs.Words.{◌≡◌, ◌⊎◌, inl, inr, ℕ, refl, Bool, true, false, List, [], ◌∷◌, length, Option, Some}
+use Rattle.gt_core.proofs.Words.{cond, sym, ap, ◌∙◌, subst, eqb-true, ◌==◌, nat_lt, DomId, GrantRef, Denial, N18, N19}
+use Rattle.gt_core.proofs.Words.{Entry, Header, Change, control_of, header_of, header_word, Held, Asked, Map, ByLeg}
+use Rattle.gt_core.proofs.Words.{Seen, Taken, Missed, Verdict, Granted, Given, Refused, Step, LookHeader, PinStep}
+use Rattle.gt_core.proofs.Words.{Unpin, StoreBody, Exchange, ReadBytes, Action, Makes, Done, Aim, Mapping, AsksSize}
+use Rattle.gt_core.proofs.Words.{AsksVersion, Phase, Storing, StoringSecond, Exchanging, Looking, Changing, Walking}
+use Rattle.gt_core.proofs.Words.{Accessing, Asking, Last, Ending, Leg, LegPhase, Pinning, Pinned, last_first}
+use Rattle.gt_core.proofs.Words.{pins_so_far, CallerKnowledge, path, held_of, is_stopped, Continuation, IsFor}
+use Rattle.gt_core.proofs.Words.{RestsOnWord, RestsOnRequest, phase_after, action_at, leg_after, leg_step, after_store}
+use Rattle.gt_core.proofs.Words.{refused_as, next_to_give, HasShown, IsQuiet, IsTurn, held_in, AnswerDone, State}
+use Rattle.gt_core.proofs.Words.{History, Setting, word_at, table_at, known_at, seen_by, StepsSoFar, GivesValue}
+use Rattle.gt_core.proofs.Words.{PhaseStands, EndsAfter, EndsCopy, answer_with, MAX_TABLE_FRAMES, ◌-◌, without_last}
+use Rattle.gt_core.proofs.Words.{Size, Version, cond_both, FirstHalf, SecondHalf, first_body, second_body, CopyBytes}
+use Rattle.gt_core.proofs.Words.{CopyArgs, Copy, LookControl, Pins, LegStands, legs_at, numbered, pins_at, reverse}
+use Rattle.gt_core.proofs.Words.{arith, stands}
+use Rattle.gt_core.proofs.{Phases.OfAction, Phases.IsHere, Phases.makes-same, EachStep.walk-comes, Legs.ComesTo}
+use Rattle.gt_core.proofs.{Legs.IsLegOf, Legs.Words, Aims.pair_of, Aims.leg-here, Phases.words-of, Phases.next_of}
+use Rattle.gt_core.proofs.{Outcomes.walk-done, Steps.See.table-fits}
 use Rattle.gt_calls.specs.{declared.action.Verdict.TheVariants.Mapped, Path.place_of}
 
 -- the next phase of a call that stands at a question

@@ -1,27 +1,13 @@
 -- What a step does to the states of the domains: the code's own representation, which is here since private
 -- contracts cite it.
 use Rattle.std.specs.Prelude.{ℕ, List, Option, Some, None, if◌then◌else◌, ◌+◌, ◌-◌, ◌%◌, min, is_some, ◌≡◌, slice_set}
-use Rattle.gt_types.specs.declared.DomId.{DomId}
-use Rattle.gt_types.specs.declared.limits.TheConstants.{MAX_PINS}
-use Rattle.gt_types.specs.declared.Dir.TheVariants.{Read, Write}
-use Rattle.gt_handles.specs.declared.handles.Handle.{Handle}
-use Rattle.gt_calls.specs.declared.request.Holder.{Holder}
-use Rattle.gt_calls.specs.declared.request.Holder.TheVariants.{Mapping as ByMapping, Leg as ByLeg}
-use Rattle.gt_entry.specs.declared.change.Change.{Change}
-use Rattle.gt_calls.specs.declared.action.Step.{Step}
-use Rattle.gt_calls.specs.declared.action.Step.TheVariants.{Pin, Unpin, StoreBody, StoreHeader, Exchange}
-use Rattle.gt_calls.specs.declared.action.Seen.{Seen}
-use Rattle.gt_calls.specs.declared.action.Seen.TheVariants.{Taken}
-use Rattle.gt_calls.specs.declared.held.Held.{Held}
-use Rattle.gt_core.specs.declared.pin_counts.PinCounts.{PinCounts}
-use Rattle.gt_core.specs.declared.pin_counts.CountsChange.{CountsChange}
-use Rattle.gt_entry.specs.declared.change.Half.TheVariants.{First as FirstHalf, Second as SecondHalf}
-use Rattle.gt_core.specs.declared.pin_counts.CountsChange.TheVariants.{Pinned, Unpinned, Stored}
-use Rattle.gt_core.specs.declared.underway.Open.{Open}
+use Rattle.gt_core.specs.Prelude.{DomId, MAX_PINS, Read, Write, Handle, Holder, ByMapping, ByLeg, Change, Step, Pin}
+use Rattle.gt_core.specs.Prelude.{Unpin, StoreBody, StoreHeader, Exchange, Seen, Taken, Held, PinCounts, CountsChange}
+use Rattle.gt_core.specs.Prelude.{FirstHalf, SecondHalf, Pinned, Unpinned, Stored, Open, HandleMap, value_of, count_of}
+use Rattle.gt_core.specs.Prelude.{Updates}
 use Rattle.gt_core.specs.Rows.{changed_at}
 use Rattle.gt_core.specs.States.{State, changed_in}
 pub use Rattle.gt_calls.specs.Changes.{own_after}
-use Rattle.gt_handles.specs.Handles.{HandleMap, value_of, count_of, Updates}
 
 -- one pin more or less of a kind, or another body word
 abbrev pub slot_after : CountsChange → PinCounts → PinCounts

@@ -1,36 +1,17 @@
 -- Every legal history can go on: what a run may begin with, and what each of its domains may do next.
 use Rattle.std.specs.Prelude.{◌≡◌, ◌≢◌, ◌+◌, Bool, [], ◌∷◌, Option, Some, None, slice_range}
-use Rattle.gt_types.specs.Config.{IsWithinLimits}
-use Rattle.gt_types.specs.Names.{domain_of}
-use Rattle.gt_types.specs.declared.DomId.{DomId}
-use Rattle.gt_types.specs.declared.TypeId.{TypeId}
-use Rattle.gt_types.specs.declared.config.Config.{Config}
-use Rattle.gt_types.specs.declared.perms.Perms.{Perms}
-use Rattle.gt_handles.specs.Handles.{HandleMap}
-use Rattle.gt_handles.specs.declared.handles.Handle.{Handle}
-use Rattle.gt_calls.specs.Asking.{FitsAsked, IsSaid, asked, begun_of}
-use Rattle.gt_calls.specs.Path.{path}
-use Rattle.gt_calls.specs.declared.action.Action.{Action}
-use Rattle.gt_calls.specs.declared.action.Action.TheVariants.{Step as Makes, Done as Ends}
-use Rattle.gt_calls.specs.declared.action.Step.{Step}
-use Rattle.gt_calls.specs.declared.action.Step.TheVariants.{Read as ReadBytes, Write as WriteBytes, Copy as CopyBytes}
-use Rattle.gt_calls.specs.declared.action.Verdict.{Verdict}
-use Rattle.gt_calls.specs.declared.action.Seen.TheVariants.{Nothing}
-use Rattle.gt_calls.specs.declared.action.Verdict.TheVariants.{Granted, Mapped as KeptPin}
-use Rattle.gt_calls.specs.declared.held.Held.{Held}
-use Rattle.gt_calls.specs.declared.request.Request.{Request}
+use Rattle.gt_core.specs.Prelude.{IsWithinLimits, domain_of, DomId, TypeId, Config, Perms, HandleMap, Handle, FitsAsked}
+use Rattle.gt_core.specs.Prelude.{IsSaid, asked, begun_of, path, Action, Makes, Ends, Step, ReadBytes, WriteBytes}
+use Rattle.gt_core.specs.Prelude.{CopyBytes, Verdict, Nothing, Granted, KeptPin, Held, Request, Answer, BytesAnswer}
+use Rattle.gt_core.specs.Prelude.{AnswerDone, Mapped, Began, Stepped, Item}
 use Rattle.gt_core.specs.Effects.{Adds}
 use Rattle.gt_core.specs.History.{History, Setting, Underway, contents_at, known_at, mappings_at, maps_answered_at}
-use Rattle.gt_core.specs.History.{open_call}
-use Rattle.gt_core.specs.History.{seen_by, table_at, values}
+use Rattle.gt_core.specs.History.{open_call, seen_by, table_at, values}
 use Rattle.gt_core.specs.Legal.{IsRight, next_in}
-use Rattle.gt_core.specs.Standing.{CoreStands, MappingsAgree, answer_of, setting_of}
+use Rattle.gt_core.specs.Standing.{CoreStands, MappingsAgree}
+use Rattle.gt_core.specs.Acting.{answer_of, setting_of}
 use Rattle.gt_core.specs.States.{CoreState}
-use Rattle.gt_core.specs.declared.trace.Answer.{Answer}
-use Rattle.gt_core.specs.declared.trace.Answer.TheVariants.{Bytes as BytesAnswer, Done as AnswerDone, Mapped}
 use Rattle.gt_core.specs.declared.trace.Bytes.{Bytes}
-use Rattle.gt_core.specs.declared.trace.Happened.TheVariants.{Began, Stepped}
-use Rattle.gt_core.specs.declared.trace.Item.{Item}
 
 -- some core stands for the history, which is a legal one
 abbrev pub IsReached : Setting → History → Type 0

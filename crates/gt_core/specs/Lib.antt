@@ -3,11 +3,16 @@ pub mod Alike
 pub mod Effects
 pub mod GoingOn
 pub mod History
+pub mod Justified
+pub mod FirstRule
 pub mod Legal
 pub mod Rows
 pub mod Shown
 pub mod Sight
+pub mod Acting
+pub mod Phases
 pub mod Standing
 pub mod States
 pub mod Subject
 pub mod TakenBack
+pub mod Prelude

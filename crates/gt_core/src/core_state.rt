@@ -2,7 +2,8 @@
 ghost use Rattle.std.specs.Prelude.{◌≡◌, [], IfOk, IfErr, OnErr, IsOk};
 ghost use Rattle.gt_types.specs.Config.{IsWithinLimits};
 ghost use Rattle.gt_core.specs.Legal.{Legal};
-ghost use Rattle.gt_core.specs.Standing.{Does, IsStartFaultOf, setting_in, setting_of};
+ghost use Rattle.gt_core.specs.Standing.{Does, setting_in};
+ghost use Rattle.gt_core.specs.Acting.{IsStartFaultOf, setting_of};
 
 use crate::kept::Machine;
 use crate::trace::{Answer, Element, Event, Happened, Item, Trace};
@@ -20,7 +21,8 @@ pub struct Core<P: Allows> {
 }
 
 impl<P: Allows> Model for Core<P> {
-    ghost use Rattle.gt_core.specs.Standing.{CoreModel, StandsForSome, setting_by, state_by};
+    ghost use Rattle.gt_core.specs.Standing.{CoreModel, StandsForSome};
+    ghost use Rattle.gt_core.specs.Acting.{setting_by, state_by};
 
     ghost Value = { CoreModel P };
 
@@ -66,8 +68,9 @@ impl<P: Allows> Core<P> {
     ghost use Rattle.gt_core.specs.History.{History};
     ghost use Rattle.gt_core.specs.Shown.{shown_at};
     ghost use Rattle.gt_core.specs.Subject.{subject_at};
-    ghost use Rattle.gt_core.specs.Standing.{CoreStands, Does, WantsMemory, WantsMemoryNow, setting_in};
-    ghost use Rattle.gt_core.specs.Standing.{begun_element, ticked_element};
+    ghost use Rattle.gt_core.specs.Standing.{CoreStands, Does, setting_in};
+    ghost use Rattle.gt_core.specs.Acting.{WantsMemory, WantsMemoryNow};
+    ghost use Rattle.gt_core.specs.Acting.{begun_element, ticked_element};
     ghost use Rattle.gt_core.specs.declared.trace.Event.TheVariants.{Begin, Tick};
 
     /// Begins a call of the domain: judges it, and makes the room that its answer needs. `tick` makes its steps.
@@ -192,7 +195,8 @@ impl<P: Allows + Drop> Core<P> {
     ghost use Rattle.std.specs.Prelude.{◌≡◌, [], IfOk, IfErr, IsOk};
     ghost use Rattle.gt_types.specs.Config.{IsWithinLimits};
     ghost use Rattle.gt_frames.specs.Sets.{AreKept};
-    ghost use Rattle.gt_core.specs.Standing.{CoreStands, IsStartFaultOf, setting_of};
+    ghost use Rattle.gt_core.specs.Standing.{CoreStands};
+    ghost use Rattle.gt_core.specs.Acting.{IsStartFaultOf, setting_of};
 
     /// A core at rest: all entries invalid at the first generation, all frames zero, no mapping and no call.
     ///

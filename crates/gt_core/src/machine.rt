@@ -13,11 +13,12 @@ ghost use Rattle.gt_core.specs.Accesses.{IsReadable, IsAdmitted, AccessedBy, IsW
 ghost use Rattle.gt_core.specs.Effects.{applied};
 ghost use Rattle.gt_core.specs.Sight.{sees};
 ghost use Rattle.gt_core.specs.Shown.{shown_at};
-ghost use Rattle.gt_core.specs.Standing.{Opens, DomainsStand, StandsForSome, Does, DoesAlone, IsStartFaultOf, Closed};
-ghost use Rattle.gt_core.specs.Standing.{Settled};
-ghost use Rattle.gt_core.specs.Standing.{IsRoomFor};
-ghost use Rattle.gt_core.specs.Standing.{WantsMemory, WantsMemoryNow, setting_of, setting_by, state_by, known_by};
-ghost use Rattle.gt_core.specs.Standing.{begun_element, ticked_element, ticked_with, answer_with, answer_of};
+ghost use Rattle.gt_core.specs.Acting.{Opens, IsStartFaultOf, Closed};
+ghost use Rattle.gt_core.specs.Standing.{DomainsStand, StandsForSome, Does, DoesAlone};
+ghost use Rattle.gt_core.specs.Acting.{Settled};
+ghost use Rattle.gt_core.specs.Acting.{IsRoomFor};
+ghost use Rattle.gt_core.specs.Acting.{WantsMemory, WantsMemoryNow, setting_of, setting_by, state_by, known_by};
+ghost use Rattle.gt_core.specs.Acting.{begun_element, ticked_element, ticked_with, answer_with, answer_of};
 ghost use Rattle.gt_core.specs.Standing.{first_state};
 ghost use Rattle.gt_core.specs.declared.trace.Event.TheVariants.{Begin, Tick};
 

@@ -1,5 +1,6 @@
 -- From the dump that an input says to what is written for the input.
-use Rattle.std.proofs.Common.{◌≡◌, ℕ, ◌+◌, ◌<◌, ◌≤◌, List, ◌++◌, length, length-take, take, min, Option, Result, Ok, Err, subst, sym, ◌∙◌, inl, inr, arith, suc}
+use Rattle.std.proofs.Common.{◌≡◌, ℕ, ◌+◌, ◌<◌, ◌≤◌, List, ◌++◌, length, length-take, take, min, Option, Result, Ok}
+use Rattle.std.proofs.Common.{Err, subst, sym, ◌∙◌, inl, inr, arith, suc}
 use Rattle.gt_streams.specs.Laws.{keeps_same, of_any_input, take_whole}
 use Rattle.gt_streams.specs.Streams.{OfInput}
 use Rattle.gt_streams.specs.declared.fault.ReadFault.{ReadFault}

@@ -1,24 +1,13 @@
 -- What is written for a dump.
-use Rattle.std.specs.Prelude.{◌≡◌, ◌⊎◌, ◌<◌, ◌≤◌, ℕ, zero, suc, ◌+◌, ◌-◌, ◌*◌, ◌/◌, ◌==◌, ◌&&◌, not, Bool, true, false, List, []}
-use Rattle.std.specs.Prelude.{◌∷◌, ◌++◌, length, take, drop, filter, codes, decimal, Option, Some, None, Result, Ok, Err}
-use Rattle.std.specs.Prelude.{MatchBool}
-use Rattle.std.specs.Char.{is_ascii_whitespace}
-use Rattle.std.specs.List.{list_all}
-use Rattle.std.specs.Io.KnownBytes.{Appends, Keeps}
-use Rattle.hex.specs.Hex.{decode_of}
-use Rattle.hex.specs.declared.error.FromHexError.{FromHexError}
-use Rattle.gt_types.specs.declared.DomId.{DomId}
-use Rattle.gt_types.specs.declared.denial.Field.{Field}
-use Rattle.gt_types.specs.declared.limits.TheConstants.{LONGEST_TEXT}
-use Rattle.gt_entry.specs.Bytes.{Spells, first_refused, entry_size}
-use Rattle.gt_entry.specs.declared.entry.Entry.{Entry}
-use Rattle.gt_streams.specs.Streams.{AppendsBeginning}
+use Rattle.std.specs.Prelude.{◌≡◌, ◌⊎◌, ◌<◌, ◌≤◌, ℕ, zero, suc, ◌+◌, ◌-◌, ◌*◌, ◌/◌, ◌==◌, ◌&&◌, not, Bool, true, false}
+use Rattle.std.specs.Prelude.{List, [], ◌∷◌, ◌++◌, length, take, drop, filter, codes, decimal, Option, Some, None}
+use Rattle.std.specs.Prelude.{Result, Ok, Err, MatchBool}
+use Rattle.gt_dump.specs.Prelude.{is_ascii_whitespace, list_all, Appends, Keeps, decode_of, FromHexError, DomId, Field}
+use Rattle.gt_dump.specs.Prelude.{LONGEST_TEXT, Spells, first_refused, entry_size, Entry, AppendsBeginning, Asked}
+use Rattle.gt_dump.specs.Prelude.{DumpFault, Memory, Read, Write, Limit, Syntax}
 use Rattle.gt_dump.specs.Live.{cleared, live_text}
 use Rattle.gt_dump.specs.Showing.{answer_text}
 use Rattle.gt_dump.specs.Script.{call_text}
-use Rattle.gt_dump.specs.declared.asked.Asked.{Asked}
-use Rattle.gt_dump.specs.declared.fault.DumpFault.{DumpFault}
-use Rattle.gt_dump.specs.declared.fault.DumpFault.TheVariants.{Memory, Read, Write, Limit, Syntax}
 
 -- what the decoders answer for the bytes of an entry: the entry that they spell, or the
 -- first field that is refused

@@ -3,3 +3,4 @@ pub mod Showing
 pub mod Script
 pub mod Dumps
 pub mod Faults
+pub mod Prelude

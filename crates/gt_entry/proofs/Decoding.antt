@@ -1,15 +1,18 @@
 -- What is read from the bytes of an entry.
-use Rattle.std.proofs.Common.{◌≡◌, ◌≢◌, ℕ, ◌+◌, ◌/◌, ◌%◌, ◌<◌, ◌≤◌, Bool, true, false, ◌&&◌, ◌||◌, ◌==◌, nat_lt, List, [], ◌∷◌, length, find, Option, Some, None, get_or, refl, sym, ap, ◌∙◌, subst, cond, arith}
+use Rattle.std.proofs.Common.{◌≡◌, ◌≢◌, ℕ, ◌+◌, ◌/◌, ◌%◌, ◌<◌, ◌≤◌, Bool, true, false, ◌&&◌, ◌||◌, ◌==◌, nat_lt, List}
+use Rattle.std.proofs.Common.{[], ◌∷◌, length, find, Option, Some, None, get_or, refl, sym, ap, ◌∙◌, subst, cond, arith}
 use Rattle.std.proofs.lemmas.Bool.Decides.{nat_tests}
 use Rattle.std.proofs.lemmas.List.{get_or_default}
 use Rattle.std.proofs.lemmas.Option.{none-some}
 use Rattle.std.proofs.lemmas.Bool.{or_parts}
 use Rattle.gt_types.specs.declared.denial.Field.{Field}
-use Rattle.gt_types.specs.declared.denial.Field.TheVariants.{Length, Kind, Reading, Writing, Pwt, Pcd, Pat, SubPage, Reserved}
+use Rattle.gt_types.specs.declared.denial.Field.TheVariants.{Length, Kind, Reading, Writing, Pwt, Pcd, Pat, SubPage}
+use Rattle.gt_types.specs.declared.denial.Field.TheVariants.{Reserved}
 use Rattle.gt_entry.specs.declared.entry.Entry.{Entry}
 use Rattle.gt_entry.specs.declared.entry.Entry.TheVariants.{Invalid, Page, Sub, Via}
 use Rattle.gt_entry.specs.Words.{flag}
-use Rattle.gt_entry.specs.Bytes.{field, flags_of, AreBytes, SpellsV1, SpellsV2, is_set, is_refused, flag_fields, refused_flag, first_refused}
+use Rattle.gt_entry.specs.Bytes.{field, flags_of, AreBytes, SpellsV1, SpellsV2, is_set, is_refused, flag_fields}
+use Rattle.gt_entry.specs.Bytes.{refused_flag, first_refused}
 
 -- none of the fields is refused
 record NoneRefused (version size flags : ℕ) : Type 0 where

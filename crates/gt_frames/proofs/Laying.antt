@@ -1,14 +1,18 @@
 -- Frames at the places of their names.
-use Rattle.std.proofs.Common.{◌≡◌, ◌≢◌, ℕ, zero, suc, ◌+◌, ◌<◌, ◌==◌, ◌⊎◌, inl, inr, true, false, IsTrue, List, [], ◌∷◌, ◌++◌, map, set, length, replicate, get_or, slice_get, unwrap_or, Option, Some, None, refl, sym, ◌∙◌, ap, subst, arith, append_assoc}
+use Rattle.std.proofs.Common.{◌≡◌, ◌≢◌, ℕ, zero, suc, ◌+◌, ◌<◌, ◌==◌, ◌⊎◌, inl, inr, true, false, IsTrue, List, [], ◌∷◌}
+use Rattle.std.proofs.Common.{◌++◌, map, set, length, replicate, get_or, slice_get, unwrap_or, Option, Some, None, refl}
+use Rattle.std.proofs.Common.{sym, ◌∙◌, ap, subst, arith, append_assoc}
 use Rattle.std.specs.List.{range_with_len, flat_map}
 use Rattle.std.specs.Option.{option_map}
 use Rattle.std.specs.Prelude.{Result, Ok, Err, OnOk, OnErr}
 use Rattle.std.proofs.lemmas.Result.{on_ok_weaker, on_err_weaker}
 use Rattle.std.proofs.Math.Seq.{map-set_same}
 use Rattle.std.proofs.lemmas.Bool.{eq-eqb, and_from, both_ways}
-use Rattle.std.proofs.lemmas.List.{set-append_left, set-get_or, map-set, map-append, length-set, length-map, length-replicate, replicate-append-replicate, get_or-set_same, get_or-set_other}
+use Rattle.std.proofs.lemmas.List.{set-append_left, set-get_or, map-set, map-append, length-set, length-map}
+use Rattle.std.proofs.lemmas.List.{length-replicate, replicate-append-replicate, get_or-set_same, get_or-set_other}
 use Rattle.std.proofs.lemmas.List.FromFn.{map-range_with_len_more}
-use Rattle.std.proofs.lemmas.Option.{slice_get-map, slice_get_read, slice_get-get_or, slice_get_within, get_or_from_slice_get, unwrap_or-slice_get, same_Some, none-some}
+use Rattle.std.proofs.lemmas.Option.{slice_get-map, slice_get_read, slice_get-get_or, slice_get_within}
+use Rattle.std.proofs.lemmas.Option.{get_or_from_slice_get, unwrap_or-slice_get, same_Some, none-some}
 use Rattle.gt_types.specs.declared.DomId.{DomId}
 use Rattle.gt_frames.specs.declared.places.FrameCount.{FrameCount}
 use Rattle.gt_frames.specs.declared.places.FrameName.{FrameName}
@@ -17,7 +21,8 @@ use Rattle.gt_frames.specs.declared.writ.WriteRecord.{WriteRecord}
 use Rattle.gt_frames.specs.Receipts.{Copying, copying_of}
 use Rattle.gt_frames.specs.Frames.{FrameState, bytes_at, all_rightful, IsKept, IsWrite}
 use Rattle.gt_frames.specs.Places.{pool_number, frames_of, name_in, names_of, is_name}
-use Rattle.gt_frames.specs.Sets.{FrameSet, journal_in, place_in, frame_at, zero_in, zero_frame, zero_frames, name_of, journal_of, AreLaidOut, AreKept, WritesTo, CopiesAmong}
+use Rattle.gt_frames.specs.Sets.{FrameSet, journal_in, place_in, frame_at, zero_in, zero_frame, zero_frames, name_of}
+use Rattle.gt_frames.specs.Sets.{journal_of, AreLaidOut, AreKept, WritesTo, CopiesAmong}
 use Rattle.gt_frames.proofs.Placing.{length-names_of, placed}
 
 -- what contracts see of these frames

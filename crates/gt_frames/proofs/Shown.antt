@@ -1,5 +1,7 @@
 -- Who wrote each byte last: the numbers of bytes, and the writs that they are of.
-use Rattle.std.proofs.Common.{◌≡◌, ℕ, zero, suc, ◌+◌, ◌-◌, ◌<◌, ◌≤◌, ◌⊎◌, inl, inr, Bool, true, false, if◌then◌else◌, ◌&&◌, nat_le, nat_lt, Option, Some, None, ◌++◌, slice_range, List, [], ◌∷◌, length, replicate, get_or, set, refl, sym, ◌∙◌, ap, subst, arith}
+use Rattle.std.proofs.Common.{◌≡◌, ℕ, zero, suc, ◌+◌, ◌-◌, ◌<◌, ◌≤◌, ◌⊎◌, inl, inr, Bool, true, false, if◌then◌else◌}
+use Rattle.std.proofs.Common.{◌&&◌, nat_le, nat_lt, Option, Some, None, ◌++◌, slice_range, List, [], ◌∷◌, length}
+use Rattle.std.proofs.Common.{replicate, get_or, set, refl, sym, ◌∙◌, ap, subst, arith}
 use Rattle.std.proofs.lemmas.Bool.{cases_lt}
 use Rattle.std.proofs.lemmas.Bool.Decides.{nat_tests}
 use Rattle.std.proofs.lemmas.List.{length-replicate}
@@ -9,7 +11,8 @@ use Rattle.gt_frames.specs.declared.writ.Writ.{Writ}
 use Rattle.gt_frames.specs.declared.writ.WriteRecord.{WriteRecord}
 use Rattle.gt_frames.specs.declared.writers.Writers.{Writers}
 use Rattle.gt_frames.specs.Frames.{recorded}
-use Rattle.gt_frames.specs.Writers.{AreWriters, HasWrit, IsUsed, KnowsWriters, ShowsSame, has_byte, last_writ, shown, writ_under}
+use Rattle.gt_frames.specs.Writers.{AreWriters, HasWrit, IsUsed, KnowsWriters, ShowsSame, has_byte, last_writ, shown}
+use Rattle.gt_frames.specs.Writers.{writ_under}
 use Rattle.gt_frames.proofs.Overlay.{laid_over, length-overlay}
 
 -- a place that is marked is marked whatever else is

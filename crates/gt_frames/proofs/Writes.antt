@@ -1,5 +1,6 @@
 -- One more write in the journal.
-use Rattle.std.proofs.Common.{◌≡◌, ℕ, ◌+◌, ◌≤◌, IsTrue, List, [], ◌∷◌, ◌++◌, length, refl, sym, ◌∙◌, ap, subst, arith, rules, slice_range, replicate}
+use Rattle.std.proofs.Common.{◌≡◌, ℕ, ◌+◌, ◌≤◌, IsTrue, List, [], ◌∷◌, ◌++◌, length, refl, sym, ◌∙◌, ap, subst, arith}
+use Rattle.std.proofs.Common.{rules, slice_range, replicate}
 use Rattle.std.proofs.lemmas.List.{length-replicate}
 use Rattle.std.proofs.lemmas.Bool.Decides.{nat_tests}
 use Rattle.gt_types.specs.declared.limits.TheConstants.{FRAME_SIZE}
@@ -7,7 +8,8 @@ use Rattle.gt_types.specs.declared.DomId.{DomId}
 use Rattle.gt_frames.specs.declared.writ.Writ.{Writ}
 use Rattle.gt_frames.specs.declared.writ.WriteRecord.{WriteRecord}
 use Rattle.gt_frames.specs.Bytes.{overlay, zeros, replay, written, IsLaidOver}
-use Rattle.gt_frames.specs.Frames.{FrameState, patches, contents, bytes_at, covers, is_rightful, all_rightful, IsKept, IsSound, with_write, IsWrite}
+use Rattle.gt_frames.specs.Frames.{FrameState, patches, contents, bytes_at, covers, is_rightful, all_rightful, IsKept}
+use Rattle.gt_frames.specs.Frames.{IsSound, with_write, IsWrite}
 use Rattle.gt_frames.proofs.Overlay.{length-overlay, laid_over}
 
 pub replay-append : (xs : List ℕ) (rs : List WriteRecord) (r : WriteRecord) → replay xs (patches (rs ++ r ∷ [])) ≡ overlay (replay xs (patches rs)) r.off r.bytes

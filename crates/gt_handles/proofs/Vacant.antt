@@ -1,5 +1,6 @@
 -- No slot has a value exactly where none is counted.
-use Rattle.std.proofs.Common.{◌≡◌, ℕ, zero, suc, ◌<◌, List, [], ◌∷◌, Option, Some, None, is_some, count_by, length, refl, arith, cond, slice_index_or, ap, sym, ◌∙◌, ◌≢◌, inl, inr}
+use Rattle.std.proofs.Common.{◌≡◌, ℕ, zero, suc, ◌<◌, List, [], ◌∷◌, Option, Some, None, is_some, count_by, length}
+use Rattle.std.proofs.Common.{refl, arith, cond, slice_index_or, ap, sym, ◌∙◌, ◌≢◌, inl, inr}
 use Rattle.std.proofs.lemmas.List.Sums.{sum_by-cons}
 use Rattle.std.proofs.lemmas.Bool.{cases_eq}
 use Rattle.std.proofs.lemmas.Bool.Decides.{nat_tests}

@@ -1,5 +1,6 @@
 -- Runs of one script that are the same but for the keys of handles: their names, requests and answers.
-use Rattle.std.proofs.Common.{◌≡◌, ◌⊎◌, inl, inr, ℕ, Bool, true, false, List, [], ◌∷◌, ◌++◌, Option, None, Some, refl, cond, ap, sym, subst, ◌∙◌, arith}
+use Rattle.std.proofs.Common.{◌≡◌, ◌⊎◌, inl, inr, ℕ, Bool, true, false, List, [], ◌∷◌, ◌++◌, Option, None, Some, refl}
+use Rattle.std.proofs.Common.{cond, ap, sym, subst, ◌∙◌, arith}
 use Rattle.std.specs.Prelude.{◌==◌, ◌&&◌, unwrap_or, codes}
 use Rattle.std.specs.Str.{bytes_eq}
 use Rattle.std.specs.Option.{option_map}
@@ -27,9 +28,11 @@ use Rattle.gt_core.specs.declared.trace.Event.{Event}
 use Rattle.gt_core.specs.declared.trace.Event.TheVariants.{Begin, Tick}
 use Rattle.gt_core.specs.History.{History, Setting}
 use Rattle.gt_core.specs.Legal.{MayDo, actor_of, grown, history_after}
-use Rattle.gt_core.specs.Alike.{bare_handle, bare_bytes, bare_request, told, ToldItem, SameElement, IsGiven, IsKnown, AsksKnown}
+use Rattle.gt_core.specs.Alike.{bare_handle, bare_bytes, bare_request, told, ToldItem, SameElement, IsGiven, IsKnown}
+use Rattle.gt_core.specs.Alike.{AsksKnown}
 use Rattle.gt_host.specs.Printing.{answer_text, bytes_text}
-use Rattle.gt_host.specs.Runs.{Named, handle_named, handle_of, never_given, with_name, named_after, handle_given, label_in, request_of, table_request, access_request, Asks, answer_in}
+use Rattle.gt_host.specs.Runs.{Named, handle_named, handle_of, never_given, with_name, named_after, handle_given}
+use Rattle.gt_host.specs.Runs.{label_in, request_of, table_request, access_request, Asks, answer_in}
 
 -- names
 

@@ -1,5 +1,7 @@
 -- The records of a trace, as it grows.
-use Rattle.std.proofs.Common.{◌≡◌, ◌<◌, ◌+◌, ℕ, zero, suc, length, take, get_or, add-one, Bool, true, cond, List, [], ◌∷◌, ◌++◌, replicate, Option, None, Some, refl, ap, sym, subst, ◌∙◌, inl, inr, append_assoc}
+use Rattle.std.proofs.Common.{◌≡◌, ◌<◌, ◌+◌, ℕ, zero, suc, length, take, get_or, add-one, Bool, true, cond, List, []}
+use Rattle.std.proofs.Common.{◌∷◌, ◌++◌, replicate, Option, None, Some, refl, ap, sym, subst, ◌∙◌, inl, inr}
+use Rattle.std.proofs.Common.{append_assoc}
 use Rattle.std.proofs.Math.Seq.{take-suc, take-length}
 use Rattle.std.proofs.lemmas.List.{append-nil}
 use Rattle.std.proofs.lemmas.Bool.{eq-eqb, ne_eqb}
@@ -25,11 +27,13 @@ use Rattle.gt_core.specs.declared.trace.Happened.{Happened}
 use Rattle.gt_core.specs.declared.trace.Happened.TheVariants.{Began, Stepped}
 use Rattle.gt_core.specs.declared.trace.Item.{Item}
 use Rattle.gt_host.specs.declared.kept.Kept.{Kept}
-use Rattle.gt_host.specs.Auditing.{before_begun, before_call, call_told, item_told, open_told, record_in, record_of, record_told, record_with, records_of, underway_told, record_lines}
+use Rattle.gt_host.specs.Auditing.{before_begun, before_call, call_told, item_told, open_told, record_in, record_of}
+use Rattle.gt_host.specs.Auditing.{record_told, record_with, records_of, underway_told, record_lines}
 use Rattle.gt_host.specs.OpenCalls.{told_in}
 use Rattle.gt_host.specs.Recording.{IsAudited}
 use Rattle.gt_host.specs.Runs.{AnswerNothing, answer_in, call_events}
-use Rattle.gt_host.proofs.EventLemmas.{AreOf, answered_leaves, begins_fresh, events_close, item_of, same_or_apart, ticks_of}
+use Rattle.gt_host.proofs.EventLemmas.{AreOf, answered_leaves, begins_fresh, events_close, item_of, same_or_apart}
+use Rattle.gt_host.proofs.EventLemmas.{ticks_of}
 use Rattle.gt_host.proofs.OpenLemmas.{other_call, own_call}
 use Rattle.gt_host.proofs.RunLemmas.{history_after-append}
 

@@ -1,5 +1,6 @@
 -- What the lines of a script lead to.
-use Rattle.std.proofs.Common.{◌≡◌, ◌≢◌, ◌⊎◌, ℕ, Bool, true, false, cond, List, [], ◌∷◌, ◌++◌, length, replicate, Option, None, Some, refl, ap, sym, subst, ◌∙◌, inl, inr}
+use Rattle.std.proofs.Common.{◌≡◌, ◌≢◌, ◌⊎◌, ℕ, Bool, true, false, cond, List, [], ◌∷◌, ◌++◌, length, replicate, Option}
+use Rattle.std.proofs.Common.{None, Some, refl, ap, sym, subst, ◌∙◌, inl, inr}
 use Rattle.std.proofs.lemmas.List.{append-nil}
 use Rattle.std.proofs.lemmas.Bool.{eq-eqb, ne_eqb}
 use Rattle.std.specs.Prelude.{◌==◌, is_some}
@@ -10,7 +11,8 @@ use Rattle.gt_script.specs.declared.script.ScriptStep.{ScriptStep}
 use Rattle.gt_core.specs.History.{History, Setting, open_call}
 use Rattle.gt_core.specs.Legal.{MayDo, grown, LegalAfter, history_after}
 use Rattle.gt_core.specs.Shown.{shown_at}
-use Rattle.gt_core.specs.Standing.{CoreStands, begun_element}
+use Rattle.gt_core.specs.Standing.{CoreStands}
+use Rattle.gt_core.specs.Acting.{begun_element}
 use Rattle.gt_core.specs.States.{CoreState}
 use Rattle.gt_core.specs.declared.core_state.Begun.{Begun}
 use Rattle.gt_core.specs.declared.core_state.Begun.TheVariants as begun
@@ -34,12 +36,15 @@ use Rattle.gt_audit.specs.declared.record.Hypercall.{Hypercall}
 use Rattle.gt_host.specs.Naming.{AreNamed}
 use Rattle.gt_host.specs.OpenCalls.{call_in, told_in}
 use Rattle.gt_host.specs.Printing.{answer_line, busy_line, idle_line}
-use Rattle.gt_host.specs.Runs.{Progress, Named, DoLine, BeginLine, TickLine, ShowLine, history_of, with_events, with_line, after_call, after_ticks, after_beginning, named_after, Asks, call_events}
+use Rattle.gt_host.specs.Runs.{Progress, Named, DoLine, BeginLine, TickLine, ShowLine, history_of, with_events}
+use Rattle.gt_host.specs.Runs.{with_line, after_call, after_ticks, after_beginning, named_after, Asks, call_events}
 use Rattle.gt_host.specs.Recording.{IsAbout}
 use Rattle.gt_host.specs.Showing.{show_line}
 use Rattle.gt_host.specs.Ticking.{Happens, Calls, TicksTo, IsKept, HasCome, IsAppended}
-use Rattle.gt_host.proofs.AuditLemmas.{AddsRecord, AreTold, Records, audited_begun, audited_busy, audited_call, audited_more, audited_ticks, audited_wait}
-use Rattle.gt_host.proofs.EventLemmas.{AreOf, answered_leaves, begins_fresh, event_closes, event_other, events_close, events_other, same_or_apart, ticks_of}
+use Rattle.gt_host.proofs.AuditLemmas.{AddsRecord, AreTold, Records, audited_begun, audited_busy, audited_call}
+use Rattle.gt_host.proofs.AuditLemmas.{audited_more, audited_ticks, audited_wait}
+use Rattle.gt_host.proofs.EventLemmas.{AreOf, answered_leaves, begins_fresh, event_closes, event_other, events_close}
+use Rattle.gt_host.proofs.EventLemmas.{events_other, same_or_apart, ticks_of}
 use Rattle.gt_host.proofs.OpenLemmas.{own_call, HasOpen, ticks_stay}
 use Rattle.gt_host.proofs.RunLemmas.{LegalAfter-append, history_after-append, happens_one}
 

@@ -1,5 +1,7 @@
 -- Two legal runs of a script print one text.
-use Rattle.std.proofs.Common.{◌≡◌, ◌≤◌, ◌+◌, inl, inr, ℕ, zero, suc, Bool, List, [], ◌∷◌, ◌++◌, length, replicate, take, drop, Option, None, Some, Result, Ok, refl, cond, ap, sym, subst, ◌∙◌, append_assoc, length-append, arith}
+use Rattle.std.proofs.Common.{◌≡◌, ◌≤◌, ◌+◌, inl, inr, ℕ, zero, suc, Bool, List, [], ◌∷◌, ◌++◌, length, replicate, take}
+use Rattle.std.proofs.Common.{drop, Option, None, Some, Result, Ok, refl, cond, ap, sym, subst, ◌∙◌, append_assoc}
+use Rattle.std.proofs.Common.{length-append, arith}
 use Rattle.std.specs.Prelude.{◌==◌, codes}
 use Rattle.std.specs.Option.{option_map}
 use Rattle.std.proofs.lemmas.Option.{none-some, same_Some}
@@ -30,13 +32,19 @@ use Rattle.gt_host.specs.declared.outcome.Outcome.{Outcome}
 use Rattle.gt_host.specs.declared.outcome.Outcome.TheVariants.{Answered, Busy}
 use Rattle.gt_host.specs.Printing.{answer_text, answer_line, call_text, busy_line, idle_line}
 use Rattle.gt_host.specs.Showing.{show_line}
-use Rattle.gt_host.specs.Playing.{IsLegalRunOf, setting_of_script, whole_text, audited_text, BeginsRun, BeginsEvery, Played}
-use Rattle.gt_host.specs.Runs.{Progress, AnswerNothing, EndsWith, ComesTo, TicksComeTo, answer_in, call_events, at_start, history_of, with_events, with_line, with_call, answered, after_call, after_item, after_beginning, after_ticks, DoLine, BeginLine, TickLine, ShowLine, RunsLine, LeadsTo, open_lines}
+use Rattle.gt_host.specs.Playing.{IsLegalRunOf, setting_of_script, whole_text, audited_text, BeginsRun, BeginsEvery}
+use Rattle.gt_host.specs.Playing.{Played}
+use Rattle.gt_host.specs.Runs.{Progress, AnswerNothing, EndsWith, ComesTo, TicksComeTo, answer_in, call_events}
+use Rattle.gt_host.specs.Runs.{at_start, history_of, with_events, with_line, with_call, answered, after_call}
+use Rattle.gt_host.specs.Runs.{after_item, after_beginning, after_ticks, DoLine, BeginLine, TickLine, ShowLine}
+use Rattle.gt_host.specs.Runs.{RunsLine, LeadsTo, open_lines}
 use Rattle.gt_host.specs.Auditing.{audit_text}
 use Rattle.gt_host.proofs.RecordLemmas.{HasOneSubject, audit-same}
 use Rattle.gt_host.proofs.RunLemmas.{history_after-append}
-use Rattle.gt_host.proofs.AlikeLemmas.{bare_names, NamesGiven, AnswerGiven, asks-same, asks-known, text-same, named-same, named-given, names-after, answers-same, done-given}
-use Rattle.gt_host.proofs.TickLemmas.{StaysAlike, swapped, answers-alike, call-given, ticks-alike, ticks-apart, ticks-answered}
+use Rattle.gt_host.proofs.AlikeLemmas.{bare_names, NamesGiven, AnswerGiven, asks-same, asks-known, text-same}
+use Rattle.gt_host.proofs.AlikeLemmas.{named-same, named-given, names-after, answers-same, done-given}
+use Rattle.gt_host.proofs.TickLemmas.{StaysAlike, swapped, answers-alike, call-given, ticks-alike, ticks-apart}
+use Rattle.gt_host.proofs.TickLemmas.{ticks-answered}
 
 abbrev pub ShowsAlike : Type 0
 ShowsAlike = (s : Setting) (g h : History) (dom : DomId) (r : ℕ) → AreAlike s g h → shown_at s g dom r ≡ shown_at s h dom r

@@ -1,5 +1,6 @@
 -- The audit of a run is the same in runs that are the same but for keys.
-use Rattle.std.proofs.Common.{◌≡◌, ◌⊎◌, inl, inr, ℕ, Bool, true, false, List, [], ◌∷◌, ◌++◌, Option, None, Some, refl, cond, ap, sym, subst, ◌∙◌, append_assoc}
+use Rattle.std.proofs.Common.{◌≡◌, ◌⊎◌, inl, inr, ℕ, Bool, true, false, List, [], ◌∷◌, ◌++◌, Option, None, Some, refl}
+use Rattle.std.proofs.Common.{cond, ap, sym, subst, ◌∙◌, append_assoc}
 use Rattle.std.specs.Prelude.{◌==◌}
 use Rattle.std.specs.Option.{option_map, option_to_list}
 use Rattle.std.proofs.lemmas.Bool.{eqb-true}
@@ -26,8 +27,10 @@ use Rattle.gt_core.specs.declared.trace.Element.TheVariants as elements
 use Rattle.gt_core.specs.declared.trace.Happened.{Happened}
 use Rattle.gt_core.specs.declared.trace.Happened.TheVariants.{Began, Stepped}
 use Rattle.gt_core.specs.declared.trace.Item.{Item}
-use Rattle.gt_core.specs.Alike.{bare_handle, bare_request, bare_happened, told, told_item, told_items, ToldItem, IsKnown, AsksKnown, HappensKnown, IsRun, AreAlike}
-use Rattle.gt_host.specs.Auditing.{call_told, reply_told, record_with, before_begun, before_call, underway_told, item_told, record_of, record_in, records_of, asked_lines, audit_text}
+use Rattle.gt_core.specs.Alike.{bare_handle, bare_request, bare_happened, told, told_item, told_items, ToldItem}
+use Rattle.gt_core.specs.Alike.{IsKnown, AsksKnown, HappensKnown, IsRun, AreAlike}
+use Rattle.gt_host.specs.Auditing.{call_told, reply_told, record_with, before_begun, before_call, underway_told}
+use Rattle.gt_host.specs.Auditing.{item_told, record_of, record_in, records_of, asked_lines, audit_text}
 
 -- what the law of gt_core says of handles
 abbrev pub HasOneSubject : Type 0

@@ -1,4 +1,5 @@
-use Rattle.std.proofs.Common.{◌≡◌, ◌≢◌, ◌≤◌, Bool, true, false, cond, List, [], ◌∷◌, length, None, Some, ap, sym, ◌∙◌, inl, inr, arith, subst, Option}
+use Rattle.std.proofs.Common.{◌≡◌, ◌≢◌, ◌≤◌, Bool, true, false, cond, List, [], ◌∷◌, length, None, Some, ap, sym, ◌∙◌}
+use Rattle.std.proofs.Common.{inl, inr, arith, subst, Option}
 use Rattle.std.specs.Prelude.{◌==◌, ◌||◌, IsTrue}
 use Rattle.gt_types.specs.Config.{AreFaultless, IsFirstFault, is_taken}
 use Rattle.gt_types.specs.Names.{domain_of}
@@ -9,7 +10,8 @@ use Rattle.gt_types.specs.declared.config.ConfigFault.{ConfigFault}
 use Rattle.gt_script.specs.Contents.{Contents, first_gen}
 use Rattle.gt_types.specs.declared.limits.TheConstants.{LAST_GENERATION}
 use Rattle.gt_core.specs.History.{Setting}
-use Rattle.gt_core.specs.Standing.{CoreModel, CoreStands, setting_of}
+use Rattle.gt_core.specs.Standing.{CoreModel, CoreStands}
+use Rattle.gt_core.specs.Acting.{setting_of}
 use Rattle.gt_host.specs.declared.rights.Rights.{Rights}
 use Rattle.gt_host.specs.Rights.{may_by, may_in}
 use Rattle.gt_host.specs.Playing.{StartsFor}

@@ -1,31 +1,14 @@
 -- The audit of a run, as its trace has it.
 use Rattle.std.specs.Prelude.{◌≡◌, ◌==◌, ◌++◌, ℕ, Bool, true, false, List, [], ◌∷◌, Option, None, Some, if◌then◌else◌}
 use Rattle.std.specs.Prelude.{option_to_list}
-use Rattle.gt_types.specs.declared.DomId.{DomId}
-use Rattle.gt_types.specs.declared.GrantRef.{GrantRef}
-use Rattle.gt_handles.specs.declared.handles.Handle.{Handle}
-use Rattle.gt_calls.specs.Asking.{asked}
-use Rattle.gt_calls.specs.declared.request.Asked.{Asked}
+use Rattle.gt_host.specs.Prelude.{DomId, GrantRef, Handle, asked, Asked, End, type_text, line_text, reply_text, CopyEnd}
+use Rattle.gt_host.specs.Prelude.{Hypercall, Record, Reply, History, Setting, Underway, open_call, grown, subject_at}
+use Rattle.gt_host.specs.Prelude.{Answer, Element, Happened, Began, Stepped, Item}
 use Rattle.gt_calls.specs.declared.request.Asked.TheVariants as asks
-use Rattle.gt_calls.specs.declared.request.End.{End}
-use Rattle.gt_texts.specs.Printing.{type_text}
-use Rattle.gt_audit.specs.Lines.{line_text, reply_text}
-use Rattle.gt_audit.specs.declared.record.CopyEnd.{CopyEnd}
-use Rattle.gt_audit.specs.declared.record.Hypercall.{Hypercall}
 use Rattle.gt_audit.specs.declared.record.Hypercall.TheVariants as calls
-use Rattle.gt_audit.specs.declared.record.Record.{Record}
-use Rattle.gt_audit.specs.declared.record.Reply.{Reply}
 use Rattle.gt_audit.specs.declared.record.Reply.TheVariants as replies
-use Rattle.gt_core.specs.History.{History, Setting, Underway, open_call}
-use Rattle.gt_core.specs.Legal.{grown}
-use Rattle.gt_core.specs.Subject.{subject_at}
-use Rattle.gt_core.specs.declared.trace.Answer.{Answer}
 use Rattle.gt_core.specs.declared.trace.Answer.TheVariants as answers
-use Rattle.gt_core.specs.declared.trace.Element.{Element}
 use Rattle.gt_core.specs.declared.trace.Element.TheVariants as elements
-use Rattle.gt_core.specs.declared.trace.Happened.{Happened}
-use Rattle.gt_core.specs.declared.trace.Happened.TheVariants.{Began, Stepped}
-use Rattle.gt_core.specs.declared.trace.Item.{Item}
 use Rattle.gt_host.specs.Printing.{answer_text}
 
 -- what a call is recorded as

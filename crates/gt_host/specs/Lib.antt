@@ -5,6 +5,7 @@ pub mod Labels
 pub mod Naming
 pub mod OpenCalls
 pub mod Playing
+pub mod Prelude
 pub mod Printing
 pub mod Recording
 pub mod Rights

@@ -1,24 +1,14 @@
 -- What is written for what is read.
 use Rattle.std.specs.Prelude.{◌≡◌, ◌⊎◌, ◌++◌, ℕ, ◌≤◌, Bool, List, [], length, take, Option, Some, Result, Ok, Err, All}
 use Rattle.std.specs.Prelude.{IsTrue}
-use Rattle.std.specs.Io.KnownBytes.{Appends, Keeps}
-use Rattle.gt_types.specs.Config.{AreFaultless, is_taken}
-use Rattle.gt_types.specs.declared.limits.TheConstants.{LAST_GENERATION}
+use Rattle.gt_host.specs.Prelude.{Appends, Keeps, AreFaultless, is_taken, LAST_GENERATION, block_fault_shown, Contents}
+use Rattle.gt_host.specs.Prelude.{type_names, first_gen, Wrong, in_script, in_policy, ScriptStep, Setting, Legal}
+use Rattle.gt_host.specs.Prelude.{CoreModel, CoreStands, setting_of, PlayFault, Memory, Read, Write, Script, Policy}
+use Rattle.gt_host.specs.Prelude.{Rights, AppendsBeginning}
 use Rattle.gt_policy.specs.declared.fault.TokenFault as policy
-use Rattle.gt_script.specs.Blocks.{block_fault_shown}
-use Rattle.gt_script.specs.Contents.{Contents, type_names, first_gen}
-use Rattle.gt_script.specs.Script.{Wrong, in_script, in_policy}
-use Rattle.gt_script.specs.declared.script.ScriptStep.{ScriptStep}
-use Rattle.gt_core.specs.History.{Setting}
-use Rattle.gt_core.specs.Legal.{Legal}
-use Rattle.gt_core.specs.Standing.{CoreModel, CoreStands, setting_of}
-use Rattle.gt_host.specs.declared.fault.PlayFault.{PlayFault}
-use Rattle.gt_host.specs.declared.fault.PlayFault.TheVariants.{Memory, Read, Write, Script, Policy}
-use Rattle.gt_host.specs.declared.rights.Rights.{Rights}
 use Rattle.gt_host.specs.Auditing.{audit_text}
 use Rattle.gt_host.specs.Rights.{may_by, may_in}
 use Rattle.gt_host.specs.Runs.{Progress, IsRunOf, KnowsOpen, open_lines}
-use Rattle.gt_streams.specs.Streams.{AppendsBeginning}
 
 -- the domains of the script and its first generation are within the limits
 -- of a run, and each step is one of a domain of it

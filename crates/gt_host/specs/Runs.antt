@@ -1,40 +1,18 @@
 -- What a run of a script does and prints.
 use Rattle.std.specs.Prelude.{◌≡◌, ◌≤◌, ℕ, ◌+◌, ◌-◌, ◌^◌, ◌==◌, ◌&&◌, List, [], ◌∷◌, ◌++◌, length, replicate, Option}
 use Rattle.std.specs.Prelude.{Some, None, unwrap_or, is_some, if◌then◌else◌}
-use Rattle.std.specs.Borrow.{Bor}
-use Rattle.std.specs.Str.{bytes_eq}
-use Rattle.gt_types.specs.declared.DomId.{DomId}
-use Rattle.gt_types.specs.declared.GrantRef.{GrantRef}
-use Rattle.gt_types.specs.declared.config.DomainConfig.{DomainConfig}
-use Rattle.gt_entry.specs.declared.entry.Entry.{Entry}
+use Rattle.gt_host.specs.Prelude.{Bor, bytes_eq, DomId, GrantRef, DomainConfig, Entry, hex_bytes, Grant, TableCall}
+use Rattle.gt_host.specs.Prelude.{AccessCall, ScriptCall, ScriptAction, ScriptStep, Handle, Request, Answer, Mapped}
+use Rattle.gt_host.specs.Prelude.{Event, Begin, Tick, Item, Element, History, Setting, open_call, history_after}
+use Rattle.gt_host.specs.Prelude.{shown_at, Outcome, Answered, Busy}
 use Rattle.gt_entry.specs.declared.entry.Entry.TheVariants as entries
-use Rattle.gt_lines.specs.Hexadecimal.{hex_bytes}
-use Rattle.gt_lines.specs.declared.calls.Grant.{Grant}
 use Rattle.gt_lines.specs.declared.calls.Grant.TheVariants as grants
-use Rattle.gt_lines.specs.declared.calls.TableCall.{TableCall}
 use Rattle.gt_lines.specs.declared.calls.TableCall.TheVariants as tables
-use Rattle.gt_lines.specs.declared.calls.AccessCall.{AccessCall}
 use Rattle.gt_lines.specs.declared.calls.AccessCall.TheVariants as accesses
-use Rattle.gt_lines.specs.declared.calls.ScriptCall.{ScriptCall}
 use Rattle.gt_lines.specs.declared.calls.ScriptCall.TheVariants as calls
-use Rattle.gt_lines.specs.declared.calls.ScriptAction.{ScriptAction}
 use Rattle.gt_lines.specs.declared.calls.ScriptAction.TheVariants as actions
-use Rattle.gt_script.specs.declared.script.ScriptStep.{ScriptStep}
-use Rattle.gt_handles.specs.declared.handles.Handle.{Handle}
-use Rattle.gt_calls.specs.declared.request.Request.{Request}
 use Rattle.gt_calls.specs.declared.request.Request.TheVariants as requests
-use Rattle.gt_core.specs.declared.trace.Answer.{Answer}
-use Rattle.gt_core.specs.declared.trace.Answer.TheVariants.{Mapped}
-use Rattle.gt_core.specs.declared.trace.Event.{Event}
-use Rattle.gt_core.specs.declared.trace.Event.TheVariants.{Begin, Tick}
-use Rattle.gt_core.specs.declared.trace.Item.{Item}
-use Rattle.gt_core.specs.declared.trace.Element.{Element}
 use Rattle.gt_core.specs.declared.trace.Element.TheVariants as elements
-use Rattle.gt_core.specs.History.{History, Setting, open_call}
-use Rattle.gt_core.specs.Legal.{history_after}
-use Rattle.gt_core.specs.Shown.{shown_at}
-use Rattle.gt_host.specs.declared.outcome.Outcome.{Outcome}
-use Rattle.gt_host.specs.declared.outcome.Outcome.TheVariants.{Answered, Busy}
 use Rattle.gt_host.specs.Copying.{copy_asked}
 use Rattle.gt_host.specs.Printing.{answer_line, busy_line, idle_line, open_line}
 use Rattle.gt_host.specs.Showing.{show_line}

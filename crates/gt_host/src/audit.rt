@@ -1,6 +1,6 @@
 //! The audit of a run: a record of each answer of an audited call.
 ghost use Rattle.std.specs.Prelude.{◌≡◌, ◌++◌, ℕ, List, [], true, OnOk, option_to_list};
-ghost use Rattle.gt_core.specs.Standing.{setting_of};
+ghost use Rattle.gt_core.specs.Acting.{setting_of};
 ghost use Rattle.gt_host.specs.Auditing.{end_told, reply_told, record_told, record_lines, asked_lines, PrintsAs};
 ghost use Rattle.gt_host.specs.Recording.{IsAbout};
 

@@ -1,5 +1,6 @@
 -- The calls of a list are calls of a run, and the run of all lists has a legal order.
-use Rattle.std.proofs.Common.{Bor, ◌≡◌, inl, inr, ⊎_elim, ◌<◌, ◌==◌, nat_lt, ℕ, zero, suc, Bool, true, false, List, [], ◌∷◌, ◌++◌, length, Result, Ok, Err, refl, sym, ap, ◌∙◌, subst, arith}
+use Rattle.std.proofs.Common.{Bor, ◌≡◌, inl, inr, ⊎_elim, ◌<◌, ◌==◌, nat_lt, ℕ, zero, suc, Bool, true, false, List, []}
+use Rattle.std.proofs.Common.{◌∷◌, ◌++◌, length, Result, Ok, Err, refl, sym, ap, ◌∙◌, subst, arith}
 use Rattle.std.specs.Prelude.{take}
 use Rattle.std.proofs.lemmas.Bool.Decides.{nat_tests}
 use mathlib.Core.Option.{some}
@@ -18,13 +19,14 @@ use Rattle.gt_calls.specs.declared.action.Verdict.{Verdict}
 use Rattle.gt_calls.specs.Asking.{asked}
 use Rattle.gt_calls.specs.declared.request.Request.{Request}
 use Rattle.gt_calls.specs.declared.request.Request.TheVariants as requests
-use Rattle.gt_core.specs.Standing.{answer_of}
+use Rattle.gt_core.specs.Acting.{answer_of}
 use Rattle.gt_core.specs.declared.trace.Answer.{Answer}
 use Rattle.gt_core.specs.declared.trace.Answer.TheVariants as answers
 use Rattle.gt_frames.specs.Receipts.{Writing}
 use Rattle.gt_calls.specs.declared.action.Verdict.TheVariants.{Refused}
 use Rattle.gt_live.specs.Accesses.{IsWrittenBy}
-use Rattle.gt_live.specs.Domains.{Accesses, AllowRelation, Answered, HasLeft, IsOf, KeepsPinned, verdict_of, verdict_of_frames, verdict_of_size, verdict_of_version}
+use Rattle.gt_live.specs.Domains.{Accesses, AllowRelation, Answered, HasLeft, IsOf, KeepsPinned, verdict_of}
+use Rattle.gt_live.specs.Domains.{verdict_of_frames, verdict_of_size, verdict_of_version}
 use Rattle.gt_live.specs.Ending.{IsOfMapping}
 use Rattle.gt_live.specs.Starting.{IsNewDomain}
 use Rattle.gt_live.specs.declared.domain.Domain.{Domain}
@@ -36,7 +38,8 @@ use Rattle.gt_order.proofs.Order.{runs-have-legal-orders}
 use Rattle.gt_order.proofs.Writes.{lost-made, writes-made}
 use Rattle.gt_order.specs.Calling.{IsOutcomeOf, IsStoring, StaysOf, WasMade}
 use Rattle.gt_order.specs.Leaving.{MayUnmapAll}
-use Rattle.gt_order.specs.Runs.{AreCalls, CallMade, FitsTypes, IsAtRest, IsRun, IsSeatRun, KeepsNoPin, Outcome as CallOutcome, SeatRun, domain_after}
+use Rattle.gt_order.specs.Runs.{AreCalls, CallMade, FitsTypes, IsAtRest, IsRun, IsSeatRun, KeepsNoPin}
+use Rattle.gt_order.specs.Runs.{Outcome as CallOutcome, SeatRun, domain_after}
 use Rattle.gt_order.specs.Runs.Outcome.{Told, Kept, Starved, Wrote}
 use Rattle.gt_lines.specs.declared.calls.AccessCall.{AccessCall}
 use Rattle.gt_lines.specs.declared.calls.AccessCall.TheVariants as accesses
@@ -48,11 +51,13 @@ use Rattle.gt_host.specs.Runs.{Asks as SaysRequest, Named, access_request, handl
 use Rattle.gt_script.specs.declared.tasks.Deed.{Deed}
 use Rattle.gt_script.specs.declared.tasks.Deed.TheVariants.{Await, Do, Tell}
 use Rattle.gt_script.specs.declared.tasks.Task.{Task}
-use Rattle.gt_run.specs.Asking.{AnswersCall, Asks, frames_answer, mapped_answer, plain_answer, size_answer, version_answer}
+use Rattle.gt_run.specs.Asking.{AnswersCall, Asks, frames_answer, mapped_answer, plain_answer, size_answer}
+use Rattle.gt_run.specs.Asking.{version_answer}
 use Rattle.gt_run.specs.Printing.{Served}
 use Rattle.gt_run.specs.Serving.{DoesDeed, DoesWhere, LeadsTo, MakesCall, Outcome, Progress, at_start}
 use Rattle.gt_run.specs.declared.lists.Duty.{Duty}
-use Rattle.gt_interleaving.specs.Texts.{AreCallsOf, AreCallsOfList, AreOfALegalOrder, HasList, IsAnswerOf, IsQuiet, IsViewOf, ReadsNoBytes, AsksNoBytes, TextsAreOfALegalOrder}
+use Rattle.gt_interleaving.specs.Texts.{AreCallsOf, AreCallsOfList, AreOfALegalOrder, HasList, IsAnswerOf, IsQuiet}
+use Rattle.gt_interleaving.specs.Texts.{IsViewOf, ReadsNoBytes, AsksNoBytes, TextsAreOfALegalOrder}
 
 -- a request that reaches no bytes
 abbrev NoBytes : Request → Type 0

@@ -1,39 +1,14 @@
 -- The lists of a run that read and copy no bytes, and the legal order whose answers they print.
 use Rattle.std.specs.Prelude.{◌≡◌, ◌⊎◌, ℕ, ◌<◌, ◌==◌, true, List, [], ◌∷◌, ◌++◌, length}
-use mathlib.Core.Option.{some}
-use lib.ListN.{get_elem?}
-use Rattle.atomic_table.specs.Table.{State}
-use Rattle.gt_types.specs.declared.config.Config.{Config}
-use Rattle.gt_types.specs.declared.denial.Denial.{Denial}
-use Rattle.gt_words.specs.Conditions.{Board}
-use Rattle.gt_words.specs.History.{History}
-use Rattle.gt_words.specs.Rule.{Shows, id_at}
-use Rattle.gt_words.specs.Views.{IsIn}
-use Rattle.gt_words.specs.declared.view.View.{View}
-use Rattle.gt_calls.specs.declared.request.Request.{Request}
-use Rattle.gt_core.specs.History.{History as Items}
-use Rattle.gt_core.specs.Standing.{answer_of}
-use Rattle.gt_core.specs.declared.trace.Answer.{Answer}
+use Rattle.gt_interleaving.specs.Prelude.{some, get_elem?, State, Config, Denial, Board, History, Shows, id_at, IsIn}
+use Rattle.gt_interleaving.specs.Prelude.{View, Request, Items, answer_of, Answer, IsOfAccess, AllowRelation, HasLeft}
+use Rattle.gt_interleaving.specs.Prelude.{Domain, Left, Monitor, AreUnmaps, MayUnmapAll, IsLegalOrder, CallMade}
+use Rattle.gt_interleaving.specs.Prelude.{FitsTypes, CallOutcome, SeatRun, Told, Kept, Starved, Wrote, AccessCall}
+use Rattle.gt_interleaving.specs.Prelude.{ScriptCall, SaysRequest, Named, Do, Task, Duty, Served, IsServed, MakesCall}
+use Rattle.gt_interleaving.specs.Prelude.{Outcome, Progress}
 use Rattle.gt_core.specs.declared.trace.Answer.TheVariants as answers
-use Rattle.gt_live.specs.Accesses.{IsOfAccess}
-use Rattle.gt_live.specs.Domains.{AllowRelation, HasLeft}
-use Rattle.gt_live.specs.declared.domain.Domain.{Domain}
-use Rattle.gt_live.specs.declared.domain.Left.{Left}
-use Rattle.gt_live.specs.declared.monitor.Monitor.{Monitor}
-use Rattle.gt_order.specs.Leaving.{AreUnmaps, MayUnmapAll}
-use Rattle.gt_order.specs.Ordering.{IsLegalOrder}
-use Rattle.gt_order.specs.Runs.{CallMade, FitsTypes, Outcome as CallOutcome, SeatRun}
-use Rattle.gt_order.specs.Runs.Outcome.{Told, Kept, Starved, Wrote}
-use Rattle.gt_lines.specs.declared.calls.AccessCall.{AccessCall}
 use Rattle.gt_lines.specs.declared.calls.AccessCall.TheVariants as accesses
-use Rattle.gt_lines.specs.declared.calls.ScriptCall.{ScriptCall}
 use Rattle.gt_lines.specs.declared.calls.ScriptCall.TheVariants as calls
-use Rattle.gt_host.specs.Runs.{Asks as SaysRequest, Named}
-use Rattle.gt_script.specs.declared.tasks.Deed.TheVariants.{Do}
-use Rattle.gt_script.specs.declared.tasks.Task.{Task}
-use Rattle.gt_run.specs.declared.lists.Duty.{Duty}
-use Rattle.gt_run.specs.Printing.{Served}
-use Rattle.gt_run.specs.Serving.{IsServed, MakesCall, Outcome, Progress}
 
 -- the line asks for no read of bytes and for no copy
 abbrev pub AsksNoBytes : AccessCall → Type 0

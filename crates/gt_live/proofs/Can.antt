@@ -1,5 +1,6 @@
 -- What the next action of a call rests on lets its seat make it, and what it then did.
-use Rattle.std.proofs.Common.{◌≡◌, ◌≢◌, ◌⊎◌, ℕ, ◌+◌, ◌<◌, ◌==◌, ◌&&◌, not, Bool, true, false, cond, refl, sym, ap, ◌∙◌, subst, List, [], ◌∷◌, length, zero, suc, Some, None, inl, inr, arith, nat_lt, nat_le}
+use Rattle.std.proofs.Common.{◌≡◌, ◌≢◌, ◌⊎◌, ℕ, ◌+◌, ◌<◌, ◌==◌, ◌&&◌, not, Bool, true, false, cond, refl, sym, ap, ◌∙◌}
+use Rattle.std.proofs.Common.{subst, List, [], ◌∷◌, length, zero, suc, Some, None, inl, inr, arith, nat_lt, nat_le}
 use Rattle.std.specs.Prelude.{unwrap_or, ◌^◌}
 use Rattle.std.specs.List.{position_or_len}
 use Rattle.std.proofs.lemmas.Bool.{eq-eqb, lt-ltb, ltb-false, not-false}
@@ -18,10 +19,12 @@ use Rattle.gt_entry.specs.Entries.{is_read_only}
 use Rattle.gt_entry.specs.Permits.{permits}
 use Rattle.gt_entry.specs.Spelling.{IsSpelled, idle_word_of, first_body, second_body}
 use Rattle.gt_entry.specs.Words.{control_of, kind_of, size_of}
-use Rattle.gt_words.specs.Conditions.{CanTurn, Changes, HasDomain, Holds, IsIdleOf, IsWordOf, Pins}
+use Rattle.gt_words.specs.Conditions.{CanTurn, HasDomain, Holds, IsIdleOf, IsWordOf}
+use Rattle.gt_words.specs.Answers.{Changes, Pins}
 use Rattle.gt_words.specs.Controls.{generation_of, pins_in}
 use Rattle.gt_words.specs.Rule.{IsKeptHeader, Layout, id_at, position_in}
-use Rattle.gt_words.specs.Views.{HasBody, is_pin, pins_like, IsIn, LivePin, Seen as Looks, last_of, last_seen, own_body, pins, record_seen, seen, seen_or_none, steps_on}
+use Rattle.gt_words.specs.Views.{HasBody, is_pin, pins_like, IsIn, LivePin, Seen as Looks, last_of, last_seen, own_body}
+use Rattle.gt_words.specs.Views.{pins, record_seen, seen, seen_or_none, steps_on}
 use Rattle.gt_entry.specs.declared.change.Half.TheVariants.{First as FirstHalf, Second as SecondHalf}
 use Rattle.gt_words.specs.declared.view.EntryRecord.{EntryRecord}
 use Rattle.gt_words.specs.History.{Moment}
@@ -29,11 +32,14 @@ use Rattle.gt_words.specs.declared.view.View.{View}
 use Rattle.gt_handles.specs.declared.handles.Handle.{Handle}
 use Rattle.gt_calls.specs.declared.action.Action.TheVariants.{Step as Makes}
 use Rattle.gt_entry.specs.declared.change.Change.{Change}
-use Rattle.gt_entry.specs.declared.change.Change.TheVariants.{Publish, Revoke as ToInvalid, Withdraw as ToWithdrawn, Demote as ToReadOnly, Promote as ToWritable}
+use Rattle.gt_entry.specs.declared.change.Change.TheVariants.{Publish, Revoke as ToInvalid, Withdraw as ToWithdrawn}
+use Rattle.gt_entry.specs.declared.change.Change.TheVariants.{Demote as ToReadOnly, Promote as ToWritable}
 use Rattle.gt_calls.specs.declared.action.Seen.{Seen}
 use Rattle.gt_calls.specs.declared.action.Seen.TheVariants.{Nothing, Word, Taken, Missed}
 use Rattle.gt_calls.specs.declared.action.Step.{Step}
-use Rattle.gt_calls.specs.declared.action.Step.TheVariants.{LookHeader, LookControl, LookBody, Pin, Unpin, StoreBody, StoreHeader, Exchange, Read as ReadBytes, Write as WriteBytes, Copy as CopyBytes}
+use Rattle.gt_calls.specs.declared.action.Step.TheVariants.{LookHeader, LookControl, LookBody, Pin, Unpin, StoreBody}
+use Rattle.gt_calls.specs.declared.action.Step.TheVariants.{StoreHeader, Exchange, Read as ReadBytes}
+use Rattle.gt_calls.specs.declared.action.Step.TheVariants.{Write as WriteBytes, Copy as CopyBytes}
 use Rattle.gt_calls.specs.declared.request.Asked.{Asked}
 use Rattle.gt_calls.specs.declared.request.Asked.TheVariants as asks
 use Rattle.gt_calls.specs.declared.copying.Aim.{Aim}
@@ -45,7 +51,8 @@ use Rattle.gt_calls.specs.declared.request.Holder.TheVariants.{Mapping as ByHand
 use Rattle.gt_calls.specs.Changes.{raise_of}
 use Rattle.gt_calls.specs.Holding.{last_first}
 use Rattle.gt_calls.specs.Path.{Continuation, idle_word, is_stopped, path}
-use Rattle.gt_calls.specs.Resting.{HasSeenTable, HasStored, IsFor, IsMapped, IsOfMap, IsOfRun as IsNamed, LookedLast, Rests, RestsOnGrant, RestsOnTry}
+use Rattle.gt_calls.specs.Resting.{HasSeenTable, HasStored, IsFor, IsMapped, IsOfMap, IsOfRun as IsNamed, LookedLast}
+use Rattle.gt_calls.specs.Resting.{Rests, RestsOnGrant, RestsOnTry}
 use Rattle.gt_calls.specs.Opening.{IsAllowed, OpensGrant, OpensTurn, opens}
 use Rattle.gt_calls.specs.Rules.{CallerKnowledge, begun, frames_of, is_kind, label_of, map_dir, map_perms, triples}
 use Rattle.gt_entry.specs.Entries.{frame_of, is_invalid}

@@ -1,6 +1,7 @@
 -- A copy at its access: what its routes reach, what the policy allows of it, and how it is answered.
 use Rattle.gt_live.proofs.Moments.{only-access, walk-moments}
-use Rattle.std.proofs.Common.{◌≡◌, ◌+◌, ◌≤◌, ℕ, Bool, true, false, cond, refl, sym, ap, ◌∙◌, subst, List, [], ◌∷◌, ◌++◌, Option, Some, None, inl, inr}
+use Rattle.std.proofs.Common.{◌≡◌, ◌+◌, ◌≤◌, ℕ, Bool, true, false, cond, refl, sym, ap, ◌∙◌, subst, List, [], ◌∷◌, ◌++◌}
+use Rattle.std.proofs.Common.{Option, Some, None, inl, inr}
 use Rattle.std.specs.Prelude.{IfErr, IfOk, Result, Ok, Err, is_none}
 use Rattle.gt_types.specs.declared.DomId.{DomId}
 use Rattle.gt_types.specs.declared.TypeId.{TypeId}
@@ -42,7 +43,8 @@ use Rattle.gt_calls.specs.declared.request.Asked.TheVariants as asks
 use Rattle.gt_calls.specs.declared.call.Phase.TheVariants.{Accessing}
 use Rattle.gt_calls.specs.CopyCalls.{copy_call}
 use Rattle.gt_calls.specs.Resting.{IsReached, RestsOnWays}
-use Rattle.gt_calls.specs.Rules.{CallerKnowledge, begun, copy_begun, denied, first, is_dest_granted, is_source_granted, label_of, refused_when, rights_to_copy, via_judged}
+use Rattle.gt_calls.specs.Rules.{CallerKnowledge, begun, copy_begun, denied, first, is_dest_granted, is_source_granted}
+use Rattle.gt_calls.specs.Rules.{label_of, refused_when, rights_to_copy, via_judged}
 use Rattle.gt_calls.specs.Standing.{pins_by_call}
 use Rattle.gt_live.specs.Accesses.{Accessed, AnsweredBy, IsCopiedBy, IsOfAccess, frame_named, onward, spot_of}
 use Rattle.gt_live.specs.Underway.{AreOfRun, AtAccess, GivesBack, HasTaken}

@@ -1,5 +1,6 @@
 -- A copy on its way: its next step can be made, and where it stands after it.
-use Rattle.std.proofs.Common.{◌≡◌, ◌⊎◌, ℕ, ◌-◌, ◌<◌, ◌==◌, Bool, true, false, cond, refl, sym, ap, ◌∙◌, subst, List, [], ◌∷◌, ◌++◌, length, Option, Some, None, inl, inr, nat_lt, append_assoc}
+use Rattle.std.proofs.Common.{◌≡◌, ◌⊎◌, ℕ, ◌-◌, ◌<◌, ◌==◌, Bool, true, false, cond, refl, sym, ap, ◌∙◌, subst, List, []}
+use Rattle.std.proofs.Common.{◌∷◌, ◌++◌, length, Option, Some, None, inl, inr, nat_lt, append_assoc}
 use Rattle.std.specs.Prelude.{IsSome}
 use Rattle.std.proofs.lemmas.Bool.{eqb-true}
 use Rattle.gt_types.specs.declared.limits.TheConstants.{TABLE_ENTRIES}
@@ -18,9 +19,11 @@ use Rattle.gt_entry.specs.declared.entry.Entry.{Entry}
 use Rattle.gt_entry.specs.declared.entry.Entry.TheVariants.{Invalid, Page, Sub, Via}
 use Rattle.gt_entry.specs.declared.control.Control.{Control}
 use Rattle.gt_entry.specs.declared.control.Kind.{Kind}
-use Rattle.gt_entry.specs.declared.control.Kind.TheVariants.{Invalid as KindInvalid, Page as KindPage, Sub as KindSub, Via as KindVia}
+use Rattle.gt_entry.specs.declared.control.Kind.TheVariants.{Invalid as KindInvalid, Page as KindPage, Sub as KindSub}
+use Rattle.gt_entry.specs.declared.control.Kind.TheVariants.{Via as KindVia}
 use Rattle.gt_entry.specs.declared.change.Half.TheVariants.{First as FirstHalf, Second as SecondHalf}
-use Rattle.gt_entry.specs.declared.change.Change.TheVariants.{Publish, Revoke as ToInvalid, Withdraw as ToWithdrawn, Demote as ToReadOnly, Promote as ToWritable}
+use Rattle.gt_entry.specs.declared.change.Change.TheVariants.{Publish, Revoke as ToInvalid, Withdraw as ToWithdrawn}
+use Rattle.gt_entry.specs.declared.change.Change.TheVariants.{Demote as ToReadOnly, Promote as ToWritable}
 use Rattle.gt_entry.specs.Permits.{forwards, permits}
 use Rattle.gt_entry.specs.Spelling.{entry_of, entry_with}
 use Rattle.gt_entry.specs.Words.{control_of, header_of, is_kind, kind_of, size_of}
@@ -29,7 +32,8 @@ use Rattle.gt_words.specs.Controls.{ForwardsPin, LeadsTo, PermitsPin, generation
 use Rattle.gt_words.specs.Keeping.{SeesNoEarlier}
 use Rattle.gt_words.specs.Laws.{domain_at}
 use Rattle.gt_words.specs.Rule.{Layout, id_at, position_in}
-use Rattle.gt_words.specs.Views.{HasBody, Seen as Looks, last_seen, record_seen, seen, seen_or_none, steps_on, value_or_zero, with_body}
+use Rattle.gt_words.specs.Views.{HasBody, Seen as Looks, last_seen, record_seen, seen, seen_or_none, steps_on}
+use Rattle.gt_words.specs.Views.{value_or_zero, with_body}
 use Rattle.gt_words.specs.declared.view.EntryRecord.{EntryRecord}
 use Rattle.gt_words.specs.History.{Moment}
 use Rattle.gt_words.specs.declared.view.View.{View}
@@ -38,11 +42,14 @@ use Rattle.gt_calls.specs.declared.action.Place.{Place}
 use Rattle.gt_calls.specs.declared.action.Seen.{Seen}
 use Rattle.gt_calls.specs.declared.action.Seen.TheVariants.{Nothing, Word, Taken, Missed}
 use Rattle.gt_calls.specs.declared.action.Step.{Step}
-use Rattle.gt_calls.specs.declared.action.Step.TheVariants.{LookHeader, LookControl, LookBody, Pin, Unpin, StoreBody, StoreHeader, Exchange, Read as ReadBytes, Write as WriteBytes, Copy as CopyBytes}
+use Rattle.gt_calls.specs.declared.action.Step.TheVariants.{LookHeader, LookControl, LookBody, Pin, Unpin, StoreBody}
+use Rattle.gt_calls.specs.declared.action.Step.TheVariants.{StoreHeader, Exchange, Read as ReadBytes}
+use Rattle.gt_calls.specs.declared.action.Step.TheVariants.{Write as WriteBytes, Copy as CopyBytes}
 use Rattle.gt_calls.specs.declared.action.Verdict.{Verdict}
 use Rattle.gt_calls.specs.declared.action.Verdict.TheVariants.{Granted, Given, Mapped, Refused}
 use Rattle.gt_calls.specs.declared.call.Phase.{Phase}
-use Rattle.gt_calls.specs.declared.call.Phase.TheVariants.{Storing, StoringSecond, Exchanging, Looking, Changing, Walking, Accessing, Asking, Last, Ending}
+use Rattle.gt_calls.specs.declared.call.Phase.TheVariants.{Storing, StoringSecond, Exchanging, Looking, Changing}
+use Rattle.gt_calls.specs.declared.call.Phase.TheVariants.{Walking, Accessing, Asking, Last, Ending}
 use Rattle.gt_calls.specs.declared.copying.Aim.{Aim}
 use Rattle.gt_calls.specs.declared.copying.Aim.TheVariants.{Mapping, Source, Dest}
 use Rattle.gt_calls.specs.declared.held.Held.{Held}
@@ -60,9 +67,15 @@ use Rattle.gt_calls.specs.declared.request.End.{End}
 use Rattle.gt_calls.specs.declared.request.Holder.TheVariants.{Mapping as ByHandle, Leg as ByLeg}
 use Rattle.gt_handles.specs.declared.handles.Handle.{Handle}
 use Rattle.gt_calls.specs.Holding.{held_by, last_first, pins_so_far, without_last}
-use Rattle.gt_calls.specs.Machine.{action_at, after_dest_pin, after_leg, after_look, after_miss, after_pin_of, after_source_pin, after_words, at_dest, leg_after, leg_step, next_to_give, phase_after, where_via}
-use Rattle.gt_calls.specs.Path.{Continuation, dest_pair, end_leg, entry_refusal, held_of, path, place_of, rule_of_try, second_leg, source_pair}
-use Rattle.gt_calls.specs.Resting.{HasRead, HasSeenTable, IsFor, IsForwarded, IsMapped, IsOnFrom, IsOfRun as IsNamed, Lets, Rests, RestsOnTry}
+use Rattle.gt_calls.specs.Machine.{action_at, after_dest_pin, after_leg, after_pin_of}
+use Rattle.gt_calls.specs.Legs.{after_look, after_miss}
+use Rattle.gt_calls.specs.Machine.{after_source_pin, at_dest, next_to_give}
+use Rattle.gt_calls.specs.Legs.{after_words, leg_after, leg_step}
+use Rattle.gt_calls.specs.Machine.{phase_after, where_via}
+use Rattle.gt_calls.specs.Path.{Continuation, dest_pair, end_leg, entry_refusal, held_of, path, place_of, rule_of_try}
+use Rattle.gt_calls.specs.Path.{second_leg, source_pair}
+use Rattle.gt_calls.specs.Resting.{HasRead, HasSeenTable, IsFor, IsForwarded, IsMapped, IsOnFrom, IsOfRun as IsNamed}
+use Rattle.gt_calls.specs.Resting.{Lets, Rests, RestsOnTry}
 use Rattle.gt_calls.specs.Rules.{CallerKnowledge, first_look, is_dest_granted, via_judged}
 use Rattle.gt_live.specs.Driving.{CanMake, Knows}
 use Rattle.gt_live.specs.Mappings.{HasPin, record_of}

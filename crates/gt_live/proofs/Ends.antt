@@ -1,5 +1,6 @@
 -- What follows the steps of a call that waits for nobody, by the grammar of its path.
-use Rattle.std.proofs.Common.{◌≡◌, ℕ, ◌==◌, nat_lt, Bool, true, false, cond, refl, sym, subst, List, [], ◌∷◌, ◌++◌, Option, Some, None, zero, suc}
+use Rattle.std.proofs.Common.{◌≡◌, ℕ, ◌==◌, nat_lt, Bool, true, false, cond, refl, sym, subst, List, [], ◌∷◌, ◌++◌}
+use Rattle.std.proofs.Common.{Option, Some, None, zero, suc}
 use Rattle.std.proofs.lemmas.Bool.{eqb-true}
 use Rattle.gt_types.specs.declared.DomId.{DomId}
 use Rattle.gt_types.specs.declared.GrantRef.{GrantRef}
@@ -16,13 +17,15 @@ use Rattle.gt_entry.specs.Words.{control_of, header_of, size_of}
 use Rattle.gt_calls.specs.declared.action.Action.{Action}
 use Rattle.gt_calls.specs.declared.action.Action.TheVariants.{Step as Makes, Done}
 use Rattle.gt_entry.specs.declared.change.Change.{Change}
-use Rattle.gt_entry.specs.declared.change.Change.TheVariants.{Publish, Revoke as ToInvalid, Withdraw as ToWithdrawn, Demote as ToReadOnly, Promote as ToWritable}
+use Rattle.gt_entry.specs.declared.change.Change.TheVariants.{Publish, Revoke as ToInvalid, Withdraw as ToWithdrawn}
+use Rattle.gt_entry.specs.declared.change.Change.TheVariants.{Demote as ToReadOnly, Promote as ToWritable}
 use Rattle.gt_entry.specs.declared.change.Half.{Half}
 use Rattle.gt_entry.specs.declared.change.Half.TheVariants.{First, Second}
 use Rattle.gt_calls.specs.declared.action.Seen.{Seen}
 use Rattle.gt_calls.specs.declared.action.Seen.TheVariants.{Nothing, Word, Taken, Missed}
 use Rattle.gt_calls.specs.declared.action.Step.{Step}
-use Rattle.gt_calls.specs.declared.action.Step.TheVariants.{LookHeader, LookControl, LookBody, Pin, Unpin, StoreBody, StoreHeader, Exchange}
+use Rattle.gt_calls.specs.declared.action.Step.TheVariants.{LookHeader, LookControl, LookBody, Pin, Unpin, StoreBody}
+use Rattle.gt_calls.specs.declared.action.Step.TheVariants.{StoreHeader, Exchange}
 use Rattle.gt_calls.specs.declared.action.Verdict.{Verdict}
 use Rattle.gt_calls.specs.declared.action.Verdict.TheVariants.{Granted, Given, Mapped, Refused}
 use Rattle.gt_calls.specs.declared.action.Value.TheVariants.{Frames}
@@ -34,7 +37,11 @@ use Rattle.gt_handles.specs.declared.handles.Handle.{Handle}
 use Rattle.gt_calls.specs.declared.leg.Leg.{Leg}
 use Rattle.gt_calls.specs.declared.request.Holder.TheVariants.{Mapping as ByHandle}
 use Rattle.gt_calls.specs.Rules.{CallerKnowledge, begun, first_look, is_kind, first_body, second_body}
-use Rattle.gt_calls.specs.Path.{Continuation, AfterRefusal, AfterPin, after_beginning, at_first_look, by_mapping, ended, entry_refusal, exchanges, exchanges_once, grants, held_of, idle_word, is_stopped, last_step, leg, looks, looks_again, makes, map_leg, path, pins, publishes, reads_body, reads_second, refused_at, refused_holding, rule_of_try, steps_of, stores_second, told, tries, try_pin, turn, turns}
+use Rattle.gt_calls.specs.Path.{Continuation, AfterRefusal, AfterPin, after_beginning, at_first_look, by_mapping, ended}
+use Rattle.gt_calls.specs.Path.{entry_refusal, exchanges, exchanges_once, grants, held_of, idle_word, is_stopped}
+use Rattle.gt_calls.specs.Path.{last_step, leg, looks, looks_again, makes, map_leg, path, pins, publishes, reads_body}
+use Rattle.gt_calls.specs.Path.{reads_second, refused_at, refused_holding, rule_of_try, steps_of, stores_second, told}
+use Rattle.gt_calls.specs.Path.{tries, try_pin, turn, turns}
 use Rattle.gt_live.specs.declared.driving.Effect.{Effect}
 use Rattle.gt_live.specs.declared.driving.Effect.TheVariants as effects
 use Rattle.gt_live.specs.Effects.{Answers, EndsSo, IsFound, IsFoundAt, effect_of}

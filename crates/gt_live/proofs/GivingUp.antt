@@ -1,5 +1,7 @@
 -- A call that is refused by N18 made just four tries, each of which was missed.
-use Rattle.std.proofs.Common.{◌≡◌, ◌≢◌, ◌⊎◌, inl, inr, ⊎_elim, ◌+◌, ◌==◌, ◌<◌, ℕ, zero, suc, Bool, true, false, if◌then◌else◌, not, nat_lt, refl, sym, ap, ◌∙◌, subst, List, [], ◌∷◌, ◌++◌, map, length, Option, Some, None, append_assoc, eq-eqb, ne_eqb, arith}
+use Rattle.std.proofs.Common.{◌≡◌, ◌≢◌, ◌⊎◌, inl, inr, ⊎_elim, ◌+◌, ◌==◌, ◌<◌, ℕ, zero, suc, Bool, true, false}
+use Rattle.std.proofs.Common.{if◌then◌else◌, not, nat_lt, refl, sym, ap, ◌∙◌, subst, List, [], ◌∷◌, ◌++◌, map, length}
+use Rattle.std.proofs.Common.{Option, Some, None, append_assoc, eq-eqb, ne_eqb, arith}
 use Rattle.std.specs.Prelude.{nat_le}
 use Rattle.gt_types.specs.declared.DomId.{DomId}
 use Rattle.gt_types.specs.declared.GrantRef.{GrantRef}
@@ -15,7 +17,8 @@ use Rattle.gt_types.specs.declared.denial.Rule.TheVariants.{N5, N6, N9, N18, N19
 use Rattle.gt_types.specs.declared.denial.Facts.TheVariants as facts
 use Rattle.gt_types.specs.Denial.{denial_of}
 use Rattle.gt_entry.specs.declared.change.Change.{Change}
-use Rattle.gt_entry.specs.declared.change.Change.TheVariants.{Demote as ToReadOnly, Promote as ToWritable, Publish, Revoke as ToInvalid, Withdraw as ToWithdrawn}
+use Rattle.gt_entry.specs.declared.change.Change.TheVariants.{Demote as ToReadOnly, Promote as ToWritable, Publish}
+use Rattle.gt_entry.specs.declared.change.Change.TheVariants.{Revoke as ToInvalid, Withdraw as ToWithdrawn}
 use Rattle.gt_entry.specs.declared.change.Half.{Half}
 use Rattle.gt_entry.specs.declared.change.Half.TheVariants.{First as FirstHalf, Second as SecondHalf}
 use Rattle.gt_entry.specs.declared.control.Control.{Control}
@@ -32,7 +35,8 @@ use Rattle.gt_words.specs.Steps.{on_entry, on_header}
 use Rattle.gt_words.specs.Views.{with_step}
 use Rattle.gt_words.specs.declared.view.EntryRecord.{EntryRecord}
 use Rattle.gt_words.specs.declared.view.EntryStep.{EntryStep}
-use Rattle.gt_words.specs.declared.view.EntryStep.TheVariants.{ChangeMissed, Changed, Looked, PinMissed, Pinned, ReadBody, Unpinned}
+use Rattle.gt_words.specs.declared.view.EntryStep.TheVariants.{ChangeMissed, Changed, Looked, PinMissed, Pinned}
+use Rattle.gt_words.specs.declared.view.EntryStep.TheVariants.{ReadBody, Unpinned}
 use Rattle.gt_words.specs.declared.view.HeaderStep.TheVariants as header
 use Rattle.gt_words.specs.declared.view.SeatStep.{SeatStep}
 use Rattle.gt_words.specs.declared.view.View.{View}
@@ -42,7 +46,9 @@ use Rattle.gt_calls.specs.declared.action.Action.TheVariants.{Done, Step as Make
 use Rattle.gt_calls.specs.declared.action.Seen.{Seen}
 use Rattle.gt_calls.specs.declared.action.Seen.TheVariants.{Missed, Nothing, Taken, Word}
 use Rattle.gt_calls.specs.declared.action.Step.{Step}
-use Rattle.gt_calls.specs.declared.action.Step.TheVariants.{Exchange, LookBody, LookControl, LookHeader, Pin, StoreBody, StoreHeader, Unpin, Read as ReadBytes, Write as WriteBytes, Copy as CopyBytes}
+use Rattle.gt_calls.specs.declared.action.Step.TheVariants.{Exchange, LookBody, LookControl, LookHeader, Pin, StoreBody}
+use Rattle.gt_calls.specs.declared.action.Step.TheVariants.{StoreHeader, Unpin, Read as ReadBytes, Write as WriteBytes}
+use Rattle.gt_calls.specs.declared.action.Step.TheVariants.{Copy as CopyBytes}
 use Rattle.gt_calls.specs.declared.action.Value.{Value}
 use Rattle.gt_calls.specs.declared.action.Verdict.{Verdict}
 use Rattle.gt_calls.specs.declared.action.Verdict.TheVariants.{Given, Granted, Mapped, Refused}
@@ -58,9 +64,17 @@ use Rattle.gt_calls.specs.declared.request.Holder.TheVariants.{Leg as ByLeg}
 use Rattle.gt_calls.specs.declared.request.Request.{Request}
 use Rattle.gt_calls.specs.Asking.{asked, begun_by, begun_of, bytes_of, field_refused, plainly_asked}
 use Rattle.gt_calls.specs.Holding.{held_by}
-use Rattle.gt_calls.specs.Path.{AfterPin, AfterRefusal, Continuation, accesses, after_beginning, after_first, asks as asks_of, at_first_look, beyond, by_mapping, copies, dest_pair, end_leg, ended, entry_refusal, exchanges, exchanges_once, give_back, grants, held_of, is_stopped, last_step, leg, looks, looks_again, makes, map_leg, path_of, pins, publishes, reaches, reads_body, reads_second, refused_at, refused_holding, rule_of_try, second_leg, source_pair, steps_of, stores_second, to_dest, told, tries, try_pin, turn, turns, unless_refused}
-use Rattle.gt_calls.specs.Rules.{CallerKnowledge, before_pin, begun, copy_denied, denied, first, first_look, is_dest_granted, is_source_granted, refused_when, stands, via_judged, is_invalid}
-use Rattle.gt_live.specs.Tries.{AreReads, AreUnpins, BeginsTries, FourTriesWereMissed, FoundAnother, GaveUp, IsMissedTry, MissedTries, in_order}
+use Rattle.gt_calls.specs.Path.{AfterPin, AfterRefusal, Continuation, accesses, after_beginning, after_first}
+use Rattle.gt_calls.specs.Path.{asks as asks_of, at_first_look, beyond, by_mapping, copies, dest_pair, end_leg, ended}
+use Rattle.gt_calls.specs.Path.{entry_refusal, exchanges, exchanges_once, give_back, grants, held_of, is_stopped}
+use Rattle.gt_calls.specs.Path.{last_step, leg, looks, looks_again, makes, map_leg, path_of, pins, publishes, reaches}
+use Rattle.gt_calls.specs.Path.{reads_body, reads_second, refused_at, refused_holding, rule_of_try, second_leg}
+use Rattle.gt_calls.specs.Path.{source_pair, steps_of, stores_second, to_dest, told, tries, try_pin, turn, turns}
+use Rattle.gt_calls.specs.Path.{unless_refused}
+use Rattle.gt_calls.specs.Rules.{CallerKnowledge, before_pin, begun, copy_denied, denied, first, first_look}
+use Rattle.gt_calls.specs.Rules.{is_dest_granted, is_source_granted, refused_when, stands, via_judged, is_invalid}
+use Rattle.gt_live.specs.Tries.{AreReads, AreUnpins, BeginsTries, FourTriesWereMissed, FoundAnother, GaveUp}
+use Rattle.gt_live.specs.Tries.{IsMissedTry, MissedTries, in_order}
 use Rattle.gt_live.specs.Walks.{Called, IsWalk, Made, MakesStep, after, shown, shown_by, shown_in}
 use Rattle.gt_live.proofs.Walking.{after-position}
 

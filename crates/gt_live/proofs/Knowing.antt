@@ -24,7 +24,8 @@ use Rattle.gt_calls.specs.declared.request.Asked.{Asked}
 use Rattle.gt_calls.specs.declared.request.Asked.TheVariants as asks
 use Rattle.gt_calls.specs.Rules.{CallerKnowledge, knowledge_of}
 use Rattle.gt_live.specs.declared.domain.Domain.{Domain}
-use Rattle.gt_live.specs.Domains.{IsDomainOf, AllowRelation, done_by, frames_told, knowledge, size_told, verdict_of, verdict_of_frames}
+use Rattle.gt_live.specs.Domains.{IsDomainOf, AllowRelation, done_by, frames_told, knowledge, size_told, verdict_of}
+use Rattle.gt_live.specs.Domains.{verdict_of_frames}
 use Rattle.gt_live.specs.Domains.{verdict_of_size, verdict_of_version, version_told}
 use Rattle.gt_live.specs.Driving.{IsSame, Knows, Leaves}
 use Rattle.gt_live.specs.Walks.{CarriesFound, TellsSteps}

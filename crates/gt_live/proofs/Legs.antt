@@ -1,5 +1,6 @@
 -- A leg on the words: what each of its steps makes of it.
-use Rattle.std.proofs.Common.{◌≡◌, ◌∙◌, ◌==◌, ◌-◌, ◌<◌, ℕ, Bool, true, false, nat_lt, if◌then◌else◌, refl, sym, ap, subst, [], ◌∷◌, Option, Some, None, arith}
+use Rattle.std.proofs.Common.{◌≡◌, ◌∙◌, ◌==◌, ◌-◌, ◌<◌, ℕ, Bool, true, false, nat_lt, if◌then◌else◌, refl, sym, ap}
+use Rattle.std.proofs.Common.{subst, [], ◌∷◌, Option, Some, None, arith}
 use Rattle.std.proofs.lemmas.Bool.{lt-ltb}
 use Rattle.gt_types.specs.declared.denial.Denial.{Denial}
 use Rattle.gt_types.specs.declared.denial.Facts.TheVariants.{Header as HeaderFacts}
@@ -11,7 +12,7 @@ use Rattle.gt_entry.specs.declared.control.Kind.{Kind}
 use Rattle.gt_entry.specs.declared.control.Kind.TheVariants.{Invalid, Page, Sub, Via}
 use Rattle.gt_words.specs.Rule.{Layout}
 use Rattle.gt_words.specs.declared.view.View.{View}
-use Rattle.gt_calls.specs.Machine.{after_header, after_look, after_miss, after_relook, after_words, leg_after, leg_step}
+use Rattle.gt_calls.specs.Legs.{after_header, after_look, after_miss, after_relook, after_words, leg_after, leg_step}
 use Rattle.gt_calls.specs.Path.{entry_refusal, held_of, rule_of_try}
 use Rattle.gt_calls.specs.Rules.{first_look}
 use Rattle.gt_calls.specs.declared.action.Seen.{Seen}

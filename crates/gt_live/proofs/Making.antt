@@ -2,7 +2,8 @@
 use Rattle.std.proofs.Common.{◌≡◌, ℕ, ◌<◌, refl, sym, ap, ◌∙◌, subst, length, inl, inr, arith}
 use Rattle.std.proofs.lemmas.Bool.{cases_eq}
 use Rattle.gt_entry.specs.declared.change.Half.{Half}
-use Rattle.gt_words.specs.Conditions.{Board, IsSameSeat, IsSeatOf, Keeps, SeatOf, StoresBody}
+use Rattle.gt_words.specs.Conditions.{Board, IsSameSeat, IsSeatOf, Keeps, SeatOf}
+use Rattle.gt_words.specs.Answers.{StoresBody}
 use Rattle.gt_words.specs.Rule.{Layout, id_at}
 use Rattle.gt_words.specs.Views.{last_of, with_step}
 use Rattle.gt_words.specs.Events.{TookPlace}
@@ -14,7 +15,8 @@ use Rattle.gt_entry.specs.declared.change.Change.TheVariants.{Publish, Revoke, W
 use Rattle.gt_calls.specs.declared.action.Seen.{Seen}
 use Rattle.gt_calls.specs.declared.action.Seen.TheVariants.{Nothing, Word, Taken, Missed}
 use Rattle.gt_calls.specs.declared.action.Step.{Step}
-use Rattle.gt_calls.specs.declared.action.Step.TheVariants.{LookHeader, LookControl, LookBody, Pin, Unpin, StoreBody, StoreHeader, Exchange}
+use Rattle.gt_calls.specs.declared.action.Step.TheVariants.{LookHeader, LookControl, LookBody, Pin, Unpin, StoreBody}
+use Rattle.gt_calls.specs.declared.action.Step.TheVariants.{StoreHeader, Exchange}
 use Rattle.gt_calls.specs.Path.{FitsStep}
 use Rattle.gt_live.specs.Walks.{Made, shown_by, shown_in}
 use Rattle.gt_live.specs.Driving.{IsSame}

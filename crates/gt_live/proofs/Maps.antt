@@ -6,7 +6,7 @@ use Rattle.gt_words.specs.Rule.{Layout}
 use Rattle.gt_words.specs.declared.view.View.{View}
 use Rattle.gt_calls.specs.Counting.{steps_to_come}
 use Rattle.gt_calls.specs.Following.{MakesStep as BeginsSo}
-use Rattle.gt_calls.specs.Machine.{leg_step}
+use Rattle.gt_calls.specs.Legs.{leg_step}
 use Rattle.gt_calls.specs.MapCalls.{BeginsAs, GoesOnAs, MapCall, call_of, ended, unmoved}
 use Rattle.gt_calls.specs.Path.{Continuation, after_beginning, ended as ends_so, makes, path, steps_of}
 use Rattle.gt_calls.specs.Rules.{CallerKnowledge, begun}

@@ -1,5 +1,6 @@
 -- Each step of a call was taken at its moment, and none of them is an access to bytes.
-use Rattle.std.proofs.Common.{◌≡◌, ◌⊎◌, inl, inr, ⊎_elim, ℕ, refl, sym, ap, ◌∙◌, subst, List, [], ◌∷◌, ◌++◌, Option, Some, None, append_assoc}
+use Rattle.std.proofs.Common.{◌≡◌, ◌⊎◌, inl, inr, ⊎_elim, ℕ, refl, sym, ap, ◌∙◌, subst, List, [], ◌∷◌, ◌++◌, Option}
+use Rattle.std.proofs.Common.{Some, None, append_assoc}
 use Rattle.gt_words.specs.Events.{TookPlace}
 use Rattle.gt_words.specs.History.{History, Moment, part_of}
 use Rattle.gt_words.specs.Rule.{Layout}
@@ -13,7 +14,9 @@ use Rattle.gt_calls.specs.declared.action.Action.TheVariants.{Done, Step as Make
 use Rattle.gt_calls.specs.declared.action.Seen.{Seen}
 use Rattle.gt_calls.specs.declared.action.Seen.TheVariants.{Missed, Nothing, Taken, Word}
 use Rattle.gt_calls.specs.declared.action.Step.{Step}
-use Rattle.gt_calls.specs.declared.action.Step.TheVariants.{Copy as CopyBytes, Exchange, LookBody, LookControl, LookHeader, Pin, Read as ReadBytes, StoreBody, StoreHeader, Unpin, Write as WriteBytes}
+use Rattle.gt_calls.specs.declared.action.Step.TheVariants.{Copy as CopyBytes, Exchange, LookBody, LookControl}
+use Rattle.gt_calls.specs.declared.action.Step.TheVariants.{LookHeader, Pin, Read as ReadBytes, StoreBody, StoreHeader}
+use Rattle.gt_calls.specs.declared.action.Step.TheVariants.{Unpin, Write as WriteBytes}
 use Rattle.gt_calls.specs.declared.action.Verdict.TheVariants.{Granted}
 use Rattle.gt_calls.specs.declared.held.Held.{Held}
 use Rattle.gt_calls.specs.Path.{Continuation}

@@ -1,12 +1,14 @@
 -- A domain at the start of a run.
-use Rattle.std.proofs.Common.{◌≡◌, ℕ, ◌<◌, refl, sym, ap, ◌∙◌, List, [], length, get_or, zero, suc, Option, Some, None, arith}
+use Rattle.std.proofs.Common.{◌≡◌, ℕ, ◌<◌, refl, sym, ap, ◌∙◌, List, [], length, get_or, zero, suc, Option, Some, None}
+use Rattle.std.proofs.Common.{arith}
 use Rattle.std.specs.List.{count_by}
 use Rattle.std.specs.Prelude.{replicate, slice_get}
 use Rattle.gt_types.specs.declared.limits.TheConstants.{TABLE_ENTRIES}
 use Rattle.gt_types.specs.Config.{IsWithinLimits}
 use Rattle.gt_types.specs.declared.config.Config.{Config}
 use Rattle.gt_entry.specs.declared.entry.Entry.TheVariants.{Invalid}
-use Rattle.gt_words.specs.Conditions.{Board, IsNewSeat}
+use Rattle.gt_words.specs.Conditions.{Board}
+use Rattle.gt_words.specs.Answers.{IsNewSeat}
 use Rattle.gt_words.specs.Rule.{Layout, layout_of}
 use Rattle.gt_words.specs.Views.{LivePin, pins_like, entry_steps, invalid_at, last_record, pins}
 use Rattle.gt_words.specs.declared.view.SeatStep.{SeatStep}

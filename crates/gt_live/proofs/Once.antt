@@ -1,5 +1,6 @@
 -- How calls are answered at their beginning.
-use Rattle.std.proofs.Common.{◌≡◌, ℕ, Bool, true, false, cond, refl, subst, ◌+◌, length, List, [], ◌∷◌, Option, Some, None, nat_le, nat_lt, not, ◌==◌}
+use Rattle.std.proofs.Common.{◌≡◌, ℕ, Bool, true, false, cond, refl, subst, ◌+◌, length, List, [], ◌∷◌, Option, Some}
+use Rattle.std.proofs.Common.{None, nat_le, nat_lt, not, ◌==◌}
 use Rattle.std.specs.Prelude.{is_none, ◌||◌}
 use Rattle.gt_types.specs.declared.DomId.{DomId}
 use Rattle.gt_types.specs.declared.GrantRef.{GrantRef}
@@ -7,7 +8,8 @@ use Rattle.gt_types.specs.declared.TypeId.{TypeId}
 use Rattle.gt_types.specs.declared.rights.Triple.{Triple}
 use Rattle.gt_types.specs.declared.perms.Perms.{Perms}
 use Rattle.gt_types.specs.declared.denial.Rule.{Rule}
-use Rattle.gt_types.specs.declared.denial.Rule.TheVariants.{N1, N2, N3, N4, N5, N6, N7, N8, N9, N10, N16, N20, N21, N22, N23, N24}
+use Rattle.gt_types.specs.declared.denial.Rule.TheVariants.{N1, N2, N3, N4, N5, N6, N7, N8, N9, N10, N16, N20, N21, N22}
+use Rattle.gt_types.specs.declared.denial.Rule.TheVariants.{N23, N24}
 use Rattle.gt_types.specs.declared.denial.Facts.TheVariants.{Policy}
 use Rattle.gt_types.specs.declared.limits.TheConstants.{FRAME_SIZE, LAST_GENERATION, MAX_MAPPINGS, MAX_TABLE_FRAMES}
 use Rattle.gt_types.specs.Denial.{denial_of}
@@ -29,7 +31,12 @@ use Rattle.gt_types.specs.declared.denial.Field.{Field}
 use Rattle.gt_calls.specs.declared.request.CopyArgs.{CopyArgs}
 use Rattle.gt_types.specs.declared.denial.Denial.{Denial}
 use Rattle.gt_calls.specs.declared.action.Verdict.TheVariants.{Given, Mapped}
-use Rattle.gt_calls.specs.Rules.{copy_begun, ends_framed, ends_named, ends_owned, ends_ranged, frames_of, is_dest_granted, is_for_reading, is_foreign, is_past_frames, is_source_granted, own_access_begun, rights_to_copy, via_judged, CallerKnowledge, cannot_stand, change_begun, query_begun, denied, first, given_when, granted_when, has_valid, is_already, is_invalid, is_version, map_dir, refused_when, rights_to_map, rights_to_query, rights_to_setup, rights_to_unmap, unmap_denied}
+use Rattle.gt_calls.specs.Rules.{copy_begun, ends_framed, ends_named, ends_owned, ends_ranged, frames_of}
+use Rattle.gt_calls.specs.Rules.{is_dest_granted, is_for_reading, is_foreign, is_past_frames, is_source_granted}
+use Rattle.gt_calls.specs.Rules.{own_access_begun, rights_to_copy, via_judged, CallerKnowledge, cannot_stand}
+use Rattle.gt_calls.specs.Rules.{change_begun, query_begun, denied, first, given_when, granted_when, has_valid}
+use Rattle.gt_calls.specs.Rules.{is_already, is_invalid, is_version, map_dir, refused_when, rights_to_map}
+use Rattle.gt_calls.specs.Rules.{rights_to_query, rights_to_setup, rights_to_unmap, unmap_denied}
 use Rattle.gt_live.specs.Ending.{IsAccessing, IsAtOnce, IsOfMapping, IsWordless, WaitsForNobody}
 
 module _ (r : Asked) where

@@ -20,7 +20,8 @@ use Rattle.gt_calls.specs.declared.held.Pins.{Pins}
 use Rattle.gt_calls.specs.declared.request.CopyArgs.{CopyArgs}
 use Rattle.gt_calls.specs.CopyCalls.{BeginsAs, GoesOnAs, copy_call, unmoved_copy}
 use Rattle.gt_calls.specs.Holding.{no_pins}
-use Rattle.gt_calls.specs.Machine.{action_at, after_leg, at_source, leg_step, phase_after}
+use Rattle.gt_calls.specs.Machine.{action_at, after_leg, at_source, phase_after}
+use Rattle.gt_calls.specs.Legs.{leg_step}
 use Rattle.gt_calls.specs.Rules.{CallerKnowledge, copy_begun}
 use Rattle.std.specs.Prelude.{Result, Ok, Err}
 use Rattle.gt_live.specs.Copies.{StopsSo, after_copy}

@@ -1,6 +1,7 @@
 -- A copy driven to its access, and from there to its end.
 use Rattle.gt_live.proofs.Moments.{walk-moments}
-use Rattle.std.proofs.Common.{◌≡◌, ℕ, ◌<◌, Bool, true, false, cond, refl, sym, ap, ◌∙◌, subst, List, [], ◌∷◌, ◌++◌, Option, Some, None, append_assoc}
+use Rattle.std.proofs.Common.{◌≡◌, ℕ, ◌<◌, Bool, true, false, cond, refl, sym, ap, ◌∙◌, subst, List, [], ◌∷◌, ◌++◌}
+use Rattle.std.proofs.Common.{Option, Some, None, append_assoc}
 use mathlib.Core.Path.{fun_ext}
 use Rattle.gt_types.specs.declared.DomId.{DomId}
 use Rattle.gt_types.specs.declared.denial.Denial.{Denial}
@@ -18,7 +19,8 @@ use Rattle.gt_calls.specs.declared.action.Verdict.{Verdict}
 use Rattle.gt_calls.specs.declared.action.Verdict.TheVariants.{Granted, Given, Mapped, Refused}
 use Rattle.gt_calls.specs.declared.call.Call.{Call}
 use Rattle.gt_calls.specs.declared.call.Phase.{Phase}
-use Rattle.gt_calls.specs.declared.call.Phase.TheVariants.{Storing, StoringSecond, Exchanging, Looking, Changing, Walking, Accessing, Asking, Last, Ending}
+use Rattle.gt_calls.specs.declared.call.Phase.TheVariants.{Storing, StoringSecond, Exchanging, Looking, Changing}
+use Rattle.gt_calls.specs.declared.call.Phase.TheVariants.{Walking, Accessing, Asking, Last, Ending}
 use Rattle.gt_calls.specs.declared.copying.Aim.TheVariants.{Source}
 use Rattle.gt_calls.specs.declared.held.Held.{Held}
 use Rattle.gt_calls.specs.declared.held.Pins.{Pins}
@@ -33,7 +35,9 @@ use Rattle.gt_calls.specs.declared.request.CopyArgs.{CopyArgs}
 use Rattle.gt_calls.specs.Counting.{steps_to_come}
 use Rattle.gt_calls.specs.Following.{FitsNext, Goes}
 use Rattle.gt_calls.specs.Holding.{last_first}
-use Rattle.gt_calls.specs.Machine.{action_at, at_dest, at_source, first_phase, leg_step, next_to_give, phase_after, standing_after}
+use Rattle.gt_calls.specs.Machine.{action_at, at_dest, at_source, first_phase, next_to_give, phase_after}
+use Rattle.gt_calls.specs.Legs.{leg_step}
+use Rattle.gt_calls.specs.Machine.{standing_after}
 use Rattle.gt_calls.specs.Path.{end_leg, give_back, path}
 use Rattle.gt_calls.specs.Resting.{Rests}
 use Rattle.gt_calls.specs.Rules.{CallerKnowledge, is_source_granted}

@@ -1,9 +1,11 @@
 -- The pins that a copy takes and gives back, the last one first.
-use Rattle.std.proofs.Common.{◌≡◌, ℕ, ◌<◌, ◌==◌, ◌&&◌, Bool, true, false, cond, refl, sym, ap, ◌∙◌, subst, List, [], ◌∷◌, ◌++◌, inl, inr, arith}
+use Rattle.std.proofs.Common.{◌≡◌, ℕ, ◌<◌, ◌==◌, ◌&&◌, Bool, true, false, cond, refl, sym, ap, ◌∙◌, subst, List, []}
+use Rattle.std.proofs.Common.{◌∷◌, ◌++◌, inl, inr, arith}
 use Rattle.std.proofs.lemmas.Bool.{eq-eqb, eqb-true, eqb-false}
 use Rattle.gt_types.specs.declared.limits.TheConstants.{TABLE_ENTRIES}
 use Rattle.gt_words.specs.Controls.{generation_of}
-use Rattle.gt_words.specs.Conditions.{HasDomain, Holds, Pins, Unpins}
+use Rattle.gt_words.specs.Conditions.{HasDomain, Holds}
+use Rattle.gt_words.specs.Answers.{Pins, Unpins}
 use Rattle.gt_words.specs.Rule.{Layout, position_in}
 use Rattle.gt_words.specs.Views.{IsIn, LivePin, is_same_dir, last_seen, pins, record_seen, steps_on, without_pin}
 use Rattle.gt_words.specs.declared.view.EntryRecord.{EntryRecord}

@@ -6,7 +6,7 @@ use Rattle.gt_types.specs.declared.GrantRef.{GrantRef}
 use Rattle.gt_types.specs.declared.denial.Denial.{Denial}
 use Rattle.gt_words.specs.Rule.{Layout}
 use Rattle.gt_words.specs.declared.view.View.{View}
-use Rattle.gt_calls.specs.Machine.{leg_after, leg_step}
+use Rattle.gt_calls.specs.Legs.{leg_after, leg_step}
 use Rattle.gt_calls.specs.MapCalls.{BeginsAs, GoesOnAs, MapCall, call_of}
 use Rattle.gt_calls.specs.Path.{map_leg, path}
 use Rattle.gt_calls.specs.Rules.{CallerKnowledge, begun}

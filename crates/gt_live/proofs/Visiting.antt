@@ -1,5 +1,6 @@
 -- What an access did to the frames that it locked, as a call of a domain tells it.
-use Rattle.std.proofs.Common.{◌≡◌, ◌∙◌, ℕ, sym, ap, subst, refl, Option, Some, None, Ok, Err, List, [], ◌∷◌, length, append-nil}
+use Rattle.std.proofs.Common.{◌≡◌, ◌∙◌, ℕ, sym, ap, subst, refl, Option, Some, None, Ok, Err, List, [], ◌∷◌, length}
+use Rattle.std.proofs.Common.{append-nil}
 use Rattle.gt_types.specs.declared.DomId.{DomId}
 use Rattle.gt_types.specs.declared.denial.Denial.{Denial}
 use Rattle.gt_calls.specs.declared.held.Route.{Route}

@@ -1,25 +1,8 @@
 -- Calls with an access to bytes: the way to it, the access, and the way on to the end.
 use Rattle.std.specs.Prelude.{◌≡◌, ◌⊎◌, ℕ, List, [], ◌∷◌, ◌++◌, Some, Result, Ok, Err}
-use Rattle.gt_types.specs.declared.DomId.{DomId}
-use Rattle.gt_types.specs.declared.denial.Denial.{Denial}
-use Rattle.gt_types.specs.declared.denial.Rule.TheVariants.{N16, N26}
-use Rattle.gt_types.specs.declared.denial.Facts.TheVariants.{None as NoFacts}
-use Rattle.gt_types.specs.Denial.{denial_of}
-use Rattle.gt_words.specs.Rule.{Layout}
-use Rattle.gt_words.specs.History.{Moment}
-use Rattle.gt_words.specs.declared.view.View.{View}
-use Rattle.gt_frames.specs.Receipts.{Copying, Reading, Writing}
-use Rattle.gt_frames.specs.declared.places.FrameName.{FrameName}
-use Rattle.gt_frames.specs.declared.places.Spot.{Spot}
-use Rattle.gt_access.specs.Accesses.{IsReadOf, copying_at, writing_at}
-use Rattle.gt_calls.specs.declared.action.Action.TheVariants.{Step as Makes}
-use Rattle.gt_calls.specs.declared.action.Place.{Place}
-use Rattle.gt_calls.specs.declared.action.Seen.{Seen}
-use Rattle.gt_calls.specs.declared.action.Seen.TheVariants.{Nothing}
-use Rattle.gt_calls.specs.declared.action.Step.{Step}
-use Rattle.gt_calls.specs.declared.action.Step.TheVariants.{Read as ReadBytes, Write as WriteBytes, Copy as CopyBytes}
-use Rattle.gt_calls.specs.declared.action.Verdict.TheVariants.{Granted, Refused}
-use Rattle.gt_calls.specs.Path.{Continuation}
+use Rattle.gt_live.specs.Prelude.{DomId, Denial, N16, N26, NoFacts, denial_of, Layout, Moment, View, Copying, Reading}
+use Rattle.gt_live.specs.Prelude.{Writing, FrameName, Spot, IsReadOf, copying_at, writing_at, Makes, Place, Seen}
+use Rattle.gt_live.specs.Prelude.{Nothing, Step, ReadBytes, WriteBytes, CopyBytes, Granted, Refused, Continuation}
 use Rattle.gt_live.specs.Walks.{AreMoments, Called, IsWalk, after, shown}
 
 -- the step is an access to bytes, and none on the words

@@ -1,33 +1,12 @@
 -- A copy whose steps are written out: what each part of its walk leads to. The code's own representation. It is in
 -- specs/ because contracts cite it.
 use Rattle.std.specs.Prelude.{◌≡◌, List, [], ◌∷◌, None, Result, Ok, Err}
-use Rattle.gt_types.specs.declared.DomId.{DomId}
-use Rattle.gt_types.specs.declared.Dir.TheVariants.{Read, Write}
-use Rattle.gt_types.specs.declared.GrantRef.{GrantRef}
-use Rattle.gt_types.specs.declared.denial.Denial.{Denial}
-use Rattle.gt_words.specs.Rule.{Layout}
-use Rattle.gt_words.specs.declared.view.View.{View}
-use Rattle.gt_calls.specs.declared.action.Seen.TheVariants.{Nothing}
-use Rattle.gt_calls.specs.declared.action.Step.TheVariants.{Unpin}
-use Rattle.gt_calls.specs.declared.action.Verdict.TheVariants.{Refused}
-use Rattle.gt_calls.specs.declared.call.Phase.{Phase}
-use Rattle.gt_calls.specs.declared.call.Phase.TheVariants.{Accessing, Ending, Walking}
-use Rattle.gt_calls.specs.declared.copying.Aim.{Aim}
-use Rattle.gt_calls.specs.declared.copying.Aim.TheVariants.{Source, Dest}
-use Rattle.gt_calls.specs.declared.held.Held.{Held}
-use Rattle.gt_calls.specs.declared.held.Pins.{Pins}
-use Rattle.gt_calls.specs.declared.held.Route.{Route}
+use Rattle.gt_live.specs.Prelude.{DomId, Read, Write, GrantRef, Denial, Layout, View, Nothing, Unpin, Refused, Phase}
+use Rattle.gt_live.specs.Prelude.{Accessing, Ending, Walking, Aim, Source, Dest, Held, Pins, Route, Leg, Header}
+use Rattle.gt_live.specs.Prelude.{CopyArgs, ByLeg, copy_call, unmoved_copy, last_first, no_pins, pins_so_far}
+use Rattle.gt_live.specs.Prelude.{without_last, after_pin_of, at_dest, end_leg, place_of, second_leg, CallerKnowledge}
+use Rattle.gt_live.specs.Prelude.{Halfway}
 use Rattle.gt_calls.specs.declared.held.Route.TheVariants.{Own}
-use Rattle.gt_calls.specs.declared.leg.Leg.{Leg}
-use Rattle.gt_calls.specs.declared.leg.LegPhase.TheVariants.{Header}
-use Rattle.gt_calls.specs.declared.request.CopyArgs.{CopyArgs}
-use Rattle.gt_calls.specs.declared.request.Holder.TheVariants.{Leg as ByLeg}
-use Rattle.gt_calls.specs.CopyCalls.{copy_call, unmoved_copy}
-use Rattle.gt_calls.specs.Holding.{last_first, no_pins, pins_so_far, without_last}
-use Rattle.gt_calls.specs.Machine.{after_pin_of, at_dest}
-use Rattle.gt_calls.specs.Path.{end_leg, place_of, second_leg}
-use Rattle.gt_calls.specs.Rules.{CallerKnowledge}
-use Rattle.gt_live.specs.declared.domain.copies.Halfway.{Halfway}
 use Rattle.gt_live.specs.Driving.{CanMake}
 use Rattle.gt_live.specs.Underway.{AtAccess, EndsRefused}
 use Rattle.gt_live.specs.Walks.{Made}

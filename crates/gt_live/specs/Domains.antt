@@ -1,52 +1,15 @@
 -- What a domain keeps, how that agrees with what its seat did, and how its calls are answered.
 use Rattle.std.specs.Prelude.{◌≡◌, ◌⊎◌, ℕ, ◌<◌, Bool, length, List, [], ◌∷◌, Option, Some, None, Result, Ok, Err}
-use Rattle.gt_types.specs.declared.DomId.{DomId}
-use Rattle.gt_types.specs.declared.TypeId.{TypeId}
-use Rattle.gt_types.specs.declared.GrantRef.{GrantRef}
-use Rattle.gt_types.specs.declared.Size.{Size}
-use Rattle.gt_audit.specs.declared.record.CopyEnd.{CopyEnd}
-use Rattle.gt_audit.specs.declared.record.Hypercall.{Hypercall}
+use Rattle.gt_live.specs.Prelude.{DomId, TypeId, GrantRef, Size, CopyEnd, Hypercall, Record, Reply, Perms, Config}
+use Rattle.gt_live.specs.Prelude.{Denial, N16, N26, NoFacts, TABLE_ENTRIES, denial_of, Board, IsSameSeat, IsSeatOf}
+use Rattle.gt_live.specs.Prelude.{KeepsPins, Unpins, generation_of, Moment, Layout, position_in, last_of, own_table}
+use Rattle.gt_live.specs.Prelude.{pins, steps_on, View, HandleMap, value_of, Handle, Verdict, Granted, Given, Mapped}
+use Rattle.gt_live.specs.Prelude.{Refused, Frames, SizeTold, Version, Held, CopyArgs, End, Request, Copying, begun_of}
+use Rattle.gt_live.specs.Prelude.{path, path_of, IsFresh, MakesStep, Call, CallerKnowledge, knowledge_of, entry_in}
+use Rattle.gt_live.specs.Prelude.{generation_in, Domain, Left, Monitor, NotMade, Gone, OutOfMemory, Step, asked}
 use Rattle.gt_audit.specs.declared.record.Hypercall.TheVariants as hypercalls
-use Rattle.gt_audit.specs.declared.record.Record.{Record}
-use Rattle.gt_audit.specs.declared.record.Reply.{Reply}
 use Rattle.gt_audit.specs.declared.record.Reply.TheVariants as replies
-use Rattle.gt_types.specs.declared.perms.Perms.{Perms}
-use Rattle.gt_types.specs.declared.config.Config.{Config}
-use Rattle.gt_types.specs.declared.denial.Denial.{Denial}
-use Rattle.gt_types.specs.declared.denial.Rule.TheVariants.{N16, N26}
-use Rattle.gt_types.specs.declared.denial.Facts.TheVariants.{None as NoFacts}
-use Rattle.gt_types.specs.declared.limits.TheConstants.{TABLE_ENTRIES}
-use Rattle.gt_types.specs.Denial.{denial_of}
-use Rattle.gt_words.specs.Conditions.{Board, IsSameSeat, IsSeatOf, KeepsPins, Unpins}
-use Rattle.gt_words.specs.Controls.{generation_of}
-use Rattle.gt_words.specs.History.{Moment}
-use Rattle.gt_words.specs.Rule.{Layout, position_in}
-use Rattle.gt_words.specs.Views.{last_of, own_table, pins, steps_on}
-use Rattle.gt_words.specs.declared.view.View.{View}
-use Rattle.gt_handles.specs.Handles.{HandleMap, value_of}
-use Rattle.gt_handles.specs.declared.handles.Handle.{Handle}
-use Rattle.gt_calls.specs.declared.action.Verdict.{Verdict}
-use Rattle.gt_calls.specs.declared.action.Verdict.TheVariants.{Granted, Given, Mapped, Refused}
-use Rattle.gt_calls.specs.declared.action.Value.TheVariants.{Frames, Size as SizeTold, Version}
-use Rattle.gt_calls.specs.declared.held.Held.{Held}
-use Rattle.gt_calls.specs.declared.request.CopyArgs.{CopyArgs}
-use Rattle.gt_calls.specs.declared.request.End.{End}
-use Rattle.gt_calls.specs.declared.request.Request.{Request}
-use Rattle.gt_frames.specs.Receipts.{Copying}
-use Rattle.gt_calls.specs.Asking.{begun_of}
-use Rattle.gt_calls.specs.Path.{path, path_of}
-use Rattle.gt_calls.specs.Standing.{IsFresh}
-use Rattle.gt_calls.specs.Following.{MakesStep}
-use Rattle.gt_calls.specs.declared.call.Call.{Call}
-use Rattle.gt_calls.specs.Rules.{CallerKnowledge, knowledge_of, entry_in, generation_in}
-use Rattle.gt_live.specs.declared.domain.Domain.{Domain}
-use Rattle.gt_live.specs.declared.domain.Left.{Left}
-use Rattle.gt_live.specs.declared.monitor.Monitor.{Monitor}
 use Rattle.gt_live.specs.Mappings.{Adds, IsMappingOf, KeepsMappings, PinsAreOf, Removes}
-use Rattle.gt_access.specs.declared.by.Refused.{Refused as NotMade}
-use Rattle.gt_access.specs.declared.by.Refused.TheVariants.{Gone, Memory as OutOfMemory}
-use Rattle.gt_calls.specs.declared.action.Step.{Step}
-use Rattle.gt_calls.specs.Asking.{asked}
 use Rattle.gt_live.specs.Accesses.{AnsweredBy}
 use Rattle.gt_live.specs.Ending.{IsWordless}
 use Rattle.gt_live.specs.Walks.{AreMoments, Called, after}

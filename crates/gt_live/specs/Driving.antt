@@ -1,37 +1,16 @@
 -- What a call needs of its seat where it is, and how it leaves it: the code's own
 -- representation. It is in specs/ because contracts cite it.
 use Rattle.std.specs.Prelude.{◌≡◌, ℕ, ◌+◌, ◌^◌, ◌<◌, List, [], length, Some, None}
-use Rattle.gt_types.specs.declared.DomId.{DomId}
-use Rattle.gt_types.specs.declared.config.DomainConfig.{DomainConfig}
-use Rattle.gt_types.specs.declared.limits.TheConstants.{TABLE_ENTRIES}
-use Rattle.gt_types.specs.Names.{domain_of}
-use Rattle.gt_entry.specs.declared.entry.Entry.TheVariants.{Invalid}
-use Rattle.gt_words.specs.declared.view.View.{View}
-use Rattle.gt_words.specs.Controls.{generation_of}
-use Rattle.gt_words.specs.Conditions.{CanChange, CanPin, Changes, HasDomain, Holds, KeepsPins, Pins, SeesNoEarlier}
-use Rattle.gt_words.specs.Conditions.{Unpins}
-use Rattle.gt_words.specs.Rule.{IsKeptHeader, Layout, id_at, position_in}
-use Rattle.gt_words.specs.Views.{last_seen, record_seen, last_of}
-use Rattle.gt_words.specs.History.{Moment}
-use Rattle.gt_calls.specs.declared.action.Action.{Action}
-use Rattle.gt_calls.specs.declared.action.Action.TheVariants.{Step as Makes, Done}
-use Rattle.gt_entry.specs.declared.change.Change.{Change}
-use Rattle.gt_calls.specs.declared.action.Step.{Step}
-use Rattle.gt_calls.specs.declared.action.Step.TheVariants.{LookHeader, LookControl, LookBody, Pin, Unpin, StoreBody}
-use Rattle.gt_calls.specs.declared.action.Step.TheVariants.{StoreHeader, Exchange}
-use Rattle.gt_calls.specs.declared.request.Asked.{Asked}
+use Rattle.gt_live.specs.Prelude.{DomId, DomainConfig, TABLE_ENTRIES, domain_of, Invalid, View, generation_of}
+use Rattle.gt_live.specs.Prelude.{CanChange, CanPin, HasDomain, Holds, KeepsPins, SeesNoEarlier, Changes, Unpins}
+use Rattle.gt_live.specs.Prelude.{IsKeptHeader, Layout, id_at, position_in, last_seen, record_seen, last_of, Moment}
+use Rattle.gt_live.specs.Prelude.{Action, Makes, Done, Change, Step, LookHeader, LookControl, LookBody, Pin, Unpin}
+use Rattle.gt_live.specs.Prelude.{StoreBody, StoreHeader, Exchange, Asked, Call, Held, Handle, raise_of, GoesOn, path}
+use Rattle.gt_live.specs.Prelude.{Rests, CallerKnowledge, begun, IsAt, held_by_call, pins_by_call, Effect, Pinned}
+use Rattle.gt_live.specs.Prelude.{Unpinned, Changed, Stored}
+use Rattle.gt_words.specs.Answers.{Pins}
 use Rattle.gt_calls.specs.declared.request.Asked.TheVariants as asks
-use Rattle.gt_calls.specs.declared.call.Call.{Call}
-use Rattle.gt_calls.specs.declared.held.Held.{Held}
-use Rattle.gt_handles.specs.declared.handles.Handle.{Handle}
-use Rattle.gt_calls.specs.Changes.{raise_of}
-use Rattle.gt_calls.specs.Following.{GoesOn}
-use Rattle.gt_calls.specs.Path.{path}
-use Rattle.gt_calls.specs.Resting.{Rests}
-use Rattle.gt_calls.specs.Rules.{CallerKnowledge, begun}
-use Rattle.gt_calls.specs.Standing.{IsAt, held_by_call, pins_by_call}
-use Rattle.gt_live.specs.declared.driving.Effect.{Effect}
-use Rattle.gt_live.specs.declared.driving.Effect.TheVariants.{Nothing, Pinned, Unpinned, Changed, Stored}
+use Rattle.gt_live.specs.declared.driving.Effect.TheVariants.{Nothing}
 use Rattle.gt_live.specs.Walks.{IsWalk, TellsSteps, after, shown}
 use Rattle.gt_live.specs.Effects.{Answers}
 use Rattle.gt_live.specs.Ending.{IsHeaderChange, IsMap, IsOwnChange}

@@ -1,26 +1,11 @@
 -- A copy in two halves: the way to its access, which the monitor's caller makes, and the way from there to its end.
 use Rattle.std.specs.Prelude.{◌≡◌, ◌+◌, ◌≤◌, ℕ}
-use Rattle.gt_types.specs.declared.Dir.TheVariants.{Read, Write}
-use Rattle.gt_types.specs.declared.Use.TheVariants.{Copy as ForCopy}
-use Rattle.gt_words.specs.Conditions.{IsSameSeat, KeepsPins}
-use Rattle.gt_words.specs.Rule.{Layout}
-use Rattle.gt_words.specs.declared.view.View.{View}
-use Rattle.gt_access.specs.Routes.{MayCopy, Reaches}
-use Rattle.gt_audit.specs.declared.record.Hypercall.{Hypercall}
+use Rattle.gt_live.specs.Prelude.{Read, Write, ForCopy, IsSameSeat, KeepsPins, Layout, View, MayCopy, Reaches}
+use Rattle.gt_live.specs.Prelude.{Hypercall, Record, Place, CopyBytes, Call, CopyArgs, path, path_of, CallerKnowledge}
+use Rattle.gt_live.specs.Prelude.{pins_by_call, Domain, Halfway, Monitor}
 use Rattle.gt_audit.specs.declared.record.Hypercall.TheVariants as hypercalls
-use Rattle.gt_audit.specs.declared.record.Record.{Record}
 use Rattle.gt_audit.specs.declared.record.Reply.TheVariants as replies
-use Rattle.gt_calls.specs.declared.action.Place.{Place}
-use Rattle.gt_calls.specs.declared.action.Step.TheVariants.{Copy as CopyBytes}
-use Rattle.gt_calls.specs.declared.call.Call.{Call}
-use Rattle.gt_calls.specs.declared.request.CopyArgs.{CopyArgs}
 use Rattle.gt_calls.specs.declared.request.Request.TheVariants as requests
-use Rattle.gt_calls.specs.Path.{path, path_of}
-use Rattle.gt_calls.specs.Rules.{CallerKnowledge}
-use Rattle.gt_calls.specs.Standing.{pins_by_call}
-use Rattle.gt_live.specs.declared.domain.Domain.{Domain}
-use Rattle.gt_live.specs.declared.domain.copies.Halfway.{Halfway}
-use Rattle.gt_live.specs.declared.monitor.Monitor.{Monitor}
 use Rattle.gt_live.specs.Accesses.{Accessed, spot_of}
 use Rattle.gt_live.specs.Domains.{AllowRelation, IsOf, IsUnsettled, known, told_end}
 use Rattle.gt_live.specs.Underway.{AtAccess, GivesBack}

@@ -11,7 +11,7 @@ use Rattle.gt_calls.specs.declared.leg.LegNext.{LegNext}
 use Rattle.gt_calls.specs.declared.leg.LegNext.TheVariants.{Going, Refused, Pinned}
 use Rattle.gt_calls.specs.declared.leg.LegPhase.{LegPhase}
 use Rattle.gt_calls.specs.declared.leg.LegPhase.TheVariants.{Header}
-use Rattle.gt_calls.specs.Machine.{leg_after, leg_step}
+use Rattle.gt_calls.specs.Legs.{leg_after, leg_step}
 use Rattle.gt_live.specs.Driving.{CanMake}
 use Rattle.gt_live.specs.Walks.{Made}
 

@@ -15,3 +15,4 @@ pub mod Domains
 pub mod Starting
 pub mod Tries
 pub mod Halves
+pub mod Prelude

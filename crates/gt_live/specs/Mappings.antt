@@ -1,30 +1,10 @@
 -- The mappings of a domain, and the pins of its seat.
 use Rattle.std.specs.Prelude.{◌≡◌, ℕ, ◌==◌, ◌&&◌, Bool, true, false, nat_le, List}
-use Rattle.gt_types.specs.declared.DomId.{DomId}
-use Rattle.gt_types.specs.declared.Dir.{Dir}
-use Rattle.gt_types.specs.declared.Dir.TheVariants.{Read, Write}
-use Rattle.gt_types.specs.declared.Use.TheVariants.{Map as ForMap}
-use Rattle.gt_types.specs.declared.perms.Perms.{Perms}
-use Rattle.gt_entry.specs.Permits.{permits}
+use Rattle.gt_live.specs.Prelude.{DomId, Dir, Read, Write, ForMap, Perms, permits, Reaches, FrameName, SeatOf, Direct}
+use Rattle.gt_live.specs.Prelude.{generation_of, Layout, position_in, held, is_same_dir, View, HandleMap, KeepsSpent}
+use Rattle.gt_live.specs.Prelude.{IsInserted, IsTaken, count_passing, Handle, Held, frame_of, IsAllowed, frames_of}
+use Rattle.gt_live.specs.Prelude.{label_of, map_perms, triples, TypeId, DomainConfig}
 pub use Rattle.gt_access.specs.Routes.{HasPin, record_of}
-use Rattle.gt_access.specs.Routes.{Reaches}
-use Rattle.gt_frames.specs.declared.places.FrameName.{FrameName}
-use Rattle.gt_words.specs.Conditions.{SeatOf}
-use Rattle.gt_calls.specs.declared.held.Route.TheVariants.{Direct}
-use Rattle.gt_words.specs.Controls.{generation_of}
-use Rattle.gt_words.specs.Rule.{Layout, position_in}
-use Rattle.gt_words.specs.Keeping.{held}
-use Rattle.gt_words.specs.Views.{is_same_dir}
-use Rattle.gt_words.specs.declared.view.View.{View}
-use Rattle.gt_handles.specs.Handles.{HandleMap, KeepsSpent}
-use Rattle.gt_handles.specs.Listing.{IsInserted, IsTaken, count_passing}
-use Rattle.gt_handles.specs.declared.handles.Handle.{Handle}
-use Rattle.gt_calls.specs.declared.held.Held.{Held}
-use Rattle.gt_entry.specs.Entries.{frame_of}
-use Rattle.gt_calls.specs.Opening.{IsAllowed}
-use Rattle.gt_calls.specs.Rules.{frames_of, label_of, map_perms, triples}
-use Rattle.gt_types.specs.declared.TypeId.{TypeId}
-use Rattle.gt_types.specs.declared.config.DomainConfig.{DomainConfig}
 
 -- a mapping: its pin is held, of an entry that permits the caller, of a frame
 -- of its owner's, and what its map asked is allowed

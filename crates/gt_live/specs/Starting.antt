@@ -5,7 +5,8 @@ use Rattle.gt_types.specs.declared.TypeId.{TypeId}
 use Rattle.gt_types.specs.declared.perms.Perms.{Perms}
 use Rattle.gt_types.specs.declared.config.Config.{Config}
 use Rattle.gt_types.specs.declared.limits.TheConstants.{TABLE_ENTRIES}
-use Rattle.gt_words.specs.Conditions.{Board, IsNewSeat}
+use Rattle.gt_words.specs.Conditions.{Board}
+use Rattle.gt_words.specs.Answers.{IsNewSeat}
 use Rattle.gt_audit.specs.Telling.{silent}
 use Rattle.gt_calls.specs.declared.known.Own.{Own}
 use Rattle.gt_live.specs.Domains.{IsDomainOf}

@@ -1,26 +1,11 @@
 -- How often a call tries, as a number.
 use Rattle.std.specs.Prelude.{◌≡◌, ◌≢◌, ◌⊎◌, ℕ, List, [], ◌∷◌, ◌++◌}
-use Rattle.gt_types.specs.declared.DomId.{DomId}
-use Rattle.gt_types.specs.declared.GrantRef.{GrantRef}
-use Rattle.gt_types.specs.declared.denial.Rule.TheVariants.{N18}
-use Rattle.gt_types.specs.declared.denial.Denial.{Denial}
-use Rattle.gt_types.specs.declared.Dir.{Dir}
-use Rattle.gt_entry.specs.declared.change.Change.{Change}
-use Rattle.gt_entry.specs.declared.change.Half.{Half}
-use Rattle.gt_words.specs.History.{Moment}
-use Rattle.gt_words.specs.Rule.{Layout, position_in}
-use Rattle.gt_words.specs.Steps.{on_entry, on_header}
-use Rattle.gt_words.specs.declared.view.EntryStep.{EntryStep}
-use Rattle.gt_words.specs.declared.view.EntryStep.TheVariants.{ChangeMissed, Looked, PinMissed, ReadBody, Unpinned}
+use Rattle.gt_live.specs.Prelude.{DomId, GrantRef, N18, Denial, Dir, Change, Half, Moment, Layout, position_in}
+use Rattle.gt_live.specs.Prelude.{on_entry, on_header, EntryStep, ChangeMissed, Looked, PinMissed, ReadBody, SeatStep}
+use Rattle.gt_live.specs.Prelude.{View, Refused, Request, Leg, MORE_TRIES, AfterPin, AfterRefusal, entry_refusal}
+use Rattle.gt_live.specs.Prelude.{path_of, refused_at, tries, try_pin, turn, turns, CallerKnowledge}
+use Rattle.gt_words.specs.declared.view.EntryStep.TheVariants.{Unpinned}
 use Rattle.gt_words.specs.declared.view.HeaderStep.TheVariants as header
-use Rattle.gt_words.specs.declared.view.SeatStep.{SeatStep}
-use Rattle.gt_words.specs.declared.view.View.{View}
-use Rattle.gt_calls.specs.declared.action.Verdict.TheVariants.{Refused}
-use Rattle.gt_calls.specs.declared.request.Request.{Request}
-use Rattle.gt_calls.specs.declared.leg.Leg.{Leg}
-use Rattle.gt_calls.specs.declared.leg.TheConstants.{MORE_TRIES}
-use Rattle.gt_calls.specs.Path.{AfterPin, AfterRefusal, entry_refusal, path_of, refused_at, tries, try_pin, turn, turns}
-use Rattle.gt_calls.specs.Rules.{CallerKnowledge}
 use Rattle.gt_live.specs.Walks.{Called}
 
 -- a leg makes four tries: each that is missed leads to the next, and the fourth to N18 with the word that it found

@@ -1,36 +1,13 @@
 -- A copy under way: the pins that it holds, and where it stops. The code's own
 -- representation. It is in specs/ because contracts cite it.
 use Rattle.std.specs.Prelude.{◌≡◌, ℕ, ◌<◌, ◌==◌, ◌&&◌, Bool, cond, List, [], ◌∷◌, ◌++◌, Some}
-use Rattle.gt_types.specs.declared.denial.Denial.{Denial}
-use Rattle.gt_types.specs.declared.limits.TheConstants.{TABLE_ENTRIES}
-use Rattle.gt_words.specs.Conditions.{HasDomain}
+use Rattle.gt_live.specs.Prelude.{Denial, TABLE_ENTRIES, HasDomain, Layout, position_in, LivePin, last_of, pins}
+use Rattle.gt_live.specs.Prelude.{steps_on, Moment, View, Action, Place, Nothing, CopyBytes, Verdict, Granted, Refused}
+use Rattle.gt_live.specs.Prelude.{Call, Phase, Accessing, Ending, Walking, Source, Dest, Held, Pins, CopyArgs, Copy}
+use Rattle.gt_live.specs.Prelude.{GoesOn, last_first, action_at, give_back, path, Rests, RestsOnWays, CallerKnowledge}
+use Rattle.gt_live.specs.Prelude.{IsAt, held_by_call, held_in, pins_by_call}
 use Rattle.gt_words.specs.Keeping.{SeesNoEarlier}
-use Rattle.gt_words.specs.Rule.{Layout, position_in}
-use Rattle.gt_words.specs.Views.{LivePin, last_of, pins, steps_on}
-use Rattle.gt_words.specs.History.{Moment}
-use Rattle.gt_words.specs.declared.view.View.{View}
-use Rattle.gt_calls.specs.declared.action.Action.{Action}
 use Rattle.gt_calls.specs.declared.action.Action.TheVariants as actions
-use Rattle.gt_calls.specs.declared.action.Place.{Place}
-use Rattle.gt_calls.specs.declared.action.Seen.TheVariants.{Nothing}
-use Rattle.gt_calls.specs.declared.action.Step.TheVariants.{Copy as CopyBytes}
-use Rattle.gt_calls.specs.declared.action.Verdict.{Verdict}
-use Rattle.gt_calls.specs.declared.action.Verdict.TheVariants.{Granted, Refused}
-use Rattle.gt_calls.specs.declared.call.Call.{Call}
-use Rattle.gt_calls.specs.declared.call.Phase.{Phase}
-use Rattle.gt_calls.specs.declared.call.Phase.TheVariants.{Accessing, Ending, Walking}
-use Rattle.gt_calls.specs.declared.copying.Aim.TheVariants.{Source, Dest}
-use Rattle.gt_calls.specs.declared.held.Held.{Held}
-use Rattle.gt_calls.specs.declared.held.Pins.{Pins}
-use Rattle.gt_calls.specs.declared.request.CopyArgs.{CopyArgs}
-use Rattle.gt_calls.specs.declared.request.Asked.TheVariants.{Copy}
-use Rattle.gt_calls.specs.Following.{GoesOn}
-use Rattle.gt_calls.specs.Holding.{last_first}
-use Rattle.gt_calls.specs.Machine.{action_at}
-use Rattle.gt_calls.specs.Path.{give_back, path}
-use Rattle.gt_calls.specs.Resting.{Rests, RestsOnWays}
-use Rattle.gt_calls.specs.Rules.{CallerKnowledge}
-use Rattle.gt_calls.specs.Standing.{IsAt, held_by_call, held_in, pins_by_call}
 use Rattle.gt_live.specs.Accesses.{ComesTo, onward}
 use Rattle.gt_live.specs.Driving.{IsSame}
 use Rattle.gt_live.specs.Mappings.{record_of}

@@ -1,40 +1,19 @@
 -- What a call adds to the steps of its seat: the actions of its path, one after another.
 use Rattle.std.specs.Prelude.{◌≡◌, ℕ, Bool, true, false, List, [], ◌∷◌, ◌++◌, map, Option, Some, None}
-use Rattle.gt_words.specs.Controls.{generation_of}
-use Rattle.gt_words.specs.Conditions.{IsNotEarlier, LooksAtHeader, LooksAtControl, LooksAtBody, IsWordOf, Pins}
-use Rattle.gt_words.specs.Conditions.{MissesPin, Unpins, StoresBody, StoresHeader, Changes, MissesChange, MissesBusy}
-use Rattle.gt_words.specs.Conditions.{Publishes, Revokes, Demotes}
-use Rattle.gt_words.specs.Rule.{Layout, id_at, position_in}
-use Rattle.gt_words.specs.Steps.{on_entry, on_header}
-use Rattle.gt_words.specs.Events.{TookPlace}
-use Rattle.gt_words.specs.History.{Moment, part_of}
-use Rattle.gt_words.specs.Views.{IsIn, last_of, with_step}
-use Rattle.gt_words.specs.declared.view.EntryStep.{EntryStep}
-use Rattle.gt_types.specs.declared.DomId.{DomId}
-use Rattle.gt_types.specs.declared.GrantRef.{GrantRef}
-use Rattle.gt_types.specs.declared.denial.Facts.{Facts}
+use Rattle.gt_live.specs.Prelude.{generation_of, IsNotEarlier, IsWordOf, LooksAtHeader, LooksAtControl, LooksAtBody}
+use Rattle.gt_live.specs.Prelude.{MissesPin, Unpins, StoresBody, StoresHeader, Changes, MissesChange, MissesBusy}
+use Rattle.gt_live.specs.Prelude.{Publishes, Revokes, Demotes, Layout, id_at, position_in, on_entry, on_header}
+use Rattle.gt_live.specs.Prelude.{TookPlace, Moment, part_of, IsIn, last_of, with_step, EntryStep, DomId, GrantRef}
+use Rattle.gt_live.specs.Prelude.{Facts, Looked, ReadBody, PinMissed, StoredBody, ChangeMissed, SeatStep, Entry, View}
+use Rattle.gt_live.specs.Prelude.{Action, Makes, Done, control_of, is_kind, Publish, Revoke, Withdraw, Demote, Promote}
+use Rattle.gt_live.specs.Prelude.{FirstHalf, SecondHalf, Sub, Leg, Seen, Nothing, Word, Taken, Missed, Step, LookHeader}
+use Rattle.gt_live.specs.Prelude.{LookControl, LookBody, Pin, Unpin, StoreBody, StoreHeader, Exchange, Verdict, Refused}
+use Rattle.gt_live.specs.Prelude.{Continuation}
+use Rattle.gt_words.specs.Answers.{Pins}
 use Rattle.gt_types.specs.declared.denial.Facts.TheVariants as facts
-use Rattle.gt_words.specs.declared.view.EntryStep.TheVariants.{Looked, ReadBody, Pinned, PinMissed, Unpinned}
-use Rattle.gt_words.specs.declared.view.EntryStep.TheVariants.{StoredBody, Changed, ChangeMissed}
+use Rattle.gt_words.specs.declared.view.EntryStep.TheVariants.{Pinned, Unpinned, Changed}
 use Rattle.gt_words.specs.declared.view.HeaderStep.TheVariants as header
-use Rattle.gt_words.specs.declared.view.SeatStep.{SeatStep}
-use Rattle.gt_words.specs.declared.view.SeatStep.TheVariants.{Entry, Header}
-use Rattle.gt_words.specs.declared.view.View.{View}
-use Rattle.gt_calls.specs.declared.action.Action.{Action}
-use Rattle.gt_calls.specs.declared.action.Action.TheVariants.{Step as Makes, Done}
-use Rattle.gt_entry.specs.Words.{control_of, is_kind}
-use Rattle.gt_entry.specs.declared.change.Change.TheVariants.{Publish, Revoke, Withdraw, Demote, Promote}
-use Rattle.gt_entry.specs.declared.change.Half.TheVariants.{First as FirstHalf, Second as SecondHalf}
-use Rattle.gt_entry.specs.declared.control.Kind.TheVariants.{Sub}
-use Rattle.gt_calls.specs.declared.leg.Leg.{Leg}
-use Rattle.gt_calls.specs.declared.action.Seen.{Seen}
-use Rattle.gt_calls.specs.declared.action.Seen.TheVariants.{Nothing, Word, Taken, Missed}
-use Rattle.gt_calls.specs.declared.action.Step.{Step}
-use Rattle.gt_calls.specs.declared.action.Step.TheVariants.{LookHeader, LookControl, LookBody, Pin, Unpin, StoreBody}
-use Rattle.gt_calls.specs.declared.action.Step.TheVariants.{StoreHeader, Exchange}
-use Rattle.gt_calls.specs.declared.action.Verdict.{Verdict}
-use Rattle.gt_calls.specs.declared.action.Verdict.TheVariants.{Refused}
-use Rattle.gt_calls.specs.Path.{Continuation}
+use Rattle.gt_words.specs.declared.view.SeatStep.TheVariants.{Header}
 
 -- what a step of a seat shows to its call
 abbrev pub shown_in : SeatStep → Seen

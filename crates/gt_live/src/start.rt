@@ -2,7 +2,7 @@
 ghost use Rattle.std.specs.Prelude.{◌≡◌, ◌+◌, ◌<◌, ◌≤◌, ℕ, length, replicate, All, HoldsAt, IfOk, IfErr, OnOk, []};
 ghost use Rattle.gt_types.specs.Config.{IsWithinLimits};
 ghost use Rattle.gt_words.specs.Rule.{layout_of};
-ghost use Rattle.gt_words.specs.Conditions.{IsNewSeat, IsStartFault};
+ghost use Rattle.gt_words.specs.Answers.{IsNewSeat, IsStartFault};
 ghost use Rattle.gt_live.specs.Starting.{first_rows, IsNewDomain};
 
 use crate::domain::Domain;

@@ -1,5 +1,6 @@
 -- Bytes that no rule refuses spell the entry that is asked by them.
-use Rattle.std.proofs.Common.{◌≡◌, ℕ, ◌%◌, ◌<◌, Bool, true, false, cond, ◌==◌, ◌&&◌, List, length, Option, Some, None, sym, refl, ap, ◌∙◌, subst, arith, eq-eqb, ne_eqb}
+use Rattle.std.proofs.Common.{◌≡◌, ℕ, ◌%◌, ◌<◌, Bool, true, false, cond, ◌==◌, ◌&&◌, List, length, Option, Some, None}
+use Rattle.std.proofs.Common.{sym, refl, ap, ◌∙◌, subst, arith, eq-eqb, ne_eqb}
 use Rattle.std.proofs.lemmas.Bool.{eqb-true, eqb-false}
 use Rattle.std.specs.Prelude.{All, MatchBool, find, not, ◌||◌}
 use Rattle.gt_types.specs.declared.DomId.{DomId}
@@ -7,11 +8,13 @@ use Rattle.gt_types.specs.declared.GrantRef.{GrantRef}
 use Rattle.gt_types.specs.declared.denial.Field.{Field}
 use Rattle.gt_types.specs.declared.denial.Field.TheVariants.{Length}
 use Rattle.gt_order.proofs.Spelled.{v1-read, v2-page, v2-sub, v2-via}
-use Rattle.gt_entry.specs.Bytes.{Spells, SpellsV1, SpellsV2, entry_size, field, first_refused, flag_fields, flags_of, is_refused, is_set, is_table_version}
+use Rattle.gt_entry.specs.Bytes.{Spells, SpellsV1, SpellsV2, entry_size, field, first_refused, flag_fields, flags_of}
+use Rattle.gt_entry.specs.Bytes.{is_refused, is_set, is_table_version}
 use Rattle.gt_entry.specs.declared.entry.Entry.{Entry}
 use Rattle.gt_entry.specs.declared.entry.Entry.TheVariants.{Page, Sub, Via}
 use Rattle.gt_entry.specs.declared.header.Header.{Header}
-use Rattle.gt_calls.specs.Asking.{IsSaid, IsSaidBy, begun_by, begun_of, bytes_begun, bytes_of, entry_said, said_in_v1, said_in_v2}
+use Rattle.gt_calls.specs.Asking.{IsSaid, IsSaidBy, begun_by, begun_of, bytes_begun, bytes_of, entry_said, said_in_v1}
+use Rattle.gt_calls.specs.Asking.{said_in_v2}
 use Rattle.gt_calls.specs.Rules.{CallerKnowledge}
 use Rattle.gt_calls.specs.declared.request.Request.{Request}
 use Rattle.gt_order.specs.Runs.{AreBytesOf}

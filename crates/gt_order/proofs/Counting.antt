@@ -1,5 +1,6 @@
 -- Pins, unpins and owners' exchanges keep items and history in agreement.
-use Rattle.std.proofs.Common.{inl, inr, ◌≡◌, ℕ, ◌+◌, ◌-◌, ◌*◌, ◌%◌, ◌^◌, ◌<◌, Bool, true, false, cond, ◌==◌, ◌&&◌, ◌∷◌, Option, Some, None, sym, refl, ap, ◌∙◌, subst, arith, eq-eqb, ne_eqb}
+use Rattle.std.proofs.Common.{inl, inr, ◌≡◌, ℕ, ◌+◌, ◌-◌, ◌*◌, ◌%◌, ◌^◌, ◌<◌, Bool, true, false, cond, ◌==◌, ◌&&◌, ◌∷◌}
+use Rattle.std.proofs.Common.{Option, Some, None, sym, refl, ap, ◌∙◌, subst, arith, eq-eqb, ne_eqb}
 use Rattle.std.proofs.lemmas.Bool.{cases_eq}
 use Rattle.gt_types.specs.Config.{IsWithinLimits}
 use Rattle.gt_types.specs.declared.Dir.{Dir}
@@ -32,15 +33,19 @@ use Rattle.gt_words.specs.declared.view.SeatStep.TheVariants.{Entry}
 use Rattle.gt_calls.specs.declared.held.Held.{Held}
 use Rattle.gt_calls.specs.declared.request.Holder.{Holder}
 use Rattle.gt_calls.specs.declared.action.Seen.{Seen}
-use Rattle.gt_core.proofs.Steps.Observers.{exchanged, exchanged-live, grown-count, kept-entry, kept-raises, kept-table, new_pin, other-entry, other-raises, pinned-live, pins, pins_at, unpinned-live, unpins, unstored}
+use Rattle.gt_core.proofs.Steps.Observers.{exchanged, exchanged-live, grown-count, kept-entry, kept-raises, kept-table}
+use Rattle.gt_core.proofs.Steps.Observers.{new_pin, other-entry, other-raises, pinned-live, pins, pins_at}
+use Rattle.gt_core.proofs.Steps.Observers.{unpinned-live, unpins, unstored}
 use Rattle.gt_core.proofs.Steps.Unpin.{Loses}
 use Rattle.gt_core.proofs.Words.{count_by, is_pin_on, without}
-use Rattle.gt_core.specs.History.{History as Items, Setting, control_at, entry_after, entry_at, generation_at, live, raise_after, raises_at, reads_at, same_dir, word_at, writes_at}
+use Rattle.gt_core.specs.History.{History as Items, Setting, control_at, entry_after, entry_at, generation_at, live}
+use Rattle.gt_core.specs.History.{raise_after, raises_at, reads_at, same_dir, word_at, writes_at}
 use Rattle.gt_core.specs.Standing.{FitsWord}
 use Rattle.gt_core.specs.declared.trace.Answer.{Answer}
 use Rattle.gt_core.specs.declared.trace.Item.{Item}
 use Rattle.gt_order.proofs.Kept.{half-few, half-some, word-same}
-use Rattle.gt_order.proofs.Places.{dom-there, header-apart, places-apart, record-else, record-here, record-kept, test-apart, word-else, word-here}
+use Rattle.gt_order.proofs.Places.{dom-there, header-apart, places-apart, record-else, record-here, record-kept}
+use Rattle.gt_order.proofs.Places.{test-apart, word-else, word-here}
 use Rattle.gt_order.specs.Agreeing.{Agree, dom_at, last_at}
 
 -- counts in a word

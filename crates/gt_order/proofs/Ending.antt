@@ -1,5 +1,6 @@
 -- What the items make of a domain by its own next item: a call begins, goes on, or ends.
-use Rattle.std.proofs.Common.{◌≡◌, ◌≢◌, ℕ, ◌<◌, Bool, true, false, cond, ◌==◌, List, [], ◌∷◌, ◌++◌, Option, Some, None, sym, refl, ap, ◌∙◌, subst, eq-eqb, append_assoc}
+use Rattle.std.proofs.Common.{◌≡◌, ◌≢◌, ℕ, ◌<◌, Bool, true, false, cond, ◌==◌, List, [], ◌∷◌, ◌++◌, Option, Some, None}
+use Rattle.std.proofs.Common.{sym, refl, ap, ◌∙◌, subst, eq-eqb, append_assoc}
 use Rattle.std.proofs.lemmas.List.{map-append}
 use Rattle.std.proofs.lemmas.Option.{none-some}
 use Rattle.gt_types.specs.Config.{IsWithinLimits}
@@ -32,7 +33,8 @@ use Rattle.gt_calls.specs.Asking.{IsSaid, asked, asked_by, begun_of, bytes_of, g
 use Rattle.gt_calls.specs.Following.{MakesStep as MakesFirst}
 use Rattle.gt_calls.specs.Path.{FitsStep, after_beginning, path, path_of, steps_of}
 use Rattle.gt_calls.specs.Standing.{pins_at}
-use Rattle.gt_calls.specs.Rules.{CallerKnowledge, begun, denied, first, knowledge_of, map_begun, map_dir, refused_when, rights_to_map, rights_to_unmap, unmap_begun, unmap_denied}
+use Rattle.gt_calls.specs.Rules.{CallerKnowledge, begun, denied, first, knowledge_of, map_begun, map_dir, refused_when}
+use Rattle.gt_calls.specs.Rules.{rights_to_map, rights_to_unmap, unmap_begun, unmap_denied}
 use Rattle.gt_calls.specs.declared.action.Action.TheVariants.{Step as Makes, Done}
 use Rattle.gt_calls.specs.declared.action.Seen.{Seen}
 use Rattle.gt_calls.specs.declared.action.Seen.TheVariants.{Nothing}
@@ -51,8 +53,10 @@ use Rattle.gt_core.proofs.Steps.Observers.{kept-table, stepped}
 use Rattle.gt_core.proofs.Steps.See.{table-fits}
 use Rattle.gt_core.specs.Effects.{Adds}
 use Rattle.gt_core.specs.GoingOn.{IsReached}
-use Rattle.gt_core.specs.History.{History as Items, Setting, Underway, known_at, maps_answered_at, mappings_at, one_if_mapped, open_call, seen_by, table_at, underway_after, values}
-use Rattle.gt_core.specs.Standing.{MappingsAgree, answer_of, setting_of}
+use Rattle.gt_core.specs.History.{History as Items, Setting, Underway, known_at, maps_answered_at, mappings_at}
+use Rattle.gt_core.specs.History.{one_if_mapped, open_call, seen_by, table_at, underway_after, values}
+use Rattle.gt_core.specs.Standing.{MappingsAgree}
+use Rattle.gt_core.specs.Acting.{answer_of, setting_of}
 use Rattle.gt_core.specs.declared.trace.Answer.{Answer}
 use Rattle.gt_core.specs.declared.trace.Answer.TheVariants.{Done as AnswerDone, Mapped}
 use Rattle.gt_core.specs.declared.trace.Happened.TheVariants.{Stepped}
@@ -62,7 +66,8 @@ use Rattle.gt_live.specs.Ending.{IsMap}
 use Rattle.gt_live.specs.Mappings.{Adds as KeepsOneMore, KeepsMappings}
 use Rattle.gt_live.specs.Walks.{shown, shown_by, shown_in}
 use Rattle.gt_live.specs.declared.domain.Domain.{Domain}
-use Rattle.gt_order.proofs.Ends.{KeepsOwn, clean-steps, handles-kept, keeps-own, kept-maps, last-leaves, leaves-known, leaves-of, maps-quiet, stands-open, told-maps}
+use Rattle.gt_order.proofs.Ends.{KeepsOwn, clean-steps, handles-kept, keeps-own, kept-maps, last-leaves, leaves-known}
+use Rattle.gt_order.proofs.Ends.{leaves-of, maps-quiet, stands-open, told-maps}
 use Rattle.gt_order.proofs.Going.{GoesSo, same-way}
 use Rattle.gt_order.proofs.Making.{header-is}
 use Rattle.gt_order.proofs.Resting.{rest-known}
@@ -70,7 +75,8 @@ use Rattle.gt_order.proofs.Stages.{SeatNow}
 use Rattle.gt_order.proofs.Stages.Stage.{Going, Resting}
 use Rattle.gt_order.proofs.Stepping.{state-there}
 use Rattle.gt_order.specs.Agreeing.{Agree, dom_at}
-use Rattle.gt_order.specs.Ordering.{item_of, item_of_beginning, items_by, items_by_outcome, items_of_call, items_of_calls, items_of_steps, step_in, way_of}
+use Rattle.gt_order.specs.Ordering.{item_of, item_of_beginning, items_by, items_by_outcome, items_of_call}
+use Rattle.gt_order.specs.Ordering.{items_of_calls, items_of_steps, step_in, way_of}
 use Rattle.gt_order.specs.Runs.{CallMade, IsAtRest, IsCall, LeavesMappings, domain_after}
 use Rattle.gt_order.specs.Runs.Outcome.{Told, Kept, Starved, Wrote}
 

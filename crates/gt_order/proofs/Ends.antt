@@ -6,7 +6,17 @@ use Rattle.std.proofs.lemmas.List.Elements.{All-pop}
 use Rattle.std.proofs.lemmas.List.Sums.{sum_by-cons}
 use Rattle.gt_core.proofs.Words.{Publish, ToInvalid, ToReadOnly, ToWithdrawn, ToWritable}
 use Rattle.gt_calls.specs.declared.held.Pins.{Pins}
-use Rattle.gt_core.proofs.Words.{◌≡◌, ◌≢◌, ◌+◌, inl, inr, ℕ, refl, Bool, true, false, cond, ◌==◌, List, [], ◌∷◌, ◌++◌, Option, Some, None, sym, ap, ◌∙◌, subst, reverse, same_Some, none-some, arith, eqb-true, fun_ext, All, DomId, domain_of, Held, Handle, HandleMap, ByMapping, ByLeg, value_of, count_of, Asked, Unmap, Seen, Nothing, Word, Taken, Missed, Step, LookHeader, LookControl, LookBody, PinStep, Unpin, StoreBody, StoreHeader, Exchange, ReadBytes, WriteBytes, CopyBytes, Verdict, Granted, Given, KeptPin, Refused, Makes, Done, Phase, Ending, path, known_at, action_at, Setting, Underway, values, open_call, CallAgrees, IsClean, IsRight, StepsRightIn, LeavesAll, Rests, pins_at, PhaseStands, next_to_give, mapping_of, mappings_at, maps_answered_at, MappingsAgree, one_if_mapped, header_stored, change_at, taken, gather, by_mapping, seen_by, word_at, answer_of, FitsStep, Slot, after_beginning, same_handle, Denial, holder_after, FitsNext, eq-eqb, State}
+use Rattle.gt_core.proofs.Words.{◌≡◌, ◌≢◌, ◌+◌, inl, inr, ℕ, refl, Bool, true, false, cond, ◌==◌, List, [], ◌∷◌, ◌++◌}
+use Rattle.gt_core.proofs.Words.{Option, Some, None, sym, ap, ◌∙◌, subst, reverse, same_Some, none-some, arith}
+use Rattle.gt_core.proofs.Words.{eqb-true, fun_ext, All, DomId, domain_of, Held, Handle, HandleMap, ByMapping, ByLeg}
+use Rattle.gt_core.proofs.Words.{value_of, count_of, Asked, Unmap, Seen, Nothing, Word, Taken, Missed, Step, LookHeader}
+use Rattle.gt_core.proofs.Words.{LookControl, LookBody, PinStep, Unpin, StoreBody, StoreHeader, Exchange, ReadBytes}
+use Rattle.gt_core.proofs.Words.{WriteBytes, CopyBytes, Verdict, Granted, Given, KeptPin, Refused, Makes, Done, Phase}
+use Rattle.gt_core.proofs.Words.{Ending, path, known_at, action_at, Setting, Underway, values, open_call, CallAgrees}
+use Rattle.gt_core.proofs.Words.{IsClean, IsRight, StepsRightIn, LeavesAll, Rests, pins_at, PhaseStands, next_to_give}
+use Rattle.gt_core.proofs.Words.{mapping_of, mappings_at, maps_answered_at, MappingsAgree, one_if_mapped, header_stored}
+use Rattle.gt_core.proofs.Words.{change_at, taken, gather, by_mapping, seen_by, word_at, answer_of, FitsStep, Slot}
+use Rattle.gt_core.proofs.Words.{after_beginning, same_handle, Denial, holder_after, FitsNext, eq-eqb, State}
 use Rattle.gt_calls.specs.declared.action.Value.TheVariants.{Frames, Size as SizeTold, Version as VersionTold}
 use Rattle.gt_calls.specs.declared.action.Action.{Action}
 use Rattle.gt_calls.specs.Rules.{begun}
@@ -15,7 +25,8 @@ use Rattle.gt_calls.proofs.Advancing.{leads-here, stands-on}
 use Rattle.gt_core.proofs.Beginning.{plain-unmapped}
 use Rattle.gt_core.proofs.Mappings.{mappings-same}
 use Rattle.gt_core.proofs.Phases.{IsHere, next_of}
-use Rattle.gt_core.proofs.Steps.Observers.{answered-stays, exchanged-live, kept-entry, kept-raises, kept-table, known-as, pins, stepped}
+use Rattle.gt_core.proofs.Steps.Observers.{answered-stays, exchanged-live, kept-entry, kept-raises, kept-table}
+use Rattle.gt_core.proofs.Steps.Observers.{known-as, pins, stepped}
 use Rattle.gt_core.proofs.Steps.Pin.{can-pin, leg-maps, map-agrees}
 use Rattle.gt_core.proofs.Steps.Unpin.{leg-mappings, mapping-agrees}
 use Rattle.gt_core.proofs.Values.{MapEnds, call-ends}

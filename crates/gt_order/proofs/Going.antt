@@ -1,5 +1,6 @@
 -- The next step of a call under way, and its item.
-use Rattle.std.proofs.Common.{◌≡◌, ◌≢◌, ℕ, ◌<◌, List, [], ◌∷◌, ◌++◌, Option, Some, None, sym, refl, ap, ◌∙◌, subst, reverse}
+use Rattle.std.proofs.Common.{◌≡◌, ◌≢◌, ℕ, ◌<◌, List, [], ◌∷◌, ◌++◌, Option, Some, None, sym, refl, ap, ◌∙◌, subst}
+use Rattle.std.proofs.Common.{reverse}
 use Rattle.gt_types.specs.Config.{IsWithinLimits}
 use Rattle.gt_types.specs.Names.{domain_of}
 use Rattle.gt_types.specs.declared.DomId.{DomId}
@@ -28,9 +29,10 @@ use Rattle.gt_calls.specs.declared.request.Request.{Request}
 use Rattle.gt_core.proofs.GoingOn.{open-calls-can-go-on}
 use Rattle.gt_core.proofs.Steps.Observers.{stepped}
 use Rattle.gt_core.specs.GoingOn.{AnsweredSo, IsOnWords, IsReached}
-use Rattle.gt_core.specs.History.{History as Items, Setting, Underway, known_at, mapping_of, mappings_at, seen_by, values}
+use Rattle.gt_core.specs.History.{History as Items, Setting, Underway, known_at, mapping_of, mappings_at, seen_by}
+use Rattle.gt_core.specs.History.{values}
 use Rattle.gt_core.specs.Legal.{IsRight}
-use Rattle.gt_core.specs.Standing.{setting_of}
+use Rattle.gt_core.specs.Acting.{setting_of}
 use Rattle.gt_core.specs.declared.trace.Answer.{Answer}
 use Rattle.gt_live.proofs.Making.{made-fits}
 use Rattle.gt_live.proofs.Walking.{after-position}

@@ -1,5 +1,6 @@
 -- Where the policy allows it, a domain that leaves unmaps each of its mappings.
-use Rattle.std.proofs.Common.{◌≡◌, Bool, true, false, cond, List, [], ◌∷◌, Option, Some, None, sym, refl, ap, ◌∙◌, subst}
+use Rattle.std.proofs.Common.{◌≡◌, Bool, true, false, cond, List, [], ◌∷◌, Option, Some, None, sym, refl, ap, ◌∙◌}
+use Rattle.std.proofs.Common.{subst}
 use Rattle.std.proofs.lemmas.Option.{none-some}
 use Rattle.std.specs.Prelude.{is_none}
 use Rattle.gt_types.specs.declared.TypeId.{TypeId}
@@ -16,7 +17,8 @@ use Rattle.gt_handles.specs.Handles.{HandleMap, same_handle, value_of}
 use Rattle.gt_handles.specs.declared.handles.Handle.{Handle}
 use Rattle.gt_calls.specs.Opening.{IsAllowed}
 use Rattle.gt_calls.specs.Path.{ended, makes, path_of, by_mapping, after_beginning}
-use Rattle.gt_calls.specs.Rules.{CallerKnowledge, denied, first, refused_when, rights_to_unmap, unmap_begun, unmap_denied}
+use Rattle.gt_calls.specs.Rules.{CallerKnowledge, denied, first, refused_when, rights_to_unmap, unmap_begun}
+use Rattle.gt_calls.specs.Rules.{unmap_denied}
 use Rattle.gt_calls.specs.declared.action.Step.TheVariants.{Unpin}
 use Rattle.gt_calls.specs.declared.action.Verdict.{Verdict}
 use Rattle.gt_calls.specs.declared.action.Verdict.TheVariants.{Granted, Refused}

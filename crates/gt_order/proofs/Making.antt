@@ -7,14 +7,17 @@ use Rattle.gt_words.proofs.Lists.{whose_at}
 use Rattle.gt_words.specs.History.{History, Layout, Moment, Says, place_of, word_after}
 use Rattle.gt_words.specs.Rule.{header_place}
 use Rattle.gt_words.specs.Steps.{StoodWith, TakesStep, changed, changed_word}
-use Rattle.gt_words.specs.Views.{entry_steps, last_of, last_record, own_header, steps_on_header, with_step, stored_header}
+use Rattle.gt_words.specs.Views.{entry_steps, last_of, last_record, own_header, steps_on_header, with_step}
+use Rattle.gt_words.specs.Views.{stored_header}
 use Rattle.gt_words.specs.declared.view.EntryRecord.{EntryRecord}
 use Rattle.gt_words.specs.declared.view.SeatStep.{SeatStep}
 use Rattle.gt_words.specs.declared.view.View.{View}
 use Rattle.gt_calls.specs.declared.action.Seen.{Seen}
 use Rattle.gt_calls.specs.declared.action.Seen.TheVariants.{Nothing, Word, Taken, Missed}
 use Rattle.gt_calls.specs.declared.action.Step.{Step}
-use Rattle.gt_calls.specs.declared.action.Step.TheVariants.{LookHeader, LookControl, LookBody, Pin, Unpin, StoreBody, StoreHeader, Exchange, Read as ReadBytes, Write as WriteBytes, Copy as CopyBytes}
+use Rattle.gt_calls.specs.declared.action.Step.TheVariants.{LookHeader, LookControl, LookBody, Pin, Unpin, StoreBody}
+use Rattle.gt_calls.specs.declared.action.Step.TheVariants.{StoreHeader, Exchange, Read as ReadBytes}
+use Rattle.gt_calls.specs.declared.action.Step.TheVariants.{Write as WriteBytes, Copy as CopyBytes}
 use Rattle.gt_core.specs.GoingOn.{IsOnWords}
 use Rattle.gt_live.specs.Walks.{Made, shown_in}
 use Rattle.gt_order.specs.Agreeing.{IsThe, StoresChange, last_at}

@@ -1,5 +1,7 @@
 -- Each run of the monitor has a legal order: by its history, from the newest step back.
-use Rattle.std.proofs.Common.{◌≡◌, ◌≢◌, ℕ, zero, suc, ◌<◌, ◌≤◌, Bool, true, false, cond, ◌==◌, List, [], ◌∷◌, ◌++◌, length, Option, Some, None, sym, refl, ap, ◌∙◌, subst, arith, ◌⊎◌, inl, inr, eq-eqb, ne_eqb}
+use Rattle.std.proofs.Common.{◌≡◌, ◌≢◌, ℕ, zero, suc, ◌<◌, ◌≤◌, Bool, true, false, cond, ◌==◌, List, [], ◌∷◌, ◌++◌}
+use Rattle.std.proofs.Common.{length, Option, Some, None, sym, refl, ap, ◌∙◌, subst, arith, ◌⊎◌, inl, inr, eq-eqb}
+use Rattle.std.proofs.Common.{ne_eqb}
 use Rattle.std.proofs.lemmas.Bool.{cases_eq, cases_lt}
 use Rattle.std.specs.Prelude.{IsSome}
 use Rattle.gt_types.specs.Config.{IsWithinLimits}
@@ -36,7 +38,7 @@ use Rattle.gt_core.proofs.Steps.Observers.{stepped}
 use Rattle.gt_core.specs.GoingOn.{AnsweredSo, IsReached, MayBeGiven, begin_answer, beginning}
 use Rattle.gt_core.specs.History.{History as Items, Setting, known_at, seen_by, table_at, values}
 use Rattle.gt_core.specs.Legal.{IsRight}
-use Rattle.gt_core.specs.Standing.{answer_of, setting_of}
+use Rattle.gt_core.specs.Acting.{answer_of, setting_of}
 use Rattle.gt_core.specs.declared.trace.Answer.TheVariants.{Done as AnswerDone, Mapped}
 use Rattle.gt_live.proofs.Walking.{after-position}
 use Rattle.gt_live.specs.Domains.{AllowRelation, knowledge}
@@ -44,7 +46,8 @@ use Rattle.gt_live.specs.Starting.{IsNewDomain}
 use Rattle.gt_live.specs.Walks.{IsWalk, MakesStep, after, shown, shown_by, shown_in}
 use Rattle.gt_live.specs.declared.domain.Domain.{Domain}
 use Rattle.gt_order.proofs.Bytes.{said}
-use Rattle.gt_order.proofs.Ending.{RefusesOnly, answered-at-once, answers, asked-refuses, begins, core-adds, ends-kept, ends-told, going-on, keeps-at-once, known-alike, no-pin-at-once, starves, wrote}
+use Rattle.gt_order.proofs.Ending.{RefusesOnly, answered-at-once, answers, asked-refuses, begins, core-adds, ends-kept}
+use Rattle.gt_order.proofs.Ending.{ends-told, going-on, keeps-at-once, known-alike, no-pin-at-once, starves, wrote}
 use Rattle.gt_order.proofs.Going.{goes-so, on-way, same-way, unanswered}
 use Rattle.gt_order.proofs.Making.{made-as, one-moment}
 use Rattle.gt_order.proofs.Resting.{can-be-answered, keeps-agreement}
@@ -55,7 +58,8 @@ use Rattle.gt_order.proofs.Stepping.{bounded-quiet, bounded-step}
 use Rattle.gt_order.specs.Agreeing.{IsThe, dom_at}
 use Rattle.gt_order.specs.Laws.{RunsHaveLegalOrders}
 use Rattle.gt_order.specs.Ordering.{AreStepsOf, IsLegalOrder, ThenStep, item_of_beginning, way_of}
-use Rattle.gt_order.specs.Runs.{AreCalls, CallMade, IsAnswered, IsAtRest, IsCall, IsWrite, KeepsNoPin, Outcome, TookSteps, domain_after}
+use Rattle.gt_order.specs.Runs.{AreCalls, CallMade, IsAnswered, IsAtRest, IsCall, IsWrite, KeepsNoPin, Outcome}
+use Rattle.gt_order.specs.Runs.{TookSteps, domain_after}
 use Rattle.gt_order.specs.Runs.Outcome.{Told, Kept, Starved, Wrote}
 
 -- a stage in the place of another

@@ -4,7 +4,13 @@ use Rattle.std.proofs.lemmas.Bool.{cases_lt}
 use Rattle.std.proofs.lemmas.Option.{slice_get_past}
 use Rattle.std.specs.Prelude.{position}
 use Rattle.gt_calls.specs.declared.known.Own.{Own}
-use Rattle.gt_core.proofs.Words.{◌≡◌, ◌≢◌, ◌+◌, ◌<◌, ◌≤◌, inl, inr, ℕ, refl, false, List, ◌∷◌, length, Option, Some, None, is_some, sym, ap, ◌∙◌, subst, same_Some, none-some, arith, fun_ext, DomId, domain_of, Entry, Request, begun_of, Verdict, CallerKnowledge, knowledge_of, known_at, Setting, open_call, CallAgrees, Agrees, State, state_of, IsRight, MappingsAgree, mappings_at, maps_answered_at, entry_at, generation_at, table_at, entry_in, generation_in, row_entry, row_generation, answer_of, TABLE_ENTRIES, slice_get, header_stored, stored_at, Half, Underway}
+use Rattle.gt_core.proofs.Words.{◌≡◌, ◌≢◌, ◌+◌, ◌<◌, ◌≤◌, inl, inr, ℕ, refl, false, List, ◌∷◌, length, Option, Some}
+use Rattle.gt_core.proofs.Words.{None, is_some, sym, ap, ◌∙◌, subst, same_Some, none-some, arith, fun_ext, DomId}
+use Rattle.gt_core.proofs.Words.{domain_of, Entry, Request, begun_of, Verdict, CallerKnowledge, knowledge_of, known_at}
+use Rattle.gt_core.proofs.Words.{Setting, open_call, CallAgrees, Agrees, State, state_of, IsRight, MappingsAgree}
+use Rattle.gt_core.proofs.Words.{mappings_at, maps_answered_at, entry_at, generation_at, table_at, entry_in}
+use Rattle.gt_core.proofs.Words.{generation_in, row_entry, row_generation, answer_of, TABLE_ENTRIES, slice_get}
+use Rattle.gt_core.proofs.Words.{header_stored, stored_at, Half, Underway}
 use Rattle.gt_core.proofs.Beginning.{begin-answers}
 use Rattle.gt_core.proofs.Keeping.{known-same}
 use Rattle.gt_core.proofs.Playing.{legal-grows}
@@ -13,7 +19,7 @@ use Rattle.gt_core.proofs.Steps.Observers.{kept-entry, kept-raises, kept-table, 
 use Rattle.gt_core.proofs.Steps.Write.{frames-begun}
 use Rattle.gt_core.specs.GoingOn.{IsReached, beginning}
 use Rattle.gt_core.specs.History.{History as Items}
-use Rattle.gt_core.specs.Standing.{setting_of}
+use Rattle.gt_core.specs.Acting.{setting_of}
 use Rattle.gt_core.specs.declared.core_state.Begun.TheVariants.{Done as BegunDone}
 use Rattle.gt_core.specs.declared.trace.Element.TheVariants.{Item as Did}
 use Rattle.gt_core.specs.declared.trace.Event.TheVariants.{Begin}

@@ -8,15 +8,17 @@ use Rattle.gt_entry.specs.declared.change.Half.{Half}
 use Rattle.gt_words.specs.Conditions.{HasDomain}
 use Rattle.gt_words.specs.History.{History, Layout, Says, half_index, place_of, word_after}
 use Rattle.gt_words.specs.Rule.{header_place, layout_of, place, position_in}
-use Rattle.gt_words.specs.declared.view.EntryStep.TheVariants.{Looked, ReadBody, Pinned, PinMissed, Unpinned, StoredBody, Changed, ChangeMissed}
+use Rattle.gt_words.specs.declared.view.EntryStep.TheVariants.{Looked, ReadBody, Pinned, PinMissed, Unpinned}
+use Rattle.gt_words.specs.declared.view.EntryStep.TheVariants.{StoredBody, Changed, ChangeMissed}
 use Rattle.gt_words.specs.declared.view.HeaderStep.TheVariants as header
 use Rattle.gt_words.specs.declared.view.SeatStep.{SeatStep}
 use Rattle.gt_words.specs.declared.view.SeatStep.TheVariants.{Entry, Header}
 use Rattle.gt_calls.specs.declared.action.Seen.TheVariants.{Word, Taken, Missed}
 use Rattle.gt_calls.specs.declared.action.Step.{Step}
-use Rattle.gt_calls.specs.declared.action.Step.TheVariants.{LookHeader, LookControl, LookBody, Pin as PinStep, Unpin, StoreBody, StoreHeader, Exchange}
+use Rattle.gt_calls.specs.declared.action.Step.TheVariants.{LookHeader, LookControl, LookBody, Pin as PinStep, Unpin}
+use Rattle.gt_calls.specs.declared.action.Step.TheVariants.{StoreBody, StoreHeader, Exchange}
 use Rattle.gt_core.specs.History.{History as Items, Setting, body_at, exchange_sees, seen_by, table_at, word_at}
-use Rattle.gt_core.specs.Standing.{setting_of}
+use Rattle.gt_core.specs.Acting.{setting_of}
 use Rattle.gt_live.specs.Walks.{shown_in}
 use Rattle.gt_order.proofs.Places.{dom-there}
 use Rattle.gt_order.specs.Agreeing.{Agree, IsThe, IsWithin, dom_at}

@@ -1,5 +1,6 @@
 -- Where each domain of a run is, after some steps of the history, and the items so far.
-use Rattle.std.proofs.Common.{◌≡◌, ◌≢◌, ℕ, ◌<◌, Bool, false, cond, ◌==◌, List, [], ◌∷◌, ◌++◌, Option, Some, None, sym, refl, ap, ◌∙◌, subst, inl, inr}
+use Rattle.std.proofs.Common.{◌≡◌, ◌≢◌, ℕ, ◌<◌, Bool, false, cond, ◌==◌, List, [], ◌∷◌, ◌++◌, Option, Some, None, sym}
+use Rattle.std.proofs.Common.{refl, ap, ◌∙◌, subst, inl, inr}
 use Rattle.std.proofs.lemmas.Bool.{cases_eq}
 use Rattle.gt_types.specs.Config.{IsWithinLimits}
 use Rattle.gt_types.specs.Names.{domain_of}
@@ -17,9 +18,11 @@ use Rattle.gt_core.proofs.Mappings.{mappings-same}
 use Rattle.gt_core.proofs.Playing.{history-more, legal-more}
 use Rattle.gt_core.proofs.Steps.Observers.{other-known, other-maps, other-pins}
 use Rattle.gt_core.specs.GoingOn.{IsReached}
-use Rattle.gt_core.specs.History.{History as Items, Setting, Underway, by_mapping, known_at, maps_answered_at, mappings_at, open_call, values}
+use Rattle.gt_core.specs.History.{History as Items, Setting, Underway, by_mapping, known_at, maps_answered_at}
+use Rattle.gt_core.specs.History.{mappings_at, open_call, values}
 use Rattle.gt_core.specs.Legal.{IsRight, Legal, MayDo, history_after}
-use Rattle.gt_core.specs.Standing.{MappingsAgree, setting_of}
+use Rattle.gt_core.specs.Standing.{MappingsAgree}
+use Rattle.gt_core.specs.Acting.{setting_of}
 use Rattle.gt_core.specs.declared.trace.Answer.{Answer}
 use Rattle.gt_core.specs.declared.trace.Element.TheVariants.{Item as Did}
 use Rattle.gt_core.specs.declared.trace.Happened.{Happened}
@@ -31,7 +34,8 @@ use Rattle.gt_live.specs.declared.domain.Domain.{Domain}
 use Rattle.gt_order.proofs.Places.{test-apart}
 use Rattle.gt_order.proofs.Stepping.{AreBounded}
 use Rattle.gt_order.specs.Agreeing.{Agree, dom_at}
-use Rattle.gt_order.specs.Ordering.{AreStepsOf, event_in, events_of, item_of_beginning, items_by, items_of_calls, items_of_steps, trace_of, way_of}
+use Rattle.gt_order.specs.Ordering.{AreStepsOf, event_in, events_of, item_of_beginning, items_by, items_of_calls}
+use Rattle.gt_order.specs.Ordering.{items_of_steps, trace_of, way_of}
 use Rattle.gt_order.specs.Runs.{AreCalls, CallMade, IsAtRest, IsCall, domain_after}
 
 -- where a domain is: between two calls, after these; or after these in a call that has made these steps

@@ -1,5 +1,7 @@
 -- Before the first step of all: no items, and no history.
-use Rattle.std.proofs.Common.{◌≡◌, ◌≢◌, ℕ, zero, suc, ◌+◌, ◌*◌, ◌/◌, ◌%◌, ◌<◌, Bool, true, false, cond, ◌==◌, List, [], ◌∷◌, length, map, get_or, Option, Some, None, sym, refl, ap, ◌∙◌, subst, arith, eq-eqb, ne_eqb}
+use Rattle.std.proofs.Common.{◌≡◌, ◌≢◌, ℕ, zero, suc, ◌+◌, ◌*◌, ◌/◌, ◌%◌, ◌<◌, Bool, true, false, cond, ◌==◌, List, []}
+use Rattle.std.proofs.Common.{◌∷◌, length, map, get_or, Option, Some, None, sym, refl, ap, ◌∙◌, subst, arith, eq-eqb}
+use Rattle.std.proofs.Common.{ne_eqb}
 use Rattle.std.proofs.lemmas.List.Elements.{All-nil}
 use Rattle.gt_core.specs.History.{Pin}
 use Rattle.gt_types.specs.Config.{IsWithinLimits}
@@ -24,7 +26,8 @@ use Rattle.gt_core.proofs.Steps.See.{table-fits}
 use Rattle.gt_core.specs.GoingOn.{IsReached}
 use Rattle.gt_core.specs.History.{Setting, generation_at, header_from, mappings_at, word_at}
 unfoldable use Rattle.gt_core.specs.History.{body_at, entry_at, gather, live, maps_answered_at, open_call, raises_at, table_at}
-use Rattle.gt_core.specs.Standing.{MappingsAgree, setting_of}
+use Rattle.gt_core.specs.Standing.{MappingsAgree}
+use Rattle.gt_core.specs.Acting.{setting_of}
 use Rattle.gt_live.specs.Domains.{AllowRelation}
 use Rattle.gt_live.specs.Starting.{IsNewDomain}
 use Rattle.gt_live.specs.declared.domain.Domain.{Domain}

@@ -7,9 +7,18 @@ use Rattle.gt_core.specs.declared.trace.Item.{Item}
 use Rattle.std.specs.Prelude.{All, cond, length, ◌+◌, ◌==◌}
 use Rattle.gt_calls.specs.Resting.{RestsOnLast}
 use Rattle.gt_core.specs.History.{Pin, by_leg, legs_at, gather}
-use Rattle.gt_core.specs.Standing.{numbered}
+use Rattle.gt_core.specs.Phases.{numbered}
 use Rattle.gt_core.proofs.Steps.Unpin.{Loses, loses-leg}
-use Rattle.gt_core.proofs.Words.{◌≡◌, ◌≢◌, ◌<◌, ◌≤◌, ℕ, refl, Bool, true, false, not, List, ◌∷◌, Option, Some, None, sym, ap, ◌∙◌, subst, reverse, same_Some, none-some, arith, DomId, GrantRef, domain_of, Entry as EntryOf, Change, Publish, ToInvalid, ToWithdrawn, ToReadOnly, ToWritable, FirstHalf, SecondHalf, Held, Holder, ByMapping, ByLeg, Asked, Grant, Seen, Nothing, Word, Taken, Missed, Step, LookHeader, LookControl, LookBody, PinStep, Unpin, StoreBody, StoreHeader, Exchange, ReadBytes, WriteBytes, CopyBytes, Makes, State, state_of, Phase, path, known_at, Setting, Underway, Rests, pins_at, DomainConfig, values, open_call, DomainsStand, Agrees, CallAgrees, OpenAgrees, StateAgrees, CoreStands, IsClean, IsRight, IsSafe, begun, entry_at, table_at, reads_at, writes_at, size_of, TABLE_ENTRIES, CoreState}
+use Rattle.gt_core.proofs.Words.{◌≡◌, ◌≢◌, ◌<◌, ◌≤◌, ℕ, refl, Bool, true, false, not, List, ◌∷◌, Option, Some, None}
+use Rattle.gt_core.proofs.Words.{sym, ap, ◌∙◌, subst, reverse, same_Some, none-some, arith, DomId, GrantRef, domain_of}
+use Rattle.gt_core.proofs.Words.{Entry as EntryOf, Change, Publish, ToInvalid, ToWithdrawn, ToReadOnly, ToWritable}
+use Rattle.gt_core.proofs.Words.{FirstHalf, SecondHalf, Held, Holder, ByMapping, ByLeg, Asked, Grant, Seen, Nothing}
+use Rattle.gt_core.proofs.Words.{Word, Taken, Missed, Step, LookHeader, LookControl, LookBody, PinStep, Unpin}
+use Rattle.gt_core.proofs.Words.{StoreBody, StoreHeader, Exchange, ReadBytes, WriteBytes, CopyBytes, Makes, State}
+use Rattle.gt_core.proofs.Words.{state_of, Phase, path, known_at, Setting, Underway, Rests, pins_at, DomainConfig}
+use Rattle.gt_core.proofs.Words.{values, open_call, DomainsStand, Agrees, CallAgrees, OpenAgrees, StateAgrees}
+use Rattle.gt_core.proofs.Words.{CoreStands, IsClean, IsRight, IsSafe, begun, entry_at, table_at, reads_at, writes_at}
+use Rattle.gt_core.proofs.Words.{size_of, TABLE_ENTRIES, CoreState}
 use Rattle.std.specs.Prelude.{IsSome}
 use Rattle.gt_core.proofs.Phases.{IsHere}
 use Rattle.gt_core.proofs.EachStep.{each-step}
@@ -21,10 +30,10 @@ use Rattle.gt_core.specs.GoingOn.{IsOnWords, IsReached}
 use Rattle.gt_core.specs.History.{History as Items}
 use Rattle.gt_core.specs.declared.trace.Answer.{Answer}
 use Rattle.gt_core.specs.declared.underway.Open.{Open}
-use Rattle.gt_core.specs.Legal.{IsSafeChange}
+use Rattle.gt_core.specs.Justified.{IsSafeChange}
 use Rattle.gt_entry.specs.Entries.{is_read_only}
 use Rattle.gt_calls.specs.declared.request.Asked.TheVariants.{Demote, Promote}
-use Rattle.gt_core.specs.Standing.{setting_of}
+use Rattle.gt_core.specs.Acting.{setting_of}
 use Rattle.gt_calls.specs.Opening.{opens}
 use Rattle.gt_types.specs.Config.{IsWithinLimits}
 use Rattle.gt_types.specs.declared.config.Config.{Config}
@@ -33,7 +42,8 @@ use Rattle.gt_words.specs.History.{History, Layout, Says, place_of, word_after}
 use Rattle.gt_words.specs.Laws.{domain_of_run}
 use Rattle.gt_words.specs.Rule.{layout_of, place}
 use Rattle.gt_words.specs.Steps.{changed, changed_word}
-use Rattle.gt_words.specs.declared.view.EntryStep.TheVariants.{Looked, ReadBody, Pinned, PinMissed, Unpinned, StoredBody, Changed, ChangeMissed}
+use Rattle.gt_words.specs.declared.view.EntryStep.TheVariants.{Looked, ReadBody, Pinned, PinMissed, Unpinned}
+use Rattle.gt_words.specs.declared.view.EntryStep.TheVariants.{StoredBody, Changed, ChangeMissed}
 use Rattle.gt_words.specs.declared.view.HeaderStep.TheVariants as header
 use Rattle.gt_words.specs.declared.view.SeatStep.{SeatStep}
 use Rattle.gt_words.specs.declared.view.SeatStep.TheVariants.{Entry, Header}

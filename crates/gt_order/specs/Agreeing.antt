@@ -1,25 +1,13 @@
 -- When the items of the core and the steps of the words have made the same of all entries and headers.
 use Rattle.std.specs.Prelude.{◌≡◌, ℕ, ◌<◌}
-use Rattle.gt_types.specs.declared.limits.TheConstants.{TABLE_ENTRIES}
-use Rattle.gt_entry.specs.Words.{header_word}
-use Rattle.gt_entry.specs.declared.change.Half.{Half}
-use Rattle.gt_words.specs.Conditions.{HasDomain}
-use Rattle.gt_words.specs.Controls.{generation_of}
-use Rattle.gt_words.specs.History.{History, Layout, half_index, part_of, word_after}
-use Rattle.gt_words.specs.Rule.{header_place, id_at, place, position_in}
-use Rattle.gt_words.specs.Steps.{changed, changed_word}
-use Rattle.gt_words.specs.Views.{entry_steps, last_record}
-use Rattle.gt_words.specs.declared.view.EntryRecord.{EntryRecord}
-use Rattle.gt_words.specs.declared.view.EntryStep.TheVariants.{Looked, ReadBody, Pinned, PinMissed, Unpinned}
-use Rattle.gt_words.specs.declared.view.EntryStep.TheVariants.{StoredBody, Changed, ChangeMissed}
+use Rattle.gt_order.specs.Prelude.{TABLE_ENTRIES, header_word, Half, HasDomain, generation_of, History, Layout}
+use Rattle.gt_order.specs.Prelude.{half_index, part_of, word_after, header_place, id_at, place, position_in, changed}
+use Rattle.gt_order.specs.Prelude.{changed_word, entry_steps, last_record, EntryRecord, Looked, ReadBody, Pinned}
+use Rattle.gt_order.specs.Prelude.{PinMissed, Unpinned, StoredBody, Changed, ChangeMissed, SeatStep, Entry, Header}
+use Rattle.gt_order.specs.Prelude.{DomId, Step, LookHeader, LookControl, LookBody, PinStep, Unpin, StoreBody}
+use Rattle.gt_order.specs.Prelude.{StoreHeader, Exchange, Items, Setting, body_at, entry_at, generation_at, table_at}
+use Rattle.gt_order.specs.Prelude.{word_at}
 use Rattle.gt_words.specs.declared.view.HeaderStep.TheVariants as header
-use Rattle.gt_words.specs.declared.view.SeatStep.{SeatStep}
-use Rattle.gt_words.specs.declared.view.SeatStep.TheVariants.{Entry, Header}
-use Rattle.gt_types.specs.declared.DomId.{DomId}
-use Rattle.gt_calls.specs.declared.action.Step.{Step}
-use Rattle.gt_calls.specs.declared.action.Step.TheVariants.{LookHeader, LookControl, LookBody, Pin as PinStep, Unpin}
-use Rattle.gt_calls.specs.declared.action.Step.TheVariants.{StoreBody, StoreHeader, Exchange}
-use Rattle.gt_core.specs.History.{History as Items, Setting, body_at, entry_at, generation_at, table_at, word_at}
 
 -- the domain at a position
 abbrev pub dom_at : Layout → ℕ → DomId

@@ -1,30 +1,10 @@
 -- The contracts of the calls of a domain, clause by clause, say that each is a call of a run.
 use Rattle.std.specs.Prelude.{◌≡◌, ℕ, List, [], Result, Ok, Err, OnOk, OnErr}
-use Rattle.gt_types.specs.Denial.{denial_of}
-use Rattle.gt_types.specs.declared.DomId.{DomId}
-use Rattle.gt_types.specs.declared.GrantRef.{GrantRef}
-use Rattle.gt_types.specs.declared.denial.Denial.{Denial}
-use Rattle.gt_types.specs.declared.denial.Facts.TheVariants.{None as NoFacts}
-use Rattle.gt_types.specs.declared.denial.Rule.TheVariants.{N26}
-use Rattle.gt_words.specs.Conditions.{IsSameSeat}
-use Rattle.gt_words.specs.History.{Moment}
-use Rattle.gt_handles.specs.declared.handles.Handle.{Handle}
-use Rattle.gt_calls.specs.Asking.{asked}
-use Rattle.gt_calls.specs.declared.action.Verdict.{Verdict}
-use Rattle.gt_calls.specs.declared.action.Verdict.TheVariants.{Refused}
-use Rattle.gt_calls.specs.declared.held.Held.{Held}
-use Rattle.gt_calls.specs.declared.request.Request.{Request}
+use Rattle.gt_order.specs.Prelude.{denial_of, DomId, GrantRef, Denial, NoFacts, N26, IsSameSeat, Moment, Handle, asked}
+use Rattle.gt_order.specs.Prelude.{Verdict, Refused, Held, Request, Writing, path_of, Step, Accessed, IsWrittenBy}
+use Rattle.gt_order.specs.Prelude.{Accesses, AllowRelation, Answered, IsOf, KeepsPinned, MapAnswered, known, verdict_of}
+use Rattle.gt_order.specs.Prelude.{IsOfMapping, Removes, Domain, Monitor}
 use Rattle.gt_calls.specs.declared.request.Request.TheVariants as requests
-use Rattle.gt_frames.specs.Receipts.{Writing}
-use Rattle.gt_calls.specs.Path.{path_of}
-use Rattle.gt_calls.specs.declared.action.Step.{Step}
-use Rattle.gt_live.specs.Accesses.{Accessed, IsWrittenBy}
-use Rattle.gt_live.specs.Domains.{Accesses, AllowRelation, Answered, IsOf, KeepsPinned, MapAnswered, known}
-use Rattle.gt_live.specs.Domains.{verdict_of}
-use Rattle.gt_live.specs.Ending.{IsOfMapping}
-use Rattle.gt_live.specs.Mappings.{Removes}
-use Rattle.gt_live.specs.declared.domain.Domain.{Domain}
-use Rattle.gt_live.specs.declared.monitor.Monitor.{Monitor}
 use Rattle.gt_order.specs.Runs.{FitsTypes, IsCall, KeepsNoPin, Outcome}
 use Rattle.gt_order.specs.Runs.Outcome.{Told, Kept, Starved, Wrote}
 

@@ -1,26 +1,9 @@
 -- What follows of runs, and of the steps of the words beside the items of the core.
 use Rattle.std.specs.Prelude.{◌≡◌, ◌≢◌, ℕ, ◌<◌, ◌∷◌, Option, Some, None}
-use Rattle.atomic_table.specs.Table.{State}
-use Rattle.gt_types.specs.Config.{IsWithinLimits}
-use Rattle.gt_types.specs.Names.{domain_of}
-use Rattle.gt_types.specs.declared.config.Config.{Config}
-use Rattle.gt_words.specs.Conditions.{Board}
-use Rattle.gt_words.specs.History.{History, Layout, Says, place_of, word_after}
-use Rattle.gt_words.specs.Rule.{layout_of}
-use Rattle.gt_words.specs.declared.view.SeatStep.{SeatStep}
-use Rattle.gt_words.specs.declared.view.View.{View}
-use Rattle.gt_calls.specs.Path.{path}
-use Rattle.gt_calls.specs.declared.action.Action.TheVariants.{Step as Makes}
-use Rattle.gt_calls.specs.declared.action.Step.{Step}
-use Rattle.gt_core.specs.GoingOn.{IsReached}
-use Rattle.gt_core.specs.History.{History as Items, Underway, known_at, open_call, seen_by, values}
-use Rattle.gt_core.specs.Legal.{IsRight}
-use Rattle.gt_core.specs.Standing.{setting_of}
-use Rattle.gt_core.specs.declared.trace.Answer.{Answer}
-use Rattle.gt_core.specs.declared.trace.Happened.TheVariants.{Stepped}
-use Rattle.gt_core.specs.declared.trace.Item.{Item}
-use Rattle.gt_live.specs.Domains.{AllowRelation}
-use Rattle.gt_live.specs.Walks.{shown_in}
+use Rattle.gt_order.specs.Prelude.{State, IsWithinLimits, domain_of, Config, Board, History, Layout, Says, place_of}
+use Rattle.gt_order.specs.Prelude.{word_after, layout_of, SeatStep, View, path, Makes, Step, IsReached, Items, Underway}
+use Rattle.gt_order.specs.Prelude.{known_at, open_call, seen_by, values, IsRight, setting_of, Answer, Stepped, Item}
+use Rattle.gt_order.specs.Prelude.{AllowRelation, shown_in}
 use Rattle.gt_order.specs.Agreeing.{Agree, IsThe, IsWithin, StoresChange, dom_at}
 use Rattle.gt_order.specs.Ordering.{IsLegalOrder}
 use Rattle.gt_order.specs.Runs.{IsRun, SeatRun}

@@ -4,3 +4,4 @@ pub mod Leaving
 pub mod Agreeing
 pub mod Ordering
 pub mod Laws
+pub mod Prelude

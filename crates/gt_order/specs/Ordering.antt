@@ -1,31 +1,9 @@
 -- The items of a run: the steps of its history in their order, and the beginnings of its calls between them.
 use Rattle.std.specs.Prelude.{◌≡◌, ℕ, ◌<◌, ◌==◌, if◌then◌else◌, List, [], ◌∷◌, ◌++◌, Option, Some, None}
-use Rattle.gt_types.specs.declared.DomId.{DomId}
-use Rattle.gt_types.specs.declared.config.Config.{Config}
-use Rattle.gt_words.specs.History.{History, Layout, Moment}
-use Rattle.gt_calls.specs.Path.{Continuation, path_of}
-use Rattle.gt_calls.specs.declared.action.Action.{Action}
-use Rattle.gt_calls.specs.declared.action.Action.TheVariants.{Step as Makes}
-use Rattle.gt_calls.specs.declared.action.Seen.{Seen}
-use Rattle.gt_calls.specs.declared.action.Step.{Step}
-use Rattle.gt_calls.specs.declared.action.Seen.TheVariants.{Nothing}
-use Rattle.gt_calls.specs.declared.action.Step.TheVariants.{LookHeader, Write as WriteBytes}
-use Rattle.gt_calls.specs.declared.request.Request.{Request}
-use Rattle.gt_core.specs.GoingOn.{IsReached}
-use Rattle.gt_core.specs.History.{History as Items}
-use Rattle.gt_core.specs.Legal.{Legal}
-use Rattle.gt_core.specs.Standing.{answer_of, setting_of}
-use Rattle.gt_core.specs.declared.trace.Answer.{Answer}
-use Rattle.gt_core.specs.declared.trace.Answer.TheVariants.{Done as AnswerDone, Mapped as MappedAnswer}
-use Rattle.gt_core.specs.declared.trace.Element.{Element}
-use Rattle.gt_core.specs.declared.trace.Element.TheVariants.{Item as Did}
-use Rattle.gt_core.specs.declared.trace.Event.{Event}
-use Rattle.gt_core.specs.declared.trace.Event.TheVariants.{Begin, Tick}
-use Rattle.gt_core.specs.declared.trace.Happened.{Happened}
-use Rattle.gt_core.specs.declared.trace.Happened.TheVariants.{Began, Stepped}
-use Rattle.gt_core.specs.declared.trace.Item.{Item}
-use Rattle.gt_live.specs.Domains.{AllowRelation, knowledge}
-use Rattle.gt_live.specs.Walks.{shown, shown_by, shown_in}
+use Rattle.gt_order.specs.Prelude.{DomId, Config, History, Layout, Moment, Continuation, path_of, Action, Makes, Seen}
+use Rattle.gt_order.specs.Prelude.{Step, Nothing, LookHeader, WriteBytes, Request, IsReached, Items, Legal, answer_of}
+use Rattle.gt_order.specs.Prelude.{setting_of, Answer, AnswerDone, MappedAnswer, Element, Did, Event, Begin, Tick}
+use Rattle.gt_order.specs.Prelude.{Happened, Began, Stepped, Item, AllowRelation, knowledge, shown, shown_by, shown_in}
 use Rattle.gt_order.specs.Agreeing.{IsThe, dom_at}
 use Rattle.gt_order.specs.Runs.{CallMade, Outcome, SeatRun}
 use Rattle.gt_order.specs.Runs.Outcome.{Told, Kept, Starved, Wrote}

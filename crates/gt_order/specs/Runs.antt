@@ -1,35 +1,11 @@
 -- A run of the monitor: the order of all steps of all seats, and for each domain the calls that it made.
 use Rattle.std.specs.Prelude.{◌≡◌, ℕ, ◌<◌, All, List, [], ◌∷◌, length, Option, Some, None}
-use mathlib.Core.Option.{some}
-use lib.ListN.{get_elem?}
-use Rattle.atomic_table.specs.Table.{State}
-use Rattle.gt_types.specs.Config.{IsWithinLimits}
-use Rattle.gt_types.specs.declared.GrantRef.{GrantRef}
-use Rattle.gt_types.specs.declared.config.Config.{Config}
-use Rattle.gt_words.specs.Conditions.{Board, IsSameSeat}
-use Rattle.gt_words.specs.History.{Moment}
-use Rattle.gt_words.specs.Rule.{Shows, layout_of}
-use Rattle.gt_words.specs.declared.view.View.{View}
-use Rattle.gt_handles.specs.Handles.{HandleMap}
-use Rattle.gt_handles.specs.declared.handles.Handle.{Handle}
-use Rattle.gt_calls.specs.Asking.{FitsAsked, asked, bytes_of}
-use Rattle.gt_calls.specs.Path.{Continuation, path_of}
-use Rattle.gt_calls.specs.declared.action.Action.TheVariants.{Step as Makes, Done}
-use Rattle.gt_calls.specs.declared.action.Seen.TheVariants.{Nothing}
-use Rattle.gt_calls.specs.declared.action.Step.{Step}
-use Rattle.gt_calls.specs.declared.action.Step.TheVariants.{Write as WriteBytes}
-use Rattle.gt_calls.specs.declared.action.Verdict.{Verdict}
-use Rattle.gt_calls.specs.declared.action.Verdict.TheVariants.{Granted, Mapped, Refused}
-use Rattle.gt_calls.specs.declared.held.Held.{Held}
-use Rattle.gt_calls.specs.declared.request.Asked.{Asked}
+use Rattle.gt_order.specs.Prelude.{some, get_elem?, State, IsWithinLimits, GrantRef, Config, Board, IsSameSeat, Moment}
+use Rattle.gt_order.specs.Prelude.{Shows, layout_of, View, HandleMap, Handle, FitsAsked, asked, bytes_of, Continuation}
+use Rattle.gt_order.specs.Prelude.{path_of, Makes, Done, Nothing, Step, WriteBytes, Verdict, Granted, Mapped, Refused}
+use Rattle.gt_order.specs.Prelude.{Held, Asked, Request, AllowRelation, IsDomainOf, knowledge, IsMap, Adds}
+use Rattle.gt_order.specs.Prelude.{KeepsMappings, Removes, IsNewDomain, Called, Domain}
 use Rattle.gt_calls.specs.declared.request.Asked.TheVariants as asks
-use Rattle.gt_calls.specs.declared.request.Request.{Request}
-use Rattle.gt_live.specs.Domains.{AllowRelation, IsDomainOf, knowledge}
-use Rattle.gt_live.specs.Ending.{IsMap}
-use Rattle.gt_live.specs.Mappings.{Adds, KeepsMappings, Removes}
-use Rattle.gt_live.specs.Starting.{IsNewDomain}
-use Rattle.gt_live.specs.Walks.{Called}
-use Rattle.gt_live.specs.declared.domain.Domain.{Domain}
 
 -- how a call was answered: as its path ends, by a mapping under a handle, by a refusal for want of memory, or by Ok
 -- after it wrote the bytes that it was given

@@ -1,5 +1,6 @@
 -- What statements grant lies between declared types.
-use Rattle.std.proofs.Common.{◌≡◌, ◌<◌, ℕ, ◌==◌, ◌||◌, ◌&&◌, Bool, true, false, List, [], ◌∷◌, ◌++◌, length, Some, Ok, ◌⊎◌, inl, inr, map, arith, refl, sym, ap, subst, ◌∙◌}
+use Rattle.std.proofs.Common.{◌≡◌, ◌<◌, ℕ, ◌==◌, ◌||◌, ◌&&◌, Bool, true, false, List, [], ◌∷◌, ◌++◌, length, Some, Ok}
+use Rattle.std.proofs.Common.{◌⊎◌, inl, inr, map, arith, refl, sym, ap, subst, ◌∙◌}
 use Rattle.std.specs.List.{list_any}
 use Rattle.std.specs.Str.{bytes_eq}
 use Rattle.std.proofs.lemmas.Bool.{eqb-true, false≢true}
@@ -13,7 +14,8 @@ use Rattle.gt_policy.specs.declared.statements.Mention.{Mention}
 use Rattle.gt_policy.specs.declared.statements.SetElement.{SetElement}
 use Rattle.gt_policy.specs.declared.statements.SetElement.TheVariants as item
 use Rattle.gt_policy.specs.declared.statements.Statement.{Statement}
-use Rattle.gt_policy.specs.declared.statements.Statement.TheVariants.{DeclareType, DeclareAttribute, GiveAttributes, Allow}
+use Rattle.gt_policy.specs.declared.statements.Statement.TheVariants.{DeclareType, DeclareAttribute, GiveAttributes}
+use Rattle.gt_policy.specs.declared.statements.Statement.TheVariants.{Allow}
 use Rattle.gt_policy.specs.declared.resolve.DraftElement.{DraftElement}
 use Rattle.gt_policy.specs.declared.resolve.DraftElement.TheVariants.{With, Without, Itself}
 use Rattle.gt_policy.specs.declared.resolve.TypeAttribute.{TypeAttribute}
@@ -21,8 +23,10 @@ use Rattle.gt_policy.specs.declared.resolve.DraftRule.{DraftRule}
 use Rattle.gt_policy.specs.declared.resolve.Draft.{Draft}
 use Rattle.gt_policy.specs.declared.rules.AllowRule.{AllowRule}
 use Rattle.gt_policy.specs.Names.{Names, symbol_of}
-use Rattle.gt_policy.specs.Resolving.{known, type_in, attribute_in, element_of, elements_of, given_by, with_statement, resolved, granted, nothing_given}
-use Rattle.gt_policy.specs.Allowing.{was_given, stands_for, is_with, holds_type, says_itself, is_granted_by, some_grants, AreWithin}
+use Rattle.gt_policy.specs.Resolving.{known, type_in, attribute_in, element_of, elements_of, given_by, with_statement}
+use Rattle.gt_policy.specs.Resolving.{resolved, granted, nothing_given}
+use Rattle.gt_policy.specs.Allowing.{was_given, stands_for, is_with, holds_type, says_itself, is_granted_by}
+use Rattle.gt_policy.specs.Allowing.{some_grants, AreWithin}
 use Rattle.gt_policy.proofs.TextLemmas.{bind_ok}
 use Rattle.gt_policy.proofs.GrantingLemmas.{known_ok, type_ok, type_place, give_rules, allow_read, rule_of}
 use Rattle.gt_policy.proofs.SpellingLemmas.{ok_of, ok_part}

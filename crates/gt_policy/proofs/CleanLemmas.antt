@@ -1,5 +1,7 @@
 -- Names are added one after the other exactly where the statements are clean.
-use Rattle.std.proofs.Common.{◌≡◌, ◌<◌, ◌≤◌, ℕ, ◌+◌, Bool, true, false, cond, List, [], ◌∷◌, ◌++◌, length, Option, Some, None, is_some, Result, Ok, Err, position, refl, sym, ap, ◌∙◌, arith, nat_lt, append_assoc, length-append}
+use Rattle.std.proofs.Common.{◌≡◌, ◌<◌, ◌≤◌, ℕ, ◌+◌, Bool, true, false, cond, List, [], ◌∷◌, ◌++◌, length, Option, Some}
+use Rattle.std.proofs.Common.{None, is_some, Result, Ok, Err, position, refl, sym, ap, ◌∙◌, arith, nat_lt, append_assoc}
+use Rattle.std.proofs.Common.{length-append}
 use Rattle.std.specs.Prelude.{if◌then◌else◌, ◌||◌}
 use Rattle.std.specs.List.{list_any, position_from}
 use Rattle.std.specs.Str.{bytes_eq}
@@ -9,7 +11,8 @@ use Rattle.std.proofs.lemmas.List.Folds.{list_any-append}
 use Rattle.gt_policy.specs.declared.fault.TokenFault.{TokenFault}
 use Rattle.gt_policy.specs.declared.fault.TokenFaultKind.TheVariants.{Twice, Limit}
 use Rattle.gt_policy.specs.declared.statements.Statement.{Statement}
-use Rattle.gt_policy.specs.declared.statements.Statement.TheVariants.{DeclareType, DeclareAttribute, GiveAttributes, Allow}
+use Rattle.gt_policy.specs.declared.statements.Statement.TheVariants.{DeclareType, DeclareAttribute, GiveAttributes}
+use Rattle.gt_policy.specs.declared.statements.Statement.TheVariants.{Allow}
 use Rattle.gt_policy.specs.Names.{Names, no_names, symbol_at, is_declared, with_type, with_attribute, with_allow}
 use Rattle.gt_policy.specs.Grammar.{◌>>=◌}
 use Rattle.gt_policy.specs.Spelling.{types_in, attributes_in, declared_in, allows_in, AreDistinct, AreClean, names_of}

@@ -1,5 +1,6 @@
 -- What statements grant by names is what a policy allows by numbers.
-use Rattle.std.proofs.Common.{◌≡◌, ℕ, ◌==◌, ◌||◌, ◌&&◌, Bool, true, false, List, [], ◌∷◌, ◌++◌, Option, Some, None, Result, Ok, Err, refl, sym, ap, ◌∙◌, arith, position, get_or}
+use Rattle.std.proofs.Common.{◌≡◌, ℕ, ◌==◌, ◌||◌, ◌&&◌, Bool, true, false, List, [], ◌∷◌, ◌++◌, Option, Some, None}
+use Rattle.std.proofs.Common.{Result, Ok, Err, refl, sym, ap, ◌∙◌, arith, position, get_or}
 use Rattle.std.specs.Prelude.{not}
 use Rattle.std.specs.List.{list_any}
 use Rattle.std.specs.Str.{bytes_eq}
@@ -16,7 +17,8 @@ use Rattle.gt_policy.specs.declared.statements.Mention.{Mention}
 use Rattle.gt_policy.specs.declared.statements.SetElement.{SetElement}
 use Rattle.gt_policy.specs.declared.statements.SetElement.TheVariants as item
 use Rattle.gt_policy.specs.declared.statements.Statement.{Statement}
-use Rattle.gt_policy.specs.declared.statements.Statement.TheVariants.{DeclareType, DeclareAttribute, GiveAttributes, Allow}
+use Rattle.gt_policy.specs.declared.statements.Statement.TheVariants.{DeclareType, DeclareAttribute, GiveAttributes}
+use Rattle.gt_policy.specs.declared.statements.Statement.TheVariants.{Allow}
 use Rattle.gt_policy.specs.declared.statements.Allowance.{Allowance}
 use Rattle.gt_policy.specs.declared.resolve.DraftElement.{DraftElement}
 use Rattle.gt_policy.specs.declared.resolve.DraftElement.TheVariants.{With, Without, Itself}
@@ -31,9 +33,13 @@ use Rattle.gt_policy.specs.Accepting.{meant_by}
 use Rattle.gt_policy.specs.Names.{Names, symbol_at, symbol_of}
 use Rattle.gt_types.specs.Names.{permission_of, is_permission}
 use Rattle.gt_policy.specs.Grammar.{◌>>=◌}
-use Rattle.gt_policy.specs.Resolving.{known, any_symbol, type_in, type_symbol, attribute_in, attribute_symbol, element_of, elements_of, given_by, allowed_by, with_statement, resolved, granted, has_grant, nothing_given}
-use Rattle.gt_policy.specs.Allowing.{was_given, stands_for, is_with, is_without, holds_type, is_itself, says_itself, is_granted_by, is_allowed, type_named, Meaning}
-use Rattle.gt_policy.specs.Granting.{mentions, gives, is_named, names_with, names_without, set_holds, is_self, lists_word, statement_grants, is_granted}
+use Rattle.gt_policy.specs.Resolving.{known, any_symbol, type_in, type_symbol, attribute_in, attribute_symbol}
+use Rattle.gt_policy.specs.Resolving.{element_of, elements_of, given_by, allowed_by, with_statement, resolved, granted}
+use Rattle.gt_policy.specs.Resolving.{has_grant, nothing_given}
+use Rattle.gt_policy.specs.Allowing.{was_given, stands_for, is_with, is_without, holds_type, is_itself, says_itself}
+use Rattle.gt_policy.specs.Allowing.{is_granted_by, is_allowed, type_named, Meaning}
+use Rattle.gt_policy.specs.Granting.{mentions, gives, is_named, names_with, names_without, set_holds, is_self}
+use Rattle.gt_policy.specs.Granting.{lists_word, statement_grants, is_granted}
 use Rattle.gt_policy.proofs.TextLemmas.{bind_ok}
 use Rattle.gt_policy.proofs.PermLemmas.{lists_words}
 use Rattle.gt_policy.proofs.BoolLemmas.{or_false, or_no, or_assoc}

@@ -1,5 +1,6 @@
 -- What the definitions of whole texts come to.
-use Rattle.std.proofs.Common.{◌≡◌, ◌<◌, ◌≤◌, ◌⊎◌, inl, inr, ℕ, Bool, true, false, List, [], ◌∷◌, ◌++◌, length, Result, Ok, Err, refl, sym, ap, ◌∙◌, subst, arith, nat_lt}
+use Rattle.std.proofs.Common.{◌≡◌, ◌<◌, ◌≤◌, ◌⊎◌, inl, inr, ℕ, Bool, true, false, List, [], ◌∷◌, ◌++◌, length, Result}
+use Rattle.std.proofs.Common.{Ok, Err, refl, sym, ap, ◌∙◌, subst, arith, nat_lt}
 use Rattle.std.proofs.lemmas.Bool.Decides.{nat_tests}
 use Rattle.gt_policy.specs.declared.fault.TokenFault.{TokenFault}
 use Rattle.gt_policy.specs.declared.fault.TokenFaultKind.TheVariants.{Limit}
@@ -13,7 +14,8 @@ use Rattle.gt_policy.specs.Resolving.{resolved, nothing_given}
 use Rattle.gt_policy.specs.Whole.{Follows, ended, more, wrong, Says, too_long, clean, faulty, meaning_of}
 use Rattle.gt_policy.specs.Undeclared.{IsFirstUndeclared, uses_of}
 use Rattle.gt_policy.specs.Accepting.{IsWritten, IsBroken, SpellsFront, front_end, front_more, meant_by}
-use Rattle.gt_policy.proofs.TextLemmas.{added, all_added, bind_ok, statement_read, statement_spelled, text_read, text_spelled, follows_some}
+use Rattle.gt_policy.proofs.TextLemmas.{added, all_added, bind_ok, statement_read, statement_spelled, text_read}
+use Rattle.gt_policy.proofs.TextLemmas.{text_spelled, follows_some}
 use Rattle.gt_policy.proofs.CleanLemmas.{clean_added, added_clean}
 use Rattle.gt_policy.proofs.UndeclaredLemmas.{meant_undeclared, undeclared_meant}
 

@@ -1,5 +1,6 @@
 -- Sets of permissions as bits, and as lists of words.
-use Rattle.std.proofs.Common.{◌≡◌, ◌<◌, ℕ, ◌*◌, ◌^◌, ◌==◌, ◌||◌, ◌&&◌, zero, suc, Bool, true, false, List, [], ◌∷◌, Option, Some, None, refl, sym, ap, ◌∙◌, arith}
+use Rattle.std.proofs.Common.{◌≡◌, ◌<◌, ℕ, ◌*◌, ◌^◌, ◌==◌, ◌||◌, ◌&&◌, zero, suc, Bool, true, false, List, [], ◌∷◌}
+use Rattle.std.proofs.Common.{Option, Some, None, refl, sym, ap, ◌∙◌, arith}
 use Rattle.std.specs.Prelude.{if◌then◌else◌, codes}
 use Rattle.std.specs.List.{list_any}
 use Rattle.std.specs.Str.{bytes_eq}
@@ -14,7 +15,8 @@ use Rattle.gt_policy.specs.declared.statements.Permissions.{Permissions}
 use Rattle.gt_policy.specs.declared.statements.Permissions.TheVariants.{Every, Named}
 use Rattle.gt_policy.specs.Allowing.{lists_perm}
 use Rattle.gt_types.specs.Names.{permission_of}
-use Rattle.gt_policy.specs.Resolving.{no_perms, all_perms, union, with_named, perms_from, has_grant, perms_listed, granted}
+use Rattle.gt_policy.specs.Resolving.{no_perms, all_perms, union, with_named, perms_from, has_grant, perms_listed}
+use Rattle.gt_policy.specs.Resolving.{granted}
 use Rattle.gt_policy.specs.Granting.{lists_word}
 use Rattle.gt_policy.specs.TypeSets.{is_set}
 use Rattle.gt_policy.proofs.TypeSetLemmas.{is_set-or}

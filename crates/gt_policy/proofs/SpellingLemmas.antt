@@ -1,5 +1,6 @@
 -- What the readers take is what the grammar spells, and the other way round.
-use Rattle.std.proofs.Common.{◌≡◌, ◌<◌, ℕ, Bool, true, false, List, [], ◌∷◌, length, Result, Ok, Err, refl, sym, ap, ◌∙◌, subst, arith}
+use Rattle.std.proofs.Common.{◌≡◌, ◌<◌, ℕ, Bool, true, false, List, [], ◌∷◌, length, Result, Ok, Err, refl, sym, ap}
+use Rattle.std.proofs.Common.{◌∙◌, subst, arith}
 use Rattle.std.specs.Prelude.{if◌then◌else◌}
 use Rattle.std.specs.List.{list_any}
 use Rattle.gt_policy.specs.declared.lexer.Token.TheVariants.{Name, SelfWord, Open, Close, Semicolon, Comma, Minus, Star}
@@ -10,8 +11,11 @@ use Rattle.gt_policy.specs.declared.statements.SetElement.{SetElement}
 use Rattle.gt_policy.specs.declared.statements.SetElement.TheVariants.{With, Without, Itself}
 use Rattle.gt_policy.specs.declared.statements.Permissions.{Permissions}
 use Rattle.gt_policy.specs.declared.statements.Permissions.TheVariants.{Every, Named}
-use Rattle.gt_policy.specs.Grammar.{Lexemes, LexerState, at, before, excluded, attributes, set_in_braces, set_of, classes_in_braces, classes_of, is_refused, perms_in_braces, as_named, perms_of}
-use Rattle.gt_policy.specs.Spelling.{SpellsNames, no_more, one_more, a_name, SpellsItems, items_end, with, without, itself, SpellsSet, one_name, one_self, set_in, SpellsWords, words_end, a_word, SpellsList, one_word, list_in, SpellsPerms, every, names}
+use Rattle.gt_policy.specs.Grammar.{Lexemes, LexerState, at, before, excluded, attributes, set_in_braces, set_of}
+use Rattle.gt_policy.specs.Grammar.{classes_in_braces, classes_of, is_refused, perms_in_braces, as_named, perms_of}
+use Rattle.gt_policy.specs.Spelling.{SpellsNames, no_more, one_more, a_name, SpellsItems, items_end, with, without}
+use Rattle.gt_policy.specs.Spelling.{itself, SpellsSet, one_name, one_self, set_in, SpellsWords, words_end, a_word}
+use Rattle.gt_policy.specs.Spelling.{SpellsList, one_word, list_in, SpellsPerms, every, names}
 use Rattle.std.proofs.lemmas.Bool.{or_from, or_parts}
 
 abbrev pub ok_of : {A : Type 0} → A → Result A TokenFault

@@ -1,8 +1,10 @@
 -- Statements and whole texts: what is read is what is spelled.
-use Rattle.std.proofs.Common.{◌≡◌, ◌<◌, ◌≤◌, ℕ, zero, suc, Bool, true, false, List, [], ◌∷◌, ◌++◌, length, Option, Some, None, Result, Ok, Err, refl, sym, ap, ◌∙◌, subst, arith, append_assoc}
+use Rattle.std.proofs.Common.{◌≡◌, ◌<◌, ◌≤◌, ℕ, zero, suc, Bool, true, false, List, [], ◌∷◌, ◌++◌, length, Option, Some}
+use Rattle.std.proofs.Common.{None, Result, Ok, Err, refl, sym, ap, ◌∙◌, subst, arith, append_assoc}
 use Rattle.std.specs.Prelude.{if◌then◌else◌}
 use Rattle.std.proofs.lemmas.Option.{same_Some}
-use Rattle.gt_policy.specs.declared.lexer.Token.TheVariants.{Name, TypeWord, AttributeWord, TypeattributeWord, AllowWord, Colon, Semicolon, End}
+use Rattle.gt_policy.specs.declared.lexer.Token.TheVariants.{Name, TypeWord, AttributeWord, TypeattributeWord}
+use Rattle.gt_policy.specs.declared.lexer.Token.TheVariants.{AllowWord, Colon, Semicolon, End}
 use Rattle.gt_policy.specs.declared.fault.TokenFault.{TokenFault}
 use Rattle.gt_policy.specs.declared.fault.TokenFaultKind.TheVariants.{Outside}
 use Rattle.gt_policy.specs.declared.statements.Mention.{Mention}
@@ -10,12 +12,19 @@ use Rattle.gt_policy.specs.declared.statements.SetElement.{SetElement}
 use Rattle.gt_policy.specs.declared.statements.Permissions.{Permissions}
 use Rattle.gt_policy.specs.declared.statements.Allowance.{Allowance}
 use Rattle.gt_policy.specs.declared.statements.Statement.{Statement}
-use Rattle.gt_policy.specs.declared.statements.Statement.TheVariants.{DeclareType, DeclareAttribute, GiveAttributes, Allow}
+use Rattle.gt_policy.specs.declared.statements.Statement.TheVariants.{DeclareType, DeclareAttribute, GiveAttributes}
+use Rattle.gt_policy.specs.declared.statements.Statement.TheVariants.{Allow}
 use Rattle.gt_policy.specs.Names.{Names, with_type, with_attribute, with_allow}
-use Rattle.gt_policy.specs.Grammar.{Lexemes, LexerState, ◌>>=◌, at, excluded, type_name, attribute_name, attributes, set_of, colon, semicolon, classes_of, is_grant_alone, perms_of, allow_statement, typeattribute_statement, type_statement, attribute_statement, beside, next_one, statement}
-use Rattle.gt_policy.specs.Spelling.{SpellsSet, SpellsPerms, SpellsStatement, type_of, attribute_of, attributes_of, allow_of, SpellsText, text_end, statement_of}
+use Rattle.gt_policy.specs.Grammar.{Lexemes, LexerState, ◌>>=◌, at, excluded, type_name, attribute_name, attributes}
+use Rattle.gt_policy.specs.Grammar.{set_of, colon, semicolon, classes_of, is_grant_alone, perms_of, allow_statement}
+use Rattle.gt_policy.specs.Grammar.{typeattribute_statement, type_statement, attribute_statement, beside, next_one}
+use Rattle.gt_policy.specs.Grammar.{statement}
+use Rattle.gt_policy.specs.Spelling.{SpellsSet, SpellsPerms, SpellsStatement, type_of, attribute_of, attributes_of}
+use Rattle.gt_policy.specs.Spelling.{allow_of, SpellsText, text_end, statement_of}
 use Rattle.gt_policy.specs.Whole.{Follows, ended, more, wrong}
-use Rattle.gt_policy.proofs.SpellingLemmas.{ok_of, ok_part, names_read, names_spelled, names_shorter, set_read, set_spelled, set_shorter, classes_read, classes_spelled, list_shorter, perms_read, perms_spelled, perms_shorter}
+use Rattle.gt_policy.proofs.SpellingLemmas.{ok_of, ok_part, names_read, names_spelled, names_shorter, set_read}
+use Rattle.gt_policy.proofs.SpellingLemmas.{set_spelled, set_shorter, classes_read, classes_spelled, list_shorter}
+use Rattle.gt_policy.proofs.SpellingLemmas.{perms_read, perms_spelled, perms_shorter}
 use Rattle.std.proofs.lemmas.List.{append-nil}
 
 pub bind_ok : {A B : Type 0} (m : Result A TokenFault) (f : A → Result B TokenFault) (y : B) → (m >>= f) ≡ ok_of y → (x : A) × (m ≡ ok_of x) × (f x ≡ ok_of y)

@@ -1,5 +1,6 @@
 -- Names are looked up one after the other, so the fault is that of the first that is not declared.
-use Rattle.std.proofs.Common.{subst, ◌≡◌, ℕ, ◌||◌, ◌&&◌, Bool, true, false, List, [], ◌∷◌, ◌++◌, Option, Some, None, is_some, Result, Ok, Err, position, refl, sym, ap, ◌∙◌, append_assoc}
+use Rattle.std.proofs.Common.{subst, ◌≡◌, ℕ, ◌||◌, ◌&&◌, Bool, true, false, List, [], ◌∷◌, ◌++◌, Option, Some, None}
+use Rattle.std.proofs.Common.{is_some, Result, Ok, Err, position, refl, sym, ap, ◌∙◌, append_assoc}
 use Rattle.std.specs.List.{list_any, list_all}
 use Rattle.std.specs.Str.{bytes_eq}
 use Rattle.std.proofs.lemmas.List.Folds.{list_all-append}
@@ -12,7 +13,8 @@ use Rattle.gt_policy.specs.declared.statements.Mention.{Mention}
 use Rattle.gt_policy.specs.declared.statements.SetElement.{SetElement}
 use Rattle.gt_policy.specs.declared.statements.SetElement.TheVariants as item
 use Rattle.gt_policy.specs.declared.statements.Statement.{Statement}
-use Rattle.gt_policy.specs.declared.statements.Statement.TheVariants.{DeclareType, DeclareAttribute, GiveAttributes, Allow}
+use Rattle.gt_policy.specs.declared.statements.Statement.TheVariants.{DeclareType, DeclareAttribute, GiveAttributes}
+use Rattle.gt_policy.specs.declared.statements.Statement.TheVariants.{Allow}
 use Rattle.gt_policy.specs.declared.statements.Allowance.{Allowance}
 use Rattle.gt_policy.specs.declared.resolve.DraftElement.{DraftElement}
 use Rattle.gt_policy.specs.declared.resolve.DraftElement.TheVariants.{With, Without}
@@ -21,10 +23,13 @@ use Rattle.gt_policy.specs.Names.{symbol_at, symbol_of}
 use Rattle.gt_policy.specs.Grammar.{◌>>=◌, at}
 use Rattle.gt_policy.specs.Spelling.{types_in, attributes_in, declared_in, names_of, AreDistinct, AreClean}
 use Rattle.gt_policy.specs.Allowing.{Meaning}
-use Rattle.gt_policy.specs.Resolving.{known, any_symbol, type_in, type_symbol, attribute_in, attribute_symbol, element_of, elements_of, given_by, allowed_by, with_statement, resolved, granted, nothing_given}
+use Rattle.gt_policy.specs.Resolving.{known, any_symbol, type_in, type_symbol, attribute_in, attribute_symbol}
+use Rattle.gt_policy.specs.Resolving.{element_of, elements_of, given_by, allowed_by, with_statement, resolved, granted}
+use Rattle.gt_policy.specs.Resolving.{nothing_given}
 use Rattle.gt_policy.specs.Whole.{meaning_of}
 use Rattle.gt_policy.specs.Accepting.{meant_by}
-use Rattle.gt_policy.specs.Undeclared.{Role, InSet, OfType, OfAttribute, Use, all_used, set_uses, statement_uses, uses_of, is_type, is_attribute, is_met, AreDeclared, IsFirstUndeclared}
+use Rattle.gt_policy.specs.Undeclared.{Role, InSet, OfType, OfAttribute, Use, all_used, set_uses, statement_uses}
+use Rattle.gt_policy.specs.Undeclared.{uses_of, is_type, is_attribute, is_met, AreDeclared, IsFirstUndeclared}
 use Rattle.gt_policy.proofs.CleanLemmas.{declared_known, is_some_position}
 use Rattle.gt_policy.proofs.GrantingLemmas.{bytes_eq_swap}
 use Rattle.gt_policy.proofs.SpellingLemmas.{ok_of}

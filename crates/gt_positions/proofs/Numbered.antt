@@ -1,5 +1,6 @@
 -- The place of a number among the domains, and the domain there.
-use Rattle.std.proofs.Common.{◌≡◌, ◌<◌, ◌≤◌, ℕ, refl, Bool, List, [], ◌∷◌, length, map, Option, Some, None, cond, ltb, sym, ap, ◌∙◌, arith, get_or}
+use Rattle.std.proofs.Common.{◌≡◌, ◌<◌, ◌≤◌, ℕ, refl, Bool, List, [], ◌∷◌, length, map, Option, Some, None, cond, ltb}
+use Rattle.std.proofs.Common.{sym, ap, ◌∙◌, arith, get_or}
 use Rattle.std.proofs.lemmas.List.{length-map}
 use Rattle.std.proofs.lemmas.Bool.{cond_both, ltb-false}
 use Rattle.std.proofs.lemmas.List.Quantifiers.{position-Some}

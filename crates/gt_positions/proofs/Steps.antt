@@ -1,5 +1,6 @@
 -- A table that has the places of the last domains.
-use Rattle.std.proofs.Common.{◌≡◌, ℕ, ◌<◌, ◌≤◌, ◌+◌, replicate, List, [], ◌∷◌, length, get_or, set, drop, cond, refl, ap, ◌∙◌, sym, arith}
+use Rattle.std.proofs.Common.{◌≡◌, ℕ, ◌<◌, ◌≤◌, ◌+◌, replicate, List, [], ◌∷◌, length, get_or, set, drop, cond, refl}
+use Rattle.std.proofs.Common.{ap, ◌∙◌, sym, arith}
 use Rattle.std.specs.Prelude.{◌==◌}
 use Rattle.std.specs.List.{position_or_len}
 use Rattle.gt_types.specs.declared.DomId.{DomId}

@@ -1,5 +1,6 @@
 -- From the plan of a command line, or its refusal, to what the line comes to.
-use Rattle.std.proofs.Common.{◌≡◌, ◌∙◌, ℕ, Bool, List, Option, None, Some, Result, Err, IfSome, refl, sym, subst, inl, inr, arith}
+use Rattle.std.proofs.Common.{◌≡◌, ◌∙◌, ℕ, Bool, List, Option, None, Some, Result, Err, IfSome, refl, sym, subst, inl}
+use Rattle.std.proofs.Common.{inr, arith}
 use Rattle.std.specs.Io.KnownBytes.{Keeps}
 use Rattle.gt_streams.specs.Laws.{keeps_same, of_any_input}
 use Rattle.gt_streams.specs.Streams.{OfInput}
@@ -7,15 +8,21 @@ use Rattle.clap.specs.Kinds.{HasKind}
 use Rattle.clap.specs.Words.{kind_of}
 use Rattle.clap.specs.declared.error.Error.{Error}
 use Rattle.clap.specs.declared.error.kind.ErrorKind.{ErrorKind}
-use Rattle.clap.specs.declared.error.kind.ErrorKind.TheVariants.{ArgumentConflict, DisplayHelp, DisplayVersion, OutOfMemory, InvalidSubcommand, InvalidValue, MissingRequiredArgument, MissingSubcommand, TooManyValues, UnknownArgument}
+use Rattle.clap.specs.declared.error.kind.ErrorKind.TheVariants.{ArgumentConflict, DisplayHelp, DisplayVersion}
+use Rattle.clap.specs.declared.error.kind.ErrorKind.TheVariants.{OutOfMemory, InvalidSubcommand, InvalidValue}
+use Rattle.clap.specs.declared.error.kind.ErrorKind.TheVariants.{MissingRequiredArgument, MissingSubcommand}
+use Rattle.clap.specs.declared.error.kind.ErrorKind.TheVariants.{TooManyValues, UnknownArgument}
 use Rattle.gt_advice.specs.declared.asking.Question.{Question}
-use Rattle.gt_commands.specs.Commands.{Request, to_play, to_run, to_list, to_tell_rules, to_check, to_explain, to_tell_entries, for_help, for_version, nothing, asked_by_plan, refusals}
+use Rattle.gt_commands.specs.Commands.{Request, to_play, to_run, to_list, to_tell_rules, to_check, to_explain}
+use Rattle.gt_commands.specs.Commands.{to_tell_entries, for_help, for_version, nothing, asked_by_plan, refusals}
 use Rattle.gt_commands.specs.declared.invocation.Invocation.{Invocation}
 use Rattle.gt_dump.specs.declared.asked.Asked.{Asked}
 use Rattle.gt_script.specs.RunScripts.{RunTells}
 use Rattle.gt_run.specs.Runs.{Ran}
 use Rattle.gt_run.specs.declared.fault.RunFault.{RunFault}
-use Rattle.gt_program.specs.Obeying.{Answers, Checks, Does, Doing, Ending, Explains, FitsKind, IsAsked, IsQuestion, Lists, Obeys, Performs, Plays, RunsDomains, TellsDump, TellsEntries, Works, known_text, shown_name, status_of}
+use Rattle.gt_program.specs.Obeying.{Answers, Checks, Does, Doing, Ending, Explains, FitsKind, IsAsked, IsQuestion}
+use Rattle.gt_program.specs.Obeying.{Lists, Obeys, Performs, Plays, RunsDomains, TellsDump, TellsEntries, Works}
+use Rattle.gt_program.specs.Obeying.{known_text, shown_name, status_of}
 use Rattle.gt_program.specs.declared.obeying.Work.{Work}
 use Rattle.gt_program.specs.declared.failure.Failure.TheVariants as failures
 

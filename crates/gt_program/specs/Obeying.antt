@@ -1,31 +1,13 @@
 -- What a command line comes to: what is written, and the exit status.
-use Rattle.std.specs.Prelude.{◌≡◌, ◌⊎◌, ℕ, ◌≤◌, ◌++◌, Bool, true, false, List, Option, Some, None, Result, Ok, Err, IfSome, codes}
-use Rattle.std.specs.Io.KnownBytes.{Keeps}
-use Rattle.std.specs.Option.{option_map}
-use Rattle.clap.specs.declared.error.kind.ErrorKind.{ErrorKind}
-use Rattle.clap.specs.declared.error.kind.ErrorKind.TheVariants.{DisplayHelp, DisplayVersion, OutOfMemory}
-use Rattle.gt_advice.specs.Why.{source_asked, target_asked}
-use Rattle.gt_advice.specs.declared.asking.Question.{Question}
-use Rattle.gt_advising.specs.Checking.{Checked}
-use Rattle.gt_advising.specs.Explaining.{Explained}
-use Rattle.gt_advising.specs.Faults.{why_fault_text}
-use Rattle.gt_commands.specs.Commands.{Request, to_play, to_run, to_list, to_tell_rules, to_check, to_explain}
-use Rattle.gt_commands.specs.Commands.{to_tell_entries, for_help, for_version, nothing}
-use Rattle.gt_dump.specs.Dumps.{Told}
-use Rattle.gt_dump.specs.Faults.{dump_fault_text}
-use Rattle.gt_dump.specs.declared.asked.Asked.{Asked}
-use Rattle.gt_script.specs.RunScripts.{RunTells}
-use Rattle.gt_script.specs.Script.{Tells}
-use Rattle.gt_streams.specs.Texts.{read_word}
-use Rattle.gt_host.specs.Faults.{play_fault_text}
-use Rattle.gt_host.specs.Playing.{Played}
-use Rattle.gt_run.specs.Faults.{run_fault_text}
-use Rattle.gt_run.specs.Runs.{Ran}
-use Rattle.gt_listing.specs.Faults.{listing_fault_text}
-use Rattle.gt_listing.specs.Writing.{Listed}
-use Rattle.gt_program.specs.declared.failure.Failure.{Failure}
+use Rattle.std.specs.Prelude.{◌≡◌, ◌⊎◌, ℕ, ◌≤◌, ◌++◌, Bool, true, false, List, Option, Some, None, Result, Ok, Err}
+use Rattle.std.specs.Prelude.{IfSome, codes}
+use Rattle.gt_program.specs.Prelude.{Keeps, option_map, ErrorKind, DisplayHelp, DisplayVersion, OutOfMemory}
+use Rattle.gt_program.specs.Prelude.{source_asked, target_asked, Question, Checked, Explained, why_fault_text, Request}
+use Rattle.gt_program.specs.Prelude.{to_play, to_run, to_list, to_tell_rules, to_check, to_explain, to_tell_entries}
+use Rattle.gt_program.specs.Prelude.{for_help, for_version, nothing, Told, dump_fault_text, Asked, RunTells, Tells}
+use Rattle.gt_program.specs.Prelude.{read_word, play_fault_text, Played, run_fault_text, Ran, listing_fault_text}
+use Rattle.gt_program.specs.Prelude.{Listed, Failure, Work}
 use Rattle.gt_program.specs.declared.failure.Failure.TheVariants as failures
-use Rattle.gt_program.specs.declared.obeying.Work.{Work}
 use Rattle.gt_program.specs.declared.obeying.Work.TheVariants as works
 
 -- the line for a failure (own)

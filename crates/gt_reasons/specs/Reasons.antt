@@ -1,6 +1,7 @@
 -- Reasons as lines.
 use Rattle.std.specs.Prelude.{◌≡◌, ℕ, ◌-◌, List, ◌++◌, codes, decimal}
-use Rattle.gt_types.specs.declared.limits.TheConstants.{DOMID_SELF, LAST_VERSION, MAX_DOMAINS, MAX_FRAMES, MAX_TABLE_FRAMES}
+use Rattle.gt_types.specs.declared.limits.TheConstants.{DOMID_SELF, LAST_VERSION, MAX_DOMAINS, MAX_FRAMES}
+use Rattle.gt_types.specs.declared.limits.TheConstants.{MAX_TABLE_FRAMES}
 use Rattle.gt_types.specs.declared.config.ConfigFault.{ConfigFault}
 use Rattle.gt_types.specs.declared.config.ConfigFault.TheVariants as faults
 

@@ -1,5 +1,7 @@
 -- A run that has come some way, and one happening more.
-use Rattle.std.proofs.Common.{◌≡◌, ◌≢◌, ◌<◌, ◌⊎◌, ℕ, zero, suc, Bool, true, false, cond, List, [], ◌∷◌, ◌++◌, length, map, Option, Some, None, refl, ap, sym, ◌∙◌, subst, inl, inr, arith, append_assoc, length-append, get_or}
+use Rattle.std.proofs.Common.{◌≡◌, ◌≢◌, ◌<◌, ◌⊎◌, ℕ, zero, suc, Bool, true, false, cond, List, [], ◌∷◌, ◌++◌, length}
+use Rattle.std.proofs.Common.{map, Option, Some, None, refl, ap, sym, ◌∙◌, subst, inl, inr, arith, append_assoc}
+use Rattle.std.proofs.Common.{length-append, get_or}
 use Rattle.std.proofs.Math.ListN.{set}
 use Rattle.std.proofs.lemmas.Bool.{eq-eqb, ne_eqb}
 use Rattle.std.proofs.lemmas.List.{append-nil}
@@ -15,7 +17,8 @@ use Rattle.gt_types.specs.declared.DomId.{DomId}
 use Rattle.gt_types.specs.declared.config.DomainConfig.{DomainConfig}
 use Rattle.gt_core.specs.History.{History, Setting}
 use Rattle.gt_core.specs.Legal.{Legal, LegalAfter, MayDo, grown, history_after}
-use Rattle.gt_core.specs.Standing.{CoreStands, setting_in, setting_of}
+use Rattle.gt_core.specs.Standing.{CoreStands, setting_in}
+use Rattle.gt_core.specs.Acting.{setting_of}
 use Rattle.gt_core.specs.declared.trace.Element.{Element}
 use Rattle.gt_core.specs.declared.trace.Event.{Event}
 use Rattle.gt_script.specs.Contents.{type_names}
@@ -23,7 +26,8 @@ use Rattle.gt_script.specs.RunContents.{RunContents}
 use Rattle.gt_script.specs.RunScripts.{list_of}
 use Rattle.gt_host.specs.Playing.{setting_of_script}
 use Rattle.gt_host.specs.Rights.{may_by}
-use Rattle.gt_replay.specs.Orders.{Happening, did, raised, passed, doer, own, events_in, trace_in, IsRaisedBefore, FlagsAreRaised, Follows}
+use Rattle.gt_replay.specs.Orders.{Happening, did, raised, passed, doer, own, events_in, trace_in, IsRaisedBefore}
+use Rattle.gt_replay.specs.Orders.{FlagsAreRaised, Follows}
 use Rattle.gt_replay.specs.Walking.{Makes, Moves, HasFollowed, HasCome, ComesOn}
 use Rattle.gt_replay.specs.declared.replay.Replay.{Replay}
 use Rattle.gt_replay.specs.declared.walker.Walker.{Walker}

@@ -9,7 +9,8 @@ use Rattle.gt_calls.specs.declared.action.Seen.{Seen}
 use Rattle.gt_calls.specs.declared.action.Step.{Step}
 use Rattle.gt_core.specs.History.{History, Setting}
 use Rattle.gt_core.specs.Legal.{MayDo, grown}
-use Rattle.gt_core.specs.Standing.{CoreStands, begun_element, ticked_element}
+use Rattle.gt_core.specs.Standing.{CoreStands}
+use Rattle.gt_core.specs.Acting.{begun_element, ticked_element}
 use Rattle.gt_core.specs.States.{CoreState}
 use Rattle.gt_core.specs.declared.core_state.Begun.{Begun}
 use Rattle.gt_core.specs.declared.core_state.Begun.TheVariants as begun

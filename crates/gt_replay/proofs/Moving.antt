@@ -1,5 +1,6 @@
 -- A move of a domain on its list.
-use Rattle.std.proofs.Common.{◌≡◌, ◌≢◌, ◌≤◌, ℕ, ◌+◌, List, [], ◌∷◌, ◌++◌, length, drop, map, Option, Some, None, refl, ap, sym, ◌∙◌, subst, append_assoc, Bor}
+use Rattle.std.proofs.Common.{◌≡◌, ◌≢◌, ◌≤◌, ℕ, ◌+◌, List, [], ◌∷◌, ◌++◌, length, drop, map, Option, Some, None, refl}
+use Rattle.std.proofs.Common.{ap, sym, ◌∙◌, subst, append_assoc, Bor}
 use Rattle.std.specs.Prelude.{slice_get}
 use Rattle.gt_types.specs.declared.DomId.{DomId}
 use Rattle.gt_handles.specs.declared.handles.Handle.{Handle}
@@ -16,7 +17,8 @@ use Rattle.gt_script.specs.declared.tasks.Task.{Task}
 use Rattle.gt_host.specs.Naming.{AreNamed}
 use Rattle.gt_host.specs.Printing.{answer_line}
 use Rattle.gt_host.specs.Runs.{Named, Asks, EndsWith, answer_in, handle_given, label_given, with_name}
-use Rattle.gt_replay.specs.Orders.{Happening, did, raised, passed, GoesOn, Calls, DoesDeed, Follows, GivesBack, given_up, held_after}
+use Rattle.gt_replay.specs.Orders.{Happening, did, raised, passed, GoesOn, Calls, DoesDeed, Follows, GivesBack}
+use Rattle.gt_replay.specs.Orders.{given_up, held_after}
 use Rattle.gt_replay.specs.Walking.{tasks_of, tasks_left, Continues, Moves, Answers, IsClosedFrom, IsClosed}
 use Rattle.gt_replay.specs.declared.walker.Doing.{Doing}
 use Rattle.gt_replay.specs.declared.walker.Doing.TheVariants as doing

@@ -1,5 +1,6 @@
 -- How a run starts.
-use Rattle.std.proofs.Common.{◌≡◌, ◌<◌, ◌≤◌, ℕ, ◌+◌, zero, suc, Bool, true, false, List, [], ◌∷◌, ◌++◌, length, map, ap, sym, ◌∙◌, inl, inr, arith, subst, get_or, drop, take, Bor}
+use Rattle.std.proofs.Common.{◌≡◌, ◌<◌, ◌≤◌, ℕ, ◌+◌, zero, suc, Bool, true, false, List, [], ◌∷◌, ◌++◌, length, map, ap}
+use Rattle.std.proofs.Common.{sym, ◌∙◌, inl, inr, arith, subst, get_or, drop, take, Bor}
 use Rattle.std.specs.Prelude.{All}
 use Rattle.std.proofs.lemmas.Option.{none-some, get_or_from_slice_get, slice_get_within}
 use Rattle.gt_types.specs.Config.{AreFaultless, IsFirstFault, IsWithinLimits}
@@ -15,7 +16,8 @@ use Rattle.gt_types.specs.declared.config.Config.{Config}
 use Rattle.gt_types.specs.declared.config.ConfigFault.{ConfigFault}
 use Rattle.gt_types.specs.declared.limits.TheConstants.{LAST_GENERATION}
 use Rattle.gt_core.specs.History.{Setting}
-use Rattle.gt_core.specs.Standing.{CoreModel, CoreStands, setting_in, setting_of}
+use Rattle.gt_core.specs.Standing.{CoreModel, CoreStands, setting_in}
+use Rattle.gt_core.specs.Acting.{setting_of}
 use Rattle.gt_script.specs.Contents.{Contents, first_gen, type_names}
 use Rattle.gt_script.specs.RunContents.{RunContents}
 use Rattle.gt_script.specs.RunScripts.{list_of}

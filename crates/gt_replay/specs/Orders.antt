@@ -1,27 +1,10 @@
 -- What a script for `run` may answer.
-use Rattle.std.specs.Prelude.{◌≡◌, ◌≢◌, ◌<◌, ◌++◌, ◌==◌, not, ℕ, List, [], ◌∷◌, map, filter, All}
-use Rattle.std.specs.Prelude.{Option, Some, None, slice_get}
-use Rattle.gt_types.specs.Names.{domain_of}
-use Rattle.gt_types.specs.declared.DomId.{DomId}
-use Rattle.gt_types.specs.declared.config.DomainConfig.{DomainConfig}
-use Rattle.gt_handles.specs.declared.handles.Handle.{Handle}
-use Rattle.gt_calls.specs.declared.request.Request.{Request}
-use Rattle.gt_calls.specs.declared.request.Request.TheVariants.{Unmap}
-use Rattle.gt_core.specs.Legal.{Legal, actor_of}
-use Rattle.gt_core.specs.declared.trace.Answer.{Answer}
-use Rattle.gt_core.specs.declared.trace.Answer.TheVariants.{Done, Mapped}
-use Rattle.gt_core.specs.declared.trace.Element.{Element}
-use Rattle.gt_core.specs.declared.trace.Event.{Event}
-use Rattle.gt_core.specs.declared.trace.Event.TheVariants.{Begin, Tick}
-use Rattle.gt_script.specs.Contents.{type_names}
-use Rattle.gt_script.specs.RunContents.{RunContents}
-use Rattle.gt_script.specs.RunScripts.{list_of}
-use Rattle.gt_script.specs.declared.tasks.Deed.{Deed}
-use Rattle.gt_script.specs.declared.tasks.Deed.TheVariants.{Do, Tell, Await}
-use Rattle.gt_script.specs.declared.tasks.Task.{Task}
-use Rattle.gt_host.specs.Playing.{setting_of_script}
-use Rattle.gt_host.specs.Printing.{answer_line}
-use Rattle.gt_host.specs.Runs.{Named, Asks, EndsWith, handle_given, label_given, with_name}
+use Rattle.std.specs.Prelude.{◌≡◌, ◌≢◌, ◌<◌, ◌++◌, ◌==◌, not, ℕ, List, [], ◌∷◌, map, filter, All, Option, Some, None}
+use Rattle.std.specs.Prelude.{slice_get}
+use Rattle.gt_replay.specs.Prelude.{domain_of, DomId, DomainConfig, Handle, Request, Unmap, Legal, actor_of, Answer}
+use Rattle.gt_replay.specs.Prelude.{Done, Mapped, Element, Event, Begin, Tick, type_names, RunContents, list_of, Deed}
+use Rattle.gt_replay.specs.Prelude.{Do, Tell, Await, Task, setting_of_script, answer_line, Named, Asks, EndsWith}
+use Rattle.gt_replay.specs.Prelude.{handle_given, label_given, with_name}
 
 -- orders
 

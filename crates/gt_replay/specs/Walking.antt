@@ -1,33 +1,14 @@
 -- How far a domain has come on its list, and what a move of it leads to.
 use Rattle.std.specs.Prelude.{◌≡◌, ◌≢◌, ◌++◌, ◌≤◌, ℕ, true, false, List, [], ◌∷◌, length, drop, map, All, AllPairs}
 use Rattle.std.specs.Prelude.{Option, Some, None, slice_get, get_or}
-use Rattle.gt_types.specs.Names.{domain_of}
-use Rattle.gt_types.specs.declared.config.DomainConfig.{DomainConfig}
-use Rattle.gt_handles.specs.declared.handles.Handle.{Handle}
-use Rattle.gt_core.specs.History.{History, Setting}
-use Rattle.gt_core.specs.Legal.{Legal, MayDo, grown, history_after}
-use Rattle.gt_core.specs.Standing.{CoreStands, setting_in}
-use Rattle.gt_core.specs.States.{CoreState}
-use Rattle.gt_core.specs.declared.trace.Answer.{Answer}
+use Rattle.gt_replay.specs.Prelude.{domain_of, DomainConfig, Handle, History, Setting, Legal, MayDo, grown}
+use Rattle.gt_replay.specs.Prelude.{history_after, CoreStands, setting_in, CoreState, Answer, Element, Event}
+use Rattle.gt_replay.specs.Prelude.{ScriptCall, type_names, RunContents, list_of, Task, AreNamed, setting_of_script}
+use Rattle.gt_replay.specs.Prelude.{answer_line, may_by, Named, handle_given, label_given, with_name, Replay, Doing}
+use Rattle.gt_replay.specs.Prelude.{Nothing, Line, GivesBack, Walker}
 use Rattle.gt_core.specs.declared.trace.Answer.TheVariants as answers
-use Rattle.gt_core.specs.declared.trace.Element.{Element}
-use Rattle.gt_core.specs.declared.trace.Event.{Event}
-use Rattle.gt_lines.specs.declared.calls.ScriptCall.{ScriptCall}
-use Rattle.gt_script.specs.Contents.{type_names}
-use Rattle.gt_script.specs.RunContents.{RunContents}
-use Rattle.gt_script.specs.RunScripts.{list_of}
-use Rattle.gt_script.specs.declared.tasks.Task.{Task}
-use Rattle.gt_host.specs.Naming.{AreNamed}
-use Rattle.gt_host.specs.Playing.{setting_of_script}
-use Rattle.gt_host.specs.Printing.{answer_line}
-use Rattle.gt_host.specs.Rights.{may_by}
-use Rattle.gt_host.specs.Runs.{Named, handle_given, label_given, with_name}
-use Rattle.gt_replay.specs.Orders.{Happening, did, doer, own, events_in, trace_in, IsRaisedBefore}
-use Rattle.gt_replay.specs.Orders.{FlagsAreRaised, GoesOn, Prints, Follows, held_after}
-use Rattle.gt_replay.specs.declared.replay.Replay.{Replay}
-use Rattle.gt_replay.specs.declared.walker.Doing.{Doing}
-use Rattle.gt_replay.specs.declared.walker.Doing.TheVariants.{Nothing, Line, GivesBack}
-use Rattle.gt_replay.specs.declared.walker.Walker.{Walker}
+use Rattle.gt_replay.specs.Orders.{Happening, did, doer, own, events_in, trace_in, IsRaisedBefore, FlagsAreRaised}
+use Rattle.gt_replay.specs.Orders.{GoesOn, Prints, Follows, held_after}
 
 -- a domain's list
 abbrev pub tasks_of : Walker → List Task

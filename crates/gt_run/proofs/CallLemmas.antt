@@ -1,5 +1,6 @@
 -- What the call of a line comes to.
-use Rattle.std.proofs.Common.{◌≡◌, ◌⊎◌, ◌++◌, ℕ, ◌+◌, ◌-◌, ◌^◌, ◌≤◌, Bool, true, false, List, [], ◌∷◌, length, map, min, Option, None, Some, Result, Ok, Err, IfOk, refl, sym, subst, ap, ◌∙◌, inl, inr, arith}
+use Rattle.std.proofs.Common.{◌≡◌, ◌⊎◌, ◌++◌, ℕ, ◌+◌, ◌-◌, ◌^◌, ◌≤◌, Bool, true, false, List, [], ◌∷◌, length, map, min}
+use Rattle.std.proofs.Common.{Option, None, Some, Result, Ok, Err, IfOk, refl, sym, subst, ap, ◌∙◌, inl, inr, arith}
 use Rattle.std.specs.Prelude.{is_some, slice_get}
 use Rattle.std.specs.List.{flat_map, sum_by}
 use Rattle.std.proofs.lemmas.Grind.{flat_map-append}
@@ -21,7 +22,8 @@ use Rattle.gt_live.specs.declared.domain.Domain.{Domain}
 use Rattle.gt_live.specs.declared.monitor.Monitor.{Monitor}
 use Rattle.gt_types.specs.declared.DomId.{DomId}
 use Rattle.gt_run.specs.Asking.{AnswersCall, Asks}
-use Rattle.gt_run.specs.Serving.{Calls, IsKept, IsTold, Makes, MakesCall, Outcome, Progress, Records, answer_lines, counted, is_logged, lost_in, record_made, records_told}
+use Rattle.gt_run.specs.Serving.{Calls, IsKept, IsTold, Makes, MakesCall, Outcome, Progress, Records, answer_lines}
+use Rattle.gt_run.specs.Serving.{counted, is_logged, lost_in, record_made, records_told}
 use Rattle.gt_run.specs.Telling.{TellsNext, TellsWhere}
 use Rattle.gt_run.specs.declared.lists.Duty.{Duty}
 use Rattle.gt_run.specs.declared.telling.Teller.{Teller}

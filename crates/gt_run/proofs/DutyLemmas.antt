@@ -1,5 +1,7 @@
 -- What the threads of a run come to, one after the other.
-use Rattle.std.proofs.Common.{◌≡◌, ◌⊎◌, ◌++◌, ◌+◌, ◌-◌, ◌^◌, ℕ, ◌<◌, Bool, true, false, List, [], ◌∷◌, get_or, drop, length, map, min, suc, take, Option, None, Some, Result, Ok, Err, OnOk, IfOk, IfErr, IsTrue, refl, sym, subst, ap, ◌∙◌, append_assoc, add-one, drop-cons, inl, inr, arith, All}
+use Rattle.std.proofs.Common.{◌≡◌, ◌⊎◌, ◌++◌, ◌+◌, ◌-◌, ◌^◌, ℕ, ◌<◌, Bool, true, false, List, [], ◌∷◌, get_or, drop}
+use Rattle.std.proofs.Common.{length, map, min, suc, take, Option, None, Some, Result, Ok, Err, OnOk, IfOk, IfErr}
+use Rattle.std.proofs.Common.{IsTrue, refl, sym, subst, ap, ◌∙◌, append_assoc, add-one, drop-cons, inl, inr, arith, All}
 use Rattle.std.proofs.lemmas.Bool.{false≢true}
 use Rattle.std.specs.Prelude.{IsOk, is_err, is_ok, is_some, if◌then◌else◌}
 use Rattle.std.specs.declared.thread.PromisedHandle.{PromisedHandle}
@@ -27,9 +29,11 @@ use Rattle.gt_host.specs.declared.fault.PlayFault.TheVariants as plays
 use Rattle.gt_run.specs.Asking.{Stand}
 use Rattle.gt_run.specs.Faults.{out_of_memory}
 use Rattle.gt_run.specs.Joining.{IsLate, Joins, WritesNext, WroteStarted}
-use Rattle.gt_run.specs.Printing.{AreDuties, AreServed, BeginsLists, BeginsWhole, CameBy, GoesOn, Served, WritesLists, all_lost, audits_in, duties_in, promised, texts_in}
+use Rattle.gt_run.specs.Printing.{AreDuties, AreServed, BeginsLists, BeginsWhole, CameBy, GoesOn, Served, WritesLists}
+use Rattle.gt_run.specs.Printing.{all_lost, audits_in, duties_in, promised, texts_in}
 use Rattle.gt_run.specs.Runs.{Wrote, WroteLists}
-use Rattle.gt_run.specs.Serving.{AreReady, IsBegun, IsFirst, IsReady, IsServed, Outcome, Serves, ServesAll, ServesSome, at_start, audit_lines, counted, lost_in}
+use Rattle.gt_run.specs.Serving.{AreReady, IsBegun, IsFirst, IsReady, IsServed, Outcome, Serves, ServesAll, ServesSome}
+use Rattle.gt_run.specs.Serving.{at_start, audit_lines, counted, lost_in}
 use Rattle.gt_run.specs.declared.fault.RunFault.{RunFault}
 use Rattle.gt_run.specs.declared.fault.RunFault.TheVariants.{Play, Thread}
 use Rattle.gt_run.specs.declared.lists.Duty.{Duty}

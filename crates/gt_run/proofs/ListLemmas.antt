@@ -1,5 +1,7 @@
 -- What the lines of a list come to, one after the other.
-use Rattle.std.proofs.Common.{◌≡◌, ◌⊎◌, ◌++◌, ◌==◌, ℕ, ◌+◌, ◌<◌, Bool, true, false, List, [], ◌∷◌, take, length, map, get_or, Option, None, Some, Result, Ok, Err, IfOk, IsTrue, refl, sym, subst, ap, ◌∙◌, add-one, inl, inr}
+use Rattle.std.proofs.Common.{◌≡◌, ◌⊎◌, ◌++◌, ◌==◌, ℕ, ◌+◌, ◌<◌, Bool, true, false, List, [], ◌∷◌, take, length, map}
+use Rattle.std.proofs.Common.{get_or, Option, None, Some, Result, Ok, Err, IfOk, IsTrue, refl, sym, subst, ap, ◌∙◌}
+use Rattle.std.proofs.Common.{add-one, inl, inr}
 use Rattle.std.specs.Prelude.{IsOk, is_some}
 use Rattle.std.specs.Option.{option_map}
 use Rattle.gt_host.specs.Naming.{AreNamed}
@@ -15,7 +17,8 @@ use Rattle.gt_live.specs.declared.domain.Domain.{Domain}
 use Rattle.gt_script.specs.declared.tasks.Deed.{Deed}
 use Rattle.gt_script.specs.declared.tasks.Deed.TheVariants.{Do, Tell, Await}
 use Rattle.gt_script.specs.declared.tasks.Task.{Task}
-use Rattle.gt_run.specs.Serving.{Calls, DoesDeed, DoesWhere, HasCome, IsAwait, IsKept, IsReady, IsTold, LeadsTo, Progress, Serves, ServesSome, StartsTold, answer_lines, at_start, counted, gate_line}
+use Rattle.gt_run.specs.Serving.{Calls, DoesDeed, DoesWhere, HasCome, IsAwait, IsKept, IsReady, IsTold, LeadsTo}
+use Rattle.gt_run.specs.Serving.{Progress, Serves, ServesSome, StartsTold, answer_lines, at_start, counted, gate_line}
 use Rattle.gt_run.specs.Asking.{Stand}
 use Rattle.gt_run.specs.declared.lists.Duty.{Duty}
 use Rattle.gt_run.specs.declared.telling.Teller.{Teller}

@@ -1,30 +1,13 @@
 -- What a domain that runs is asked, and how it is answered.
 use Rattle.std.specs.Prelude.{◌≡◌, ℕ, List, Result, Ok, Err, OnOk, OnErr}
-use Rattle.gt_types.specs.declared.Size.{Size}
-use Rattle.gt_types.specs.declared.denial.Denial.{Denial}
-use Rattle.gt_frames.specs.Receipts.{Copying, Reading, Writing}
-use Rattle.gt_handles.specs.declared.handles.Handle.{Handle}
-use Rattle.gt_audit.specs.Telling.{Tells}
-use Rattle.gt_audit.specs.declared.record.Hypercall.{Hypercall}
+use Rattle.gt_run.specs.Prelude.{Size, Denial, Copying, Reading, Writing, Handle, Tells, Hypercall, Step, Verdict, Held}
+use Rattle.gt_run.specs.Prelude.{Request, Answer, Domain, Monitor, IsCopiedBy, IsReadBy, IsWrittenBy, IsSameSeat}
+use Rattle.gt_run.specs.Prelude.{Accesses, Answered, IsOf, KeepsPinned, MapAnswered, AllowRelation, mapping_reply}
+use Rattle.gt_run.specs.Prelude.{subject_of, told_copy, told_of, verdict_of, verdict_of_frames, verdict_of_size}
+use Rattle.gt_run.specs.Prelude.{verdict_of_version, Removes, HasVisited, WasCopied, WasRead, WasWritten, Visit}
 use Rattle.gt_audit.specs.declared.record.Hypercall.TheVariants as hypercalls
-use Rattle.gt_calls.specs.declared.action.Step.{Step}
-use Rattle.gt_calls.specs.declared.action.Verdict.{Verdict}
-use Rattle.gt_calls.specs.declared.held.Held.{Held}
-use Rattle.gt_calls.specs.declared.request.Request.{Request}
 use Rattle.gt_calls.specs.declared.request.Request.TheVariants as requests
-use Rattle.gt_core.specs.declared.trace.Answer.{Answer}
 use Rattle.gt_core.specs.declared.trace.Answer.TheVariants as answers
-use Rattle.gt_live.specs.declared.domain.Domain.{Domain}
-use Rattle.gt_live.specs.declared.monitor.Monitor.{Monitor}
-use Rattle.gt_live.specs.Accesses.{IsCopiedBy, IsReadBy, IsWrittenBy}
-use Rattle.gt_words.specs.Conditions.{IsSameSeat}
-use Rattle.gt_live.specs.Domains.{Accesses, Answered, IsOf, KeepsPinned, MapAnswered, AllowRelation, mapping_reply}
-use Rattle.gt_live.specs.Domains.{subject_of}
-use Rattle.gt_live.specs.Domains.{told_copy, told_of, verdict_of, verdict_of_frames, verdict_of_size}
-use Rattle.gt_live.specs.Domains.{verdict_of_version}
-use Rattle.gt_live.specs.Mappings.{Removes}
-use Rattle.gt_live.specs.Visiting.{HasVisited, WasCopied, WasRead, WasWritten}
-use Rattle.gt_frames.specs.Visits.{Visit}
 
 -- a domain beside the monitor of its run
 pub record Stand (P : Type 0) : Type 0 where

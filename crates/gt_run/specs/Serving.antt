@@ -1,32 +1,11 @@
 -- What a domain's list does: a call for each of its lines, one after the other.
 use Rattle.std.specs.Prelude.{◌≡◌, ◌⊎◌, ◌++◌, ◌+◌, ◌==◌, ◌^◌, ◌-◌, ℕ, Bool, true, false, List, [], ◌∷◌, length, map}
 use Rattle.std.specs.Prelude.{min, take, codes, Option, None, Some, is_some, slice_get}
-use Rattle.std.specs.List.{AllZip, flat_map, sum_by}
-use Rattle.gt_types.specs.declared.DomId.{DomId}
-use Rattle.gt_texts.specs.Printing.{type_text}
-use Rattle.gt_audit.specs.Lines.{line_text}
-use Rattle.gt_audit.specs.Telling.{Telling, Tells}
-use Rattle.gt_audit.specs.declared.record.Record.{Record}
-use Rattle.gt_calls.specs.Asking.{asked}
-use Rattle.gt_calls.specs.declared.request.Request.{Request}
-use Rattle.gt_core.specs.declared.trace.Answer.{Answer}
-use Rattle.gt_host.specs.Auditing.{call_told, record_told}
-use Rattle.gt_host.specs.Naming.{AreNamed}
-use Rattle.gt_host.specs.Printing.{answer_line, call_text}
-use Rattle.gt_host.specs.Runs.{Named, handle_given, label_given, with_name}
-use Rattle.gt_host.specs.Runs.{Asks as SaysRequest}
-use Rattle.gt_host.specs.declared.labels.Labels.{Labels}
-use Rattle.gt_lines.specs.declared.calls.ScriptCall.{ScriptCall}
-use Rattle.gt_live.specs.Domains.{AllowRelation, subject_of}
-use Rattle.gt_live.specs.Starting.{IsNewDomain}
-use Rattle.gt_live.specs.declared.domain.Domain.{Domain}
-use Rattle.gt_live.specs.declared.monitor.Monitor.{Monitor}
-use Rattle.gt_script.specs.declared.tasks.Deed.{Deed}
-use Rattle.gt_script.specs.declared.tasks.Deed.TheVariants.{Do, Tell, Await}
-use Rattle.gt_script.specs.declared.tasks.Task.{Task}
-use Rattle.gt_run.specs.declared.lists.Duty.{Duty}
-use Rattle.gt_run.specs.declared.lists.Part.{Part}
-use Rattle.gt_run.specs.declared.telling.Teller.{Teller}
+use Rattle.gt_run.specs.Prelude.{AllZip, flat_map, sum_by, DomId, type_text, line_text, Telling, Tells, Record, asked}
+use Rattle.gt_run.specs.Prelude.{Request, Answer, call_told, record_told, AreNamed, answer_line, call_text, Named}
+use Rattle.gt_run.specs.Prelude.{handle_given, label_given, with_name, SaysRequest, Labels, ScriptCall, AllowRelation}
+use Rattle.gt_run.specs.Prelude.{subject_of, IsNewDomain, Domain, Monitor, Deed, Do, Tell, Await, Task, Duty, Part}
+use Rattle.gt_run.specs.Prelude.{Teller}
 use Rattle.gt_run.specs.Asking.{Asks, Stand}
 use Rattle.gt_run.specs.Telling.{TellsWhere}
 

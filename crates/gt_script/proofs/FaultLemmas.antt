@@ -1,5 +1,8 @@
 -- Where the first fault of a script stands, and what a script without fault is.
-use Rattle.std.proofs.Common.{◌≡◌, ◌⊎◌, IsSome, IsTrue, All, inl, inr, ℕ, suc, ◌+◌, ◌-◌, ◌<◌, ◌≤◌, ◌&&◌, Bool, true, false, List, [], ◌∷◌, ◌++◌, length, take, drop, Option, None, Some, Result, Ok, Err, refl, sym, ap, ◌∙◌, subst, arith, cond, length-take, length-drop, get_or, add-one, Bor, IfOk, IfErr}
+use Rattle.std.proofs.Common.{◌≡◌, ◌⊎◌, IsSome, IsTrue, All, inl, inr, ℕ, suc, ◌+◌, ◌-◌, ◌<◌, ◌≤◌, ◌&&◌, Bool, true}
+use Rattle.std.proofs.Common.{false, List, [], ◌∷◌, ◌++◌, length, take, drop, Option, None, Some, Result, Ok, Err, refl}
+use Rattle.std.proofs.Common.{sym, ap, ◌∙◌, subst, arith, cond, length-take, length-drop, get_or, add-one, Bor, IfOk}
+use Rattle.std.proofs.Common.{IfErr}
 use Rattle.std.specs.List.{slice_get, filter_map}
 use Rattle.std.specs.Option.{is_none}
 use Rattle.std.specs.Str.{IsUtf8}
@@ -19,8 +22,12 @@ use Rattle.gt_lines.specs.Words.{words}
 use Rattle.gt_script.specs.Faults.{error_in_block}
 use Rattle.gt_script.specs.Blocks.{opening, closing, block_text, Means, IsFaulty, IsPolicyOf}
 use Rattle.gt_script.specs.Contents.{told, Contents, empty, with_policy, names_with}
-use Rattle.gt_script.specs.Script.{is_empty, has_no_rights, with_words, with_lines, completed, completed_if_ok, whole, in_result, in_script, in_policy, ClosedSays, BlockSays, LinesSay, TextSays, TellsFor, Wrong}
-use Rattle.gt_script.specs.Laws.{said, domain_in, step_on, order_on, is_for, SayParts, IsTripleScript, IsPolicyScript, IsScriptFor, HasBlock, lines_before, IsOpen, IsFaultOfLine, IsFaultOfEnd, IsFirstFault, IsFaultBehind, IsFaultOfLines, IsUnread, IsFaultOf, IsFaultOfBlock, StandsFor}
+use Rattle.gt_script.specs.Script.{is_empty, has_no_rights, with_words, with_lines, completed, completed_if_ok, whole}
+use Rattle.gt_script.specs.Script.{in_result, in_script, in_policy, ClosedSays, BlockSays, LinesSay, TextSays, TellsFor}
+use Rattle.gt_script.specs.Script.{Wrong}
+use Rattle.gt_script.specs.Laws.{said, domain_in, step_on, order_on, is_for, SayParts, IsTripleScript, IsPolicyScript}
+use Rattle.gt_script.specs.Laws.{IsScriptFor, HasBlock, lines_before, IsOpen, IsFaultOfLine, IsFaultOfEnd, IsFirstFault}
+use Rattle.gt_script.specs.Laws.{IsFaultBehind, IsFaultOfLines, IsUnread, IsFaultOf, IsFaultOfBlock, StandsFor}
 use Rattle.gt_script.specs.Outcomes.{Answers, Says}
 use Rattle.gt_script.specs.declared.command.Command.{Command}
 use Rattle.gt_script.specs.declared.script.Script.{Script}

@@ -1,5 +1,7 @@
 -- Flags numbered as they first appear.
-use Rattle.std.proofs.Common.{◌≡◌, ℕ, ◌+◌, ◌<◌, ◌≤◌, ◌||◌, not, Bool, true, false, List, [], ◌∷◌, ◌++◌, length, take, Option, Some, None, refl, sym, ap, ◌∙◌, subst, arith, All, cond, ltb, get_or, add-one, Bor}
+use Rattle.std.proofs.Common.{◌≡◌, ℕ, ◌+◌, ◌<◌, ◌≤◌, ◌||◌, not, Bool, true, false, List, [], ◌∷◌, ◌++◌, length, take}
+use Rattle.std.proofs.Common.{Option, Some, None, refl, sym, ap, ◌∙◌, subst, arith, All, cond, ltb, get_or, add-one}
+use Rattle.std.proofs.Common.{Bor}
 use Rattle.std.specs.Option.{option_to_list, unwrap_or}
 use Rattle.std.specs.List.{filter_map, fold, list_any, position, position_or_len, cons_option}
 use Rattle.std.specs.Str.{bytes_eq}

@@ -1,5 +1,7 @@
 -- What a script's parts are, line by line.
-use Rattle.std.proofs.Common.{◌≡◌, ◌⊎◌, inl, inr, ℕ, ◌+◌, ◌^◌, Bool, true, false, not, ◌||◌, List, [], ◌∷◌, ◌++◌, length, take, Option, Some, None, Result, Ok, Err, IsSome, IsTrue, All, refl, sym, ap, ◌∙◌, subst, arith, cond, append_assoc, get_or, ◌==◌}
+use Rattle.std.proofs.Common.{◌≡◌, ◌⊎◌, inl, inr, ℕ, ◌+◌, ◌^◌, Bool, true, false, not, ◌||◌, List, [], ◌∷◌, ◌++◌}
+use Rattle.std.proofs.Common.{length, take, Option, Some, None, Result, Ok, Err, IsSome, IsTrue, All, refl, sym, ap}
+use Rattle.std.proofs.Common.{◌∙◌, subst, arith, cond, append_assoc, get_or, ◌==◌}
 use Rattle.std.specs.List.{filter_map, cons_option, slice_get}
 use Rattle.std.specs.Option.{option_map, option_to_list, is_none, is_some}
 use Rattle.std.proofs.lemmas.Bool.{cases_lt}
@@ -20,8 +22,11 @@ use Rattle.gt_lines.specs.Lines.{line_of}
 use Rattle.gt_script.specs.Types.{with_type}
 use Rattle.gt_policy.specs.Allowing.{Allowed, type_named}
 use Rattle.gt_script.specs.Contents.{Contents, names_with}
-use Rattle.gt_script.specs.Script.{is_empty, is_misplaced, has_no_rights, or_config, or_mode, configured, domain_written, with_triple, type_in, with_domain, with_step, with_order, with_asked, with_body, with_placed, with_line, with_words, with_lines}
-use Rattle.gt_script.specs.Laws.{said, triple_in, wear_in, domain_in, step_for, step_on, order_for, order_on, asks_for, is_for, IsLine}
+use Rattle.gt_script.specs.Script.{is_empty, is_misplaced, has_no_rights, or_config, or_mode, configured}
+use Rattle.gt_script.specs.Script.{domain_written, with_triple, type_in, with_domain, with_step, with_order, with_asked}
+use Rattle.gt_script.specs.Script.{with_body, with_placed, with_line, with_words, with_lines}
+use Rattle.gt_script.specs.Laws.{said, triple_in, wear_in, domain_in, step_for, step_on, order_for, order_on, asks_for}
+use Rattle.gt_script.specs.Laws.{is_for, IsLine}
 use Rattle.gt_lines.specs.declared.numbers.Number.{Number}
 use Rattle.gt_lines.specs.declared.calls.ScriptAction.{ScriptAction}
 use Rattle.gt_lines.specs.declared.lines.TripleLine.{TripleLine}

@@ -1,5 +1,6 @@
 -- Bytes tell one thing.
-use Rattle.std.proofs.Common.{◌≡◌, ℕ, ◌+◌, ◌<◌, ◌≤◌, List, length, take, drop, Option, None, Some, Result, Ok, Err, sym, ap, ◌∙◌, inl, inr, arith}
+use Rattle.std.proofs.Common.{◌≡◌, ℕ, ◌+◌, ◌<◌, ◌≤◌, List, length, take, drop, Option, None, Some, Result, Ok, Err, sym}
+use Rattle.std.proofs.Common.{ap, ◌∙◌, inl, inr, arith}
 use Rattle.std.specs.Str.Lines.{lines as lines_in}
 use Rattle.gt_policy.specs.Allowing.{Allowed, Meaning, allowed_by}
 use Rattle.gt_policy.specs.Whole.{Says}

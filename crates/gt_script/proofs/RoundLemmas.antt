@@ -1,5 +1,7 @@
 -- How domains go on in turn, while flags are told.
-use Rattle.std.proofs.Common.{◌≡◌, ◌⊎◌, ◌↔◌, length-take, inl, inr, IsTrue, ℕ, ◌+◌, ◌-◌, ◌<◌, ◌≤◌, ◌||◌, not, Bool, true, false, List, [], length, take, Option, Some, None, refl, sym, ap, ◌∙◌, subst, arith, All, get_or, set, replicate, add-one, ◌==◌}
+use Rattle.std.proofs.Common.{◌≡◌, ◌⊎◌, ◌↔◌, length-take, inl, inr, IsTrue, ℕ, ◌+◌, ◌-◌, ◌<◌, ◌≤◌, ◌||◌, not, Bool}
+use Rattle.std.proofs.Common.{true, false, List, [], length, take, Option, Some, None, refl, sym, ap, ◌∙◌, subst, arith}
+use Rattle.std.proofs.Common.{All, get_or, set, replicate, add-one, ◌==◌}
 use Rattle.std.specs.List.{slice_get}
 use Rattle.std.proofs.lemmas.Grind.{get_or_default_zero}
 use Rattle.std.proofs.lemmas.Bool.{cases_eq, cases_lt, eqb-true}
@@ -8,14 +10,17 @@ use Rattle.std.proofs.lemmas.Bool.{or_parts}
 use Rattle.gt_types.specs.Config.{is_taken}
 use Rattle.std.specs.Option.{is_some}
 use Rattle.std.proofs.Math.Seq.{take-suc}
-use Rattle.std.proofs.lemmas.List.{set-get_or, get_or-set_same, get_or-set_other, get_or-replicate, get_or-take, get_or_past, length-replicate, length-set, take_all}
+use Rattle.std.proofs.lemmas.List.{set-get_or, get_or-set_same, get_or-set_other, get_or-replicate, get_or-take}
+use Rattle.std.proofs.lemmas.List.{get_or_past, length-replicate, length-set, take_all}
 use Rattle.std.proofs.lemmas.List.Elements.{All-nil, All-push, All-weaker}
 use Rattle.std.proofs.lemmas.List.Sums.{sum_by-set}
 use Rattle.std.proofs.lemmas.Option.{slice_get_within, slice_get-get_or, get_or_from_slice_get}
 use Rattle.gt_types.specs.declared.DomId.{DomId}
 use Rattle.gt_types.specs.declared.config.DomainConfig.{DomainConfig}
-use Rattle.gt_script.specs.Stuck.{IsBelow, AreNumbered, IsPassed, PassesAll, IsClosed, IsTold, WaitsAt, AllEnd, IsJudged}
-use Rattle.gt_script.specs.Rounds.{holds, Holds, Within, is_untold, untold, IsDone, is_waiting, told_after, is_new, Comes, WayTo, WaitsFor, GoesOn, HaveCome, Turning, WaitsIn}
+use Rattle.gt_script.specs.Stuck.{IsBelow, AreNumbered, IsPassed, PassesAll, IsClosed, IsTold, WaitsAt, AllEnd}
+use Rattle.gt_script.specs.Stuck.{IsJudged}
+use Rattle.gt_script.specs.Rounds.{holds, Holds, Within, is_untold, untold, IsDone, is_waiting, told_after, is_new}
+use Rattle.gt_script.specs.Rounds.{Comes, WayTo, WaitsFor, GoesOn, HaveCome, Turning, WaitsIn}
 use Rattle.gt_script.specs.declared.tasks.Deed.{Deed}
 use Rattle.gt_script.specs.declared.tasks.Deed.TheVariants.{Do, Tell, Await}
 use Rattle.gt_script.specs.declared.tasks.Task.{Task}

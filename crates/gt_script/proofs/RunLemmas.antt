@@ -1,5 +1,6 @@
 -- What a script for `run` says.
-use Rattle.std.proofs.Common.{◌≡◌, inl, inr, ℕ, List, length, Option, Some, None, Result, Ok, Err, refl, sym, ap, ◌∙◌, subst, All, IsTrue, IfOk}
+use Rattle.std.proofs.Common.{◌≡◌, inl, inr, ℕ, List, length, Option, Some, None, Result, Ok, Err, refl, sym, ap, ◌∙◌}
+use Rattle.std.proofs.Common.{subst, All, IsTrue, IfOk}
 use Rattle.gt_types.specs.Config.{is_taken}
 use Rattle.gt_types.specs.declared.config.DomainConfig.{DomainConfig}
 use Rattle.gt_script.specs.Contents.{Contents, told, without_orders}

@@ -1,5 +1,7 @@
 -- A fault that stands is the one that the bytes tell.
-use Rattle.std.proofs.Common.{◌≡◌, ◌≢◌, ◌⊎◌, IsSome, inl, inr, ℕ, zero, suc, ◌+◌, ◌≤◌, ◌&&◌, Bool, true, false, cond, List, [], ◌∷◌, ◌++◌, length, take, drop, Option, None, Some, Result, Ok, Err, refl, sym, ap, ◌∙◌, subst, arith, All, codes}
+use Rattle.std.proofs.Common.{◌≡◌, ◌≢◌, ◌⊎◌, IsSome, inl, inr, ℕ, zero, suc, ◌+◌, ◌≤◌, ◌&&◌, Bool, true, false, cond}
+use Rattle.std.proofs.Common.{List, [], ◌∷◌, ◌++◌, length, take, drop, Option, None, Some, Result, Ok, Err, refl, sym}
+use Rattle.std.proofs.Common.{ap, ◌∙◌, subst, arith, All, codes}
 use Rattle.std.specs.List.{slice_get}
 use Rattle.std.specs.Option.{is_none, option_map}
 use Rattle.std.specs.Str.{bytes_eq}
@@ -16,7 +18,8 @@ use Rattle.gt_lines.specs.Words.{words}
 use Rattle.gt_script.specs.Blocks.{is_just, opening, closing, Means, IsFaulty}
 use Rattle.gt_script.specs.declared.command.Command.{Command}
 use Rattle.gt_script.specs.Contents.{Contents, empty, with_policy}
-use Rattle.gt_script.specs.Script.{is_empty, has_no_rights, with_words, with_lines, completed, completed_if_ok, whole, in_result, in_script, in_policy, BlockSays, LinesSay, TellsFor, Wrong}
+use Rattle.gt_script.specs.Script.{is_empty, has_no_rights, with_words, with_lines, completed, completed_if_ok, whole}
+use Rattle.gt_script.specs.Script.{in_result, in_script, in_policy, BlockSays, LinesSay, TellsFor, Wrong}
 use Rattle.gt_script.specs.Laws.{HasBlock, lines_before, IsFirstFault, IsFaultOfLines, IsFaultOf, IsFaultOfBlock}
 use Rattle.gt_script.specs.declared.faults.ScriptFaultKind.{ScriptFaultKind}
 use Rattle.gt_script.specs.declared.faults.ScriptFaultKind.TheVariants.{Syntax, Config}

@@ -1,37 +1,16 @@
 -- What the parts of a script are, said without the order of reading.
 use Rattle.std.specs.Prelude.{◌≡◌, ◌≢◌, ◌≤◌, ◌<◌, ◌+◌, ◌^◌, ◌⊎◌, ℕ, Bool, true, List, [], ◌∷◌, ◌++◌, length, take}
 use Rattle.std.specs.Prelude.{Option, Some, None, Ok, Err, IsSome, IsTrue, All, AllPairs, slice_get, codes}
-use Rattle.std.specs.Option.{option_map, option_to_list, is_some}
-use Rattle.std.specs.List.{filter_map, enumerate_from}
-use Rattle.std.specs.Str.{IsUtf8}
-use Rattle.std.specs.Str.Lines.{lines as lines_in}
-use Rattle.std.specs.Str.Lossy.{utf8_valid_len}
-use Rattle.gt_streams.specs.Texts.{line_after}
-use Rattle.gt_types.specs.Config.{is_taken, AreFaultless}
-use Rattle.gt_types.specs.declared.limits.TheConstants.{LAST_GENERATION, LONGEST_TEXT}
-use Rattle.gt_types.specs.declared.rights.Triple.{Triple}
-use Rattle.gt_types.specs.declared.config.DomainConfig.{DomainConfig}
-use Rattle.gt_policy.specs.Allowing.{Allowed, type_named}
+use Rattle.gt_script.specs.Prelude.{option_map, option_to_list, is_some, filter_map, enumerate_from, IsUtf8, lines_in}
+use Rattle.gt_script.specs.Prelude.{utf8_valid_len, line_after, is_taken, AreFaultless, LAST_GENERATION, LONGEST_TEXT}
+use Rattle.gt_script.specs.Prelude.{Triple, DomainConfig, Allowed, type_named, words, number_below, ◌>>=◌, line_of}
+use Rattle.gt_script.specs.Prelude.{Line, Number, BodyLine, Command, Play, Run, Order, ScriptStep, ScriptFault, Limit}
+use Rattle.gt_script.specs.Prelude.{Utf8, Syntax, Config, ScriptError, Memory}
 use Rattle.gt_policy.specs.declared.fault.TokenFault as policy
 use Rattle.gt_script.specs.Blocks.{Means, IsFaulty, block_fault_shown}
-use Rattle.gt_lines.specs.Words.{words}
-use Rattle.gt_lines.specs.Numbers.{number_below}
-use Rattle.gt_lines.specs.Fields.{◌>>=◌}
-use Rattle.gt_lines.specs.Lines.{line_of}
 use Rattle.gt_script.specs.Contents.{Contents, empty, with_policy, type_names, first_gen}
 use Rattle.gt_script.specs.Script.{domain_written, action_in, run_line_in, with_words, with_lines}
-use Rattle.gt_lines.specs.declared.lines.Line.{Line}
 use Rattle.gt_lines.specs.declared.lines.Line.TheVariants as line
-use Rattle.gt_lines.specs.declared.numbers.Number.{Number}
-use Rattle.gt_lines.specs.declared.lines.BodyLine.{BodyLine}
-use Rattle.gt_script.specs.declared.command.Command.{Command}
-use Rattle.gt_script.specs.declared.command.Command.TheVariants.{Play, Run}
-use Rattle.gt_script.specs.declared.orders.Order.{Order}
-use Rattle.gt_script.specs.declared.script.ScriptStep.{ScriptStep}
-use Rattle.gt_script.specs.declared.faults.ScriptFault.{ScriptFault}
-use Rattle.gt_script.specs.declared.faults.ScriptFaultKind.TheVariants.{Limit, Utf8, Syntax, Config}
-use Rattle.gt_script.specs.declared.faults.ScriptError.{ScriptError}
-use Rattle.gt_script.specs.declared.faults.ScriptError.TheVariants.{Memory}
 use Rattle.gt_script.specs.declared.faults.ScriptError.TheVariants as errors
 
 -- what the lines say, each with its number

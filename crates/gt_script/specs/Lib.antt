@@ -4,6 +4,7 @@ pub mod Faults
 pub mod Flags
 pub mod Laws
 pub mod Outcomes
+pub mod Prelude
 pub mod Rounds
 pub mod RunContents
 pub mod RunScripts

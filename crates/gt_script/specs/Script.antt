@@ -1,41 +1,19 @@
 -- The script that bytes say, its policy block and then line by line, or their first fault.
 use Rattle.std.specs.Prelude.{◌≡◌, ◌⊎◌, ◌<◌, ◌≤◌, ℕ, ◌+◌, ◌==◌, ◌&&◌, ◌||◌, not, Bool, List, [], ◌∷◌, ◌++◌, length}
 use Rattle.std.specs.Prelude.{Option, Some, None, Result, Ok, Err, take, drop, is_none, is_some, ◌^◌, if◌then◌else◌}
-use Rattle.std.specs.Option.{option_map}
-use Rattle.std.specs.Str.{IsUtf8}
-use Rattle.std.specs.Str.Lossy.{utf8_valid_len}
-use Rattle.gt_streams.specs.Texts.{line_after}
-use Rattle.gt_types.specs.declared.limits.TheConstants.{LONGEST_TEXT}
-use Rattle.std.specs.Str.Lines.{lines as lines_in}
-use Rattle.gt_types.specs.Config.{is_taken, domain_fault}
-use Rattle.gt_types.specs.declared.DomId.{DomId}
-use Rattle.gt_types.specs.declared.TypeId.{TypeId}
-use Rattle.gt_types.specs.declared.config.DomainConfig.{DomainConfig}
-use Rattle.gt_policy.specs.Allowing.{Allowed, type_named}
+use Rattle.gt_script.specs.Prelude.{option_map, IsUtf8, utf8_valid_len, line_after, LONGEST_TEXT, lines_in, is_taken}
+use Rattle.gt_script.specs.Prelude.{domain_fault, DomId, TypeId, DomainConfig, Allowed, type_named, words, number_below}
+use Rattle.gt_script.specs.Prelude.{◌>>=◌, line_of, Number, ScriptAction, BodyLine, Command, Play, Run, RunLine}
+use Rattle.gt_script.specs.Prelude.{TripleLine, DomainLine, Line, ScriptFaultKind, Limit, Utf8, Syntax, Config, Mode}
+use Rattle.gt_script.specs.Prelude.{ScriptFault}
 use Rattle.gt_policy.specs.declared.fault.TokenFault as policy
 use Rattle.gt_script.specs.Blocks.{opening, closing, Means, IsFaulty}
-use Rattle.gt_lines.specs.Words.{words}
-use Rattle.gt_lines.specs.Numbers.{number_below}
-use Rattle.gt_lines.specs.Fields.{◌>>=◌}
-use Rattle.gt_lines.specs.Lines.{line_of}
 use Rattle.gt_script.specs.Types.{with_type}
 use Rattle.gt_script.specs.Contents.{Contents, empty, with_policy}
-use Rattle.gt_lines.specs.declared.numbers.Number.{Number}
-use Rattle.gt_lines.specs.declared.calls.ScriptAction.{ScriptAction}
 use Rattle.gt_lines.specs.declared.calls.ScriptAction.TheVariants as actions
-use Rattle.gt_lines.specs.declared.lines.BodyLine.{BodyLine}
 use Rattle.gt_lines.specs.declared.lines.BodyLine.TheVariants as bodies
-use Rattle.gt_script.specs.declared.command.Command.{Command}
-use Rattle.gt_script.specs.declared.command.Command.TheVariants.{Play, Run}
-use Rattle.gt_script.specs.declared.orders.RunLine.{RunLine}
 use Rattle.gt_script.specs.declared.orders.RunLine.TheVariants as runs
-use Rattle.gt_lines.specs.declared.lines.TripleLine.{TripleLine}
-use Rattle.gt_lines.specs.declared.lines.DomainLine.{DomainLine}
-use Rattle.gt_lines.specs.declared.lines.Line.{Line}
 use Rattle.gt_lines.specs.declared.lines.Line.TheVariants as line
-use Rattle.gt_script.specs.declared.faults.ScriptFaultKind.{ScriptFaultKind}
-use Rattle.gt_script.specs.declared.faults.ScriptFaultKind.TheVariants.{Limit, Utf8, Syntax, Config, Mode}
-use Rattle.gt_script.specs.declared.faults.ScriptFault.{ScriptFault}
 
 -- a list without elements
 abbrev pub is_empty : {X : Type 0} → List X → Bool

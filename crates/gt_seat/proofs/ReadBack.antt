@@ -13,7 +13,8 @@ use Rattle.gt_types.specs.declared.denial.Field.TheVariants as fields
 use Rattle.gt_types.specs.Denial.{rule_number, status_number}
 use Rattle.gt_seat.specs.declared.answer.Outcome.{Outcome}
 use Rattle.gt_seat.specs.declared.answer.Outcome.TheVariants.{Done, Mapped, Frames, Version, Size, Denied}
-use Rattle.gt_seat.specs.declared.answer.Outcome.TheVariants.{NoDomain, Busy, NoMemory, NoCopy, Absent, NullPointer, Lost}
+use Rattle.gt_seat.specs.declared.answer.Outcome.TheVariants.{NoDomain, Busy, NoMemory, NoCopy, Absent, NullPointer}
+use Rattle.gt_seat.specs.declared.answer.Outcome.TheVariants.{Lost}
 use Rattle.gt_seat.specs.Encoding.{encoded, field_number}
 use Rattle.gt_seat.specs.Decoding.{AnswersAreReadBack, decoded, field_named, rule_named, status_named}
 

@@ -12,7 +12,8 @@ use Rattle.gt_types.specs.declared.denial.Field.TheVariants as fields
 use Rattle.gt_seat.specs.declared.answer.Answer.{Answer}
 use Rattle.gt_seat.specs.declared.answer.Outcome.{Outcome}
 use Rattle.gt_seat.specs.declared.answer.Outcome.TheVariants.{Done, Mapped, Frames, Version, Size as SizeOf, Denied}
-use Rattle.gt_seat.specs.declared.answer.Outcome.TheVariants.{NoDomain, Busy, NoMemory, NoCopy, Absent, NullPointer, Lost}
+use Rattle.gt_seat.specs.declared.answer.Outcome.TheVariants.{NoDomain, Busy, NoMemory, NoCopy, Absent, NullPointer}
+use Rattle.gt_seat.specs.declared.answer.Outcome.TheVariants.{Lost}
 use Rattle.gt_seat.specs.Encoding.{encoded}
 
 -- the rule of this number, the last one if there is none

@@ -1,7 +1,7 @@
 //! How a run starts for a caller outside Rattle.
 ghost use Rattle.std.specs.Prelude.{◌≡◌, All, length, IfOk, IfErr, OnOk};
 ghost use Rattle.gt_types.specs.Config.{IsWithinLimits};
-ghost use Rattle.gt_words.specs.Conditions.{IsStartFault};
+ghost use Rattle.gt_words.specs.Answers.{IsStartFault};
 ghost use Rattle.gt_live.specs.Domains.{IsOf};
 ghost use Rattle.std.specs.Arc.{arc_value};
 

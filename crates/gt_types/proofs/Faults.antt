@@ -1,5 +1,7 @@
 -- What the first fault of a configuration has to do with its limits.
-use Rattle.std.proofs.Common.{◌≡◌, ◌≢◌, ⊎_elim, inl, inr, ℕ, zero, suc, ◌+◌, ◌<◌, ◌≤◌, Bool, true, false, nat_le, ◌==◌, List, [], ◌∷◌, ◌++◌, length, take, Option, Some, None, AllPairs, get_or, refl, sym, ap, ◌∙◌, subst, arith}
+use Rattle.std.proofs.Common.{◌≡◌, ◌≢◌, ⊎_elim, inl, inr, ℕ, zero, suc, ◌+◌, ◌<◌, ◌≤◌, Bool, true, false, nat_le, ◌==◌}
+use Rattle.std.proofs.Common.{List, [], ◌∷◌, ◌++◌, length, take, Option, Some, None, AllPairs, get_or, refl, sym, ap}
+use Rattle.std.proofs.Common.{◌∙◌, subst, arith}
 use Rattle.std.specs.List.{slice_get}
 use Rattle.std.specs.Option.{option_or}
 use Rattle.std.proofs.lemmas.Bool.{cases_lt}
@@ -12,9 +14,12 @@ use Rattle.std.proofs.lemmas.Option.{slice_get-get_or, slice_get_within, get_or_
 use Rattle.gt_types.specs.declared.config.Config.{Config}
 use Rattle.gt_types.specs.declared.config.DomainConfig.{DomainConfig}
 use Rattle.gt_types.specs.declared.config.ConfigFault.{ConfigFault}
-use Rattle.gt_types.specs.declared.config.ConfigFault.TheVariants.{NoDomains, TooMany, Id, Repeated, Frames, TableFrames, Version, Generation}
-use Rattle.gt_types.specs.declared.limits.TheConstants.{DOMID_SELF, MAX_DOMAINS, MAX_FRAMES, MAX_TABLE_FRAMES, LAST_VERSION, LAST_GENERATION}
-use Rattle.gt_types.specs.Config.{IsWithinLimits, fault_when, is_outside, is_taken, domain_fault, AreFaultless, IsFirstDomainFault, IsFirstFault}
+use Rattle.gt_types.specs.declared.config.ConfigFault.TheVariants.{NoDomains, TooMany, Id, Repeated, Frames}
+use Rattle.gt_types.specs.declared.config.ConfigFault.TheVariants.{TableFrames, Version, Generation}
+use Rattle.gt_types.specs.declared.limits.TheConstants.{DOMID_SELF, MAX_DOMAINS, MAX_FRAMES, MAX_TABLE_FRAMES}
+use Rattle.gt_types.specs.declared.limits.TheConstants.{LAST_VERSION, LAST_GENERATION}
+use Rattle.gt_types.specs.Config.{IsWithinLimits, fault_when, is_outside, is_taken, domain_fault, AreFaultless}
+use Rattle.gt_types.specs.Config.{IsFirstDomainFault, IsFirstFault}
 
 -- the domain keeps every limit behind those before it
 record Fits (before : List DomainConfig) (d : DomainConfig) : Type 0 where

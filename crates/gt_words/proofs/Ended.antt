@@ -1,5 +1,6 @@
 -- After a revocation, and after a publication, no view has a pin of the record that was there.
-use Rattle.std.proofs.Common.{◌≡◌, ◌⊎◌, inl, inr, ℕ, zero, suc, ◌+◌, ◌<◌, ◌≤◌, Bool, true, false, cond, List, [], ◌∷◌, ◌++◌, map, sym, refl, ap, ◌∙◌, subst, arith}
+use Rattle.std.proofs.Common.{◌≡◌, ◌⊎◌, inl, inr, ℕ, zero, suc, ◌+◌, ◌<◌, ◌≤◌, Bool, true, false, cond, List, [], ◌∷◌}
+use Rattle.std.proofs.Common.{◌++◌, map, sym, refl, ap, ◌∙◌, subst, arith}
 use Rattle.std.specs.Prelude.{◌==◌, ◌&&◌}
 use mathlib.Core.Option.{some}
 use lib.ListN.{get_elem?}
@@ -13,12 +14,14 @@ use Rattle.gt_words.proofs.Lists.{whose_at}
 use Rattle.gt_words.proofs.Past.{pins_left}
 use Rattle.gt_words.proofs.Records.{legal_record, spelled_parts}
 use Rattle.gt_words.proofs.Told.{owners_entry}
-use Rattle.gt_words.specs.Conditions.{Changes, HasNoPins, Publishes, Revokes}
+use Rattle.gt_words.specs.Answers.{Changes, Publishes, Revokes}
+use Rattle.gt_words.specs.Conditions.{HasNoPins}
 use Rattle.gt_words.specs.Controls.{generation_of, pins_in}
 use Rattle.gt_words.specs.Laws.{EndsPins, NoPinOutlivesItsRecord}
 use Rattle.gt_words.specs.Rule.{Layout, Shows, owner_steps, total_pins}
 use Rattle.gt_words.specs.Steps.{changed, changed_word}
-use Rattle.gt_words.specs.Views.{IsIn, LivePin, earlier_records, entry_steps, exchanged, last_of, pin_count, pins, steps_on}
+use Rattle.gt_words.specs.Views.{IsIn, LivePin, earlier_records, entry_steps, exchanged, last_of, pin_count, pins}
+use Rattle.gt_words.specs.Views.{steps_on}
 use Rattle.gt_words.specs.declared.view.EntryRecord.{EntryRecord}
 use Rattle.gt_words.specs.declared.view.EntryStep.{EntryStep}
 use Rattle.gt_words.specs.declared.view.EntryStep.TheVariants.{Changed}

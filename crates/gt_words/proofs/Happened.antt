@@ -1,5 +1,7 @@
 -- Each step of a history takes what the steps before it make to what its event gives.
-use Rattle.std.proofs.Common.{◌≡◌, ◌≢◌, ℕ, zero, suc, ◌+◌, ◌<◌, ◌≤◌, Bool, true, false, cond, ◌==◌, ◌&&◌, List, [], ◌∷◌, ◌++◌, ◌*◌, length, map, get_or, get_or-set_same, set, sym, refl, ap, ◌∙◌, subst, arith, eq-eqb, ne_eqb, lt_of_not-le}
+use Rattle.std.proofs.Common.{◌≡◌, ◌≢◌, ℕ, zero, suc, ◌+◌, ◌<◌, ◌≤◌, Bool, true, false, cond, ◌==◌, ◌&&◌, List, [], ◌∷◌}
+use Rattle.std.proofs.Common.{◌++◌, ◌*◌, length, map, get_or, get_or-set_same, set, sym, refl, ap, ◌∙◌, subst, arith}
+use Rattle.std.proofs.Common.{eq-eqb, ne_eqb, lt_of_not-le}
 use mathlib.Core.Option.{Option as Maybe, none, some, some-ne-none}
 use mathlib.Core.Logic.{dite}
 use native.Mathlib.Decide.{ℕ_discrete}
@@ -14,7 +16,8 @@ use Rattle.gt_words.proofs.Moments.{beyond, goes_on}
 use Rattle.gt_words.proofs.OneEntry.{held_at}
 use Rattle.gt_words.proofs.Order.{part_else, part_here, within}
 use Rattle.gt_words.specs.Events.{Happens, entry_after, event_on_entry, event_on_header}
-use Rattle.gt_words.specs.History.{PinsLast, entry_by, entry_made, header_made, parts_on, HasLedTo, HeaderByOwner, History, IsByOwner, IsOwners, IsTrue, Layout, Says, part_of, place_of, word_after}
+use Rattle.gt_words.specs.History.{PinsLast, entry_by, entry_made, header_made, parts_on, HasLedTo, HeaderByOwner}
+use Rattle.gt_words.specs.History.{History, IsByOwner, IsOwners, IsTrue, Layout, Says, part_of, place_of, word_after}
 use Rattle.gt_words.specs.Laws.{EachStepHappened}
 use Rattle.gt_words.specs.Rule.{HasStood, Shows, Stands, owner_steps, total_pins}
 use Rattle.gt_words.specs.Steps.{TakesStep}

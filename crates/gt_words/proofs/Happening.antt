@@ -1,5 +1,6 @@
 -- A step on an entry takes the state that words and views show to the one that its event gives.
-use Rattle.std.proofs.Common.{◌≡◌, ℕ, Bool, true, cond, ◌==◌, ◌&&◌, List, [], ◌∷◌, map, get_or, set, sym, refl, ap, ◌∙◌, subst, eq-eqb}
+use Rattle.std.proofs.Common.{◌≡◌, ℕ, Bool, true, cond, ◌==◌, ◌&&◌, List, [], ◌∷◌, map, get_or, set, sym, refl, ap, ◌∙◌}
+use Rattle.std.proofs.Common.{subst, eq-eqb}
 use mathlib.Core.Option.{some}
 use mathlib.Core.Logic.{dite}
 use native.Mathlib.Decide.{ℕ_discrete}
@@ -17,7 +18,8 @@ use Rattle.gt_words.specs.Rule.{Layout, header_now, owner_steps}
 use Rattle.gt_words.specs.Steps.{on_entry}
 use Rattle.gt_words.specs.Views.{LivePin, last_record, pins, steps_on, steps_on_header, stored_body, without_pin}
 use Rattle.gt_words.specs.declared.view.EntryStep.{EntryStep}
-use Rattle.gt_words.specs.declared.view.EntryStep.TheVariants.{ChangeMissed, Changed, Looked, PinMissed, Pinned, ReadBody, StoredBody, Unpinned}
+use Rattle.gt_words.specs.declared.view.EntryStep.TheVariants.{ChangeMissed, Changed, Looked, PinMissed, Pinned}
+use Rattle.gt_words.specs.declared.view.EntryStep.TheVariants.{ReadBody, StoredBody, Unpinned}
 use Rattle.gt_entry.specs.declared.change.Half.TheVariants.{First, Second}
 use Rattle.gt_words.specs.declared.view.View.{View}
 

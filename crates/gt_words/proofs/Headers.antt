@@ -1,5 +1,7 @@
 -- Steps on a header word keep the rule, and take the shown state to the one that their event gives.
-use Rattle.std.proofs.Common.{◌≡◌, ◌≢◌, ◌⊎◌, inl, inr, ⊎_elim, ℕ, ◌*◌, ◌<◌, ◌≤◌, Bool, true, false, cond, ◌==◌, List, [], ◌∷◌, map, get_or, set, sym, refl, ap, ◌∙◌, subst, arith, length-set, get_or-set_other, get_or-set_same, eq-eqb, ne_eqb, Option, Some, None, IfSome, if◌then◌else◌}
+use Rattle.std.proofs.Common.{◌≡◌, ◌≢◌, ◌⊎◌, inl, inr, ⊎_elim, ℕ, ◌*◌, ◌<◌, ◌≤◌, Bool, true, false, cond, ◌==◌, List}
+use Rattle.std.proofs.Common.{[], ◌∷◌, map, get_or, set, sym, refl, ap, ◌∙◌, subst, arith, length-set, get_or-set_other}
+use Rattle.std.proofs.Common.{get_or-set_same, eq-eqb, ne_eqb, Option, Some, None, IfSome, if◌then◌else◌}
 use mathlib.Core.Option.{some, none}
 use mathlib.Core.Logic.{dite}
 use native.Mathlib.Decide.{ℕ_discrete}
@@ -15,11 +17,12 @@ use Rattle.gt_entry.specs.Laws.{header-round}
 use Rattle.gt_entry.specs.Words.{header_of, header_word, size_of}
 use Rattle.gt_entry.specs.declared.header.Header.{Header}
 use Rattle.gt_types.specs.declared.limits.TheConstants.{ENTRIES_V1, ENTRIES_V2, TABLE_ENTRIES}
-use Rattle.gt_words.specs.Conditions.{AddsToHeader, LooksAtHeader, StepsOnHeader, StoresHeader}
+use Rattle.gt_words.specs.Answers.{AddsToHeader, LooksAtHeader, StepsOnHeader, StoresHeader}
 use Rattle.gt_words.specs.Events.{HeaderByOwner, header_after}
 use Rattle.gt_words.proofs.Order.{leads_on}
 use Rattle.gt_words.specs.History.{HasLedTo, History, Says, left_by}
-use Rattle.gt_words.specs.Rule.{IsHeader, IsKeptHeader, Layout, Shows, HasStood, Stands, ShowsEntry, header_now, header_place, place}
+use Rattle.gt_words.specs.Rule.{IsHeader, IsKeptHeader, Layout, Shows, HasStood, Stands, ShowsEntry, header_now}
+use Rattle.gt_words.specs.Rule.{header_place, place}
 use Rattle.gt_words.specs.Steps.{TakesStep, looking_at_header, on_header, storing_header, tells, tells_stored}
 use Rattle.gt_words.specs.Views.{IsIn, own, own_header, steps_on, steps_on_header, stored_header, with_step}
 use Rattle.gt_words.specs.declared.view.EntryStep.{EntryStep}

@@ -1,6 +1,8 @@
 -- A step on one entry keeps the rule of the table, where it keeps the rule of that entry.
 use Rattle.gt_words.specs.declared.word_table.TheConstants.{DOMAIN_WORDS}
-use Rattle.std.proofs.Common.{◌≡◌, ◌≢◌, ⊎_elim, ℕ, zero, suc, ◌+◌, ◌*◌, ◌<◌, ◌≤◌, Bool, true, false, cond, ◌==◌, ◌&&◌, List, [], ◌∷◌, map, get_or, set, length, sym, refl, ap, ◌∙◌, subst, arith, length-set, get_or-set_other, eq-eqb, ne_eqb}
+use Rattle.std.proofs.Common.{◌≡◌, ◌≢◌, ⊎_elim, ℕ, zero, suc, ◌+◌, ◌*◌, ◌<◌, ◌≤◌, Bool, true, false, cond, ◌==◌, ◌&&◌}
+use Rattle.std.proofs.Common.{List, [], ◌∷◌, map, get_or, set, length, sym, refl, ap, ◌∙◌, subst, arith, length-set}
+use Rattle.std.proofs.Common.{get_or-set_other, eq-eqb, ne_eqb}
 use mathlib.Core.Option.{Option as Maybe, none, some, some-ne-none}
 use mathlib.Core.Logic.{dite}
 use native.Mathlib.Decide.{ℕ_discrete}
@@ -11,7 +13,8 @@ use Rattle.atomic_table.proofs.Lists.{at_set, set_again, at_map}
 use Rattle.gt_words.proofs.Lists.{whose_at}
 use Rattle.gt_words.proofs.Moments.{beyond}
 use Rattle.gt_words.proofs.Order.{leads_on}
-use Rattle.gt_words.specs.History.{HasLedTo, History, IsByOwner, IsOfRecord, SaysFound, left_on_entry, owner_steps, part_of, parts_on, word_on}
+use Rattle.gt_words.specs.History.{HasLedTo, History, IsByOwner, IsOfRecord, SaysFound, left_on_entry, owner_steps}
+use Rattle.gt_words.specs.History.{part_of, parts_on, word_on}
 use Rattle.gt_words.specs.Rule.{IsHeader, Layout, Shows, ShowsEntry, header_now, header_place, place}
 use Rattle.gt_words.specs.Steps.{on_entry}
 use Rattle.gt_words.specs.Views.{entry_steps, last_record, steps_on, steps_on_header, with_step}

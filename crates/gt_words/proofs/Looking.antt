@@ -1,5 +1,6 @@
 -- What a look says of the record that it found, by the words of one entry.
-use Rattle.std.proofs.Common.{◌≡◌, ◌≢◌, inl, inr, ℕ, ◌<◌, List, [], ◌∷◌, sym, refl, ap, ◌∙◌, subst, Option, Some, None, IsSome}
+use Rattle.std.proofs.Common.{◌≡◌, ◌≢◌, inl, inr, ℕ, ◌<◌, List, [], ◌∷◌, sym, refl, ap, ◌∙◌, subst, Option, Some, None}
+use Rattle.std.proofs.Common.{IsSome}
 use Rattle.gt_entry.specs.Laws.{digits, entry-read}
 use Rattle.gt_entry.specs.Spelling.{IsSpelled, control_with, entry_of, low_bits, named_domain, word_of}
 use Rattle.gt_entry.specs.Words.{control_of}
@@ -7,15 +8,18 @@ use Rattle.gt_entry.specs.declared.control.Control.{Control}
 use Rattle.gt_entry.specs.declared.entry.Entry.{Entry}
 use Rattle.gt_entry.specs.declared.entry.Entry.TheVariants.{Invalid, Page, Sub, Via}
 use Rattle.gt_types.specs.declared.Dir.TheVariants.{Read, Write}
-use Rattle.gt_words.proofs.Records.{domain_small, fresh, legal_record, listed_record, low_small, spelled_control, spelled_parts}
+use Rattle.gt_words.proofs.Records.{domain_small, fresh, legal_record, listed_record, low_small, spelled_control}
+use Rattle.gt_words.proofs.Records.{spelled_parts}
 use Rattle.gt_words.specs.Controls.{IsValid, generation_of, pins_in}
 use Rattle.gt_words.specs.History.{SaysFound, word_on}
 use Rattle.gt_words.specs.Laws.{alone}
 use Rattle.gt_words.specs.Rule.{IsLawful}
 use Rattle.gt_words.specs.Sight.{Agrees, IsSeenOf, SawRecord}
-use Rattle.gt_words.specs.Views.{HasBody, Seen, earlier_records, last_record, record_seen, seen, value_or_zero, with_body}
+use Rattle.gt_words.specs.Views.{HasBody, Seen, earlier_records, last_record, record_seen, seen, value_or_zero}
+use Rattle.gt_words.specs.Views.{with_body}
 use Rattle.gt_words.specs.declared.view.EntryStep.{EntryStep}
-use Rattle.gt_words.specs.declared.view.EntryStep.TheVariants.{ChangeMissed, Changed, Looked, PinMissed, Pinned, ReadBody, StoredBody, Unpinned}
+use Rattle.gt_words.specs.declared.view.EntryStep.TheVariants.{ChangeMissed, Changed, Looked, PinMissed, Pinned}
+use Rattle.gt_words.specs.declared.view.EntryStep.TheVariants.{ReadBody, StoredBody, Unpinned}
 use Rattle.gt_entry.specs.declared.change.Half.{Half}
 use Rattle.gt_entry.specs.declared.change.Half.TheVariants.{First, Second}
 use Rattle.gt_words.specs.declared.view.EntryRecord.{EntryRecord}

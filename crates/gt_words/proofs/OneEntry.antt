@@ -1,6 +1,7 @@
 -- What each kind of step does to an entry, with the owner's moves among those of all seats.
 use Rattle.gt_types.specs.declared.limits.TheConstants.{MAX_PINS, LAST_GENERATION}
-use Rattle.std.proofs.Common.{◌≡◌, ◌≢◌, ◌⊎◌, inl, inr, ℕ, zero, suc, ◌+◌, ◌-◌, ◌*◌, ◌<◌, ◌≤◌, Bool, true, false, not, List, [], ◌∷◌, set, sym, refl, ap, ◌∙◌, subst, arith, Some, get_or-set_other}
+use Rattle.std.proofs.Common.{◌≡◌, ◌≢◌, ◌⊎◌, inl, inr, ℕ, zero, suc, ◌+◌, ◌-◌, ◌*◌, ◌<◌, ◌≤◌, Bool, true, false, not}
+use Rattle.std.proofs.Common.{List, [], ◌∷◌, set, sym, refl, ap, ◌∙◌, subst, arith, Some, get_or-set_other}
 use mathlib.Core.Option.{some, some-injective, some-ne-none}
 use mathlib.Core.Logic.{dite}
 use native.Mathlib.Decide.{ℕ_discrete}
@@ -17,12 +18,15 @@ use Rattle.gt_words.proofs.Lists.{whose_at, whose_here}
 use Rattle.gt_words.proofs.Records.{changes_shown, legal_record, pins_shown, sees_shown, stores_shown, unpins_shown}
 use Rattle.gt_words.proofs.Looking.{seen_is_last}
 use Rattle.gt_words.specs.Controls.{IsValid, generation_of, pins_in}
-use Rattle.gt_words.specs.Rule.{HasGoneOn, IsLawful, IsRecord, MayFollow, ShowsEntry, ShowsRecord, owner_steps, total_pins}
+use Rattle.gt_words.specs.Rule.{HasGoneOn, IsLawful, IsRecord, MayFollow, ShowsEntry, ShowsRecord, owner_steps}
+use Rattle.gt_words.specs.Rule.{total_pins}
 use Rattle.gt_words.specs.Sight.{IsSeenOf}
-use Rattle.gt_words.specs.Views.{HasBody, IsIn, LivePin, Seen, earlier_records, exchanged, last_record, pin_count, pins, pins_until, record_seen, stored_body, weight}
+use Rattle.gt_words.specs.Views.{HasBody, IsIn, LivePin, Seen, earlier_records, exchanged, last_record, pin_count, pins}
+use Rattle.gt_words.specs.Views.{pins_until, record_seen, stored_body, weight}
 use Rattle.gt_entry.specs.declared.change.Change.{Change}
 use Rattle.gt_words.specs.declared.view.EntryStep.{EntryStep}
-use Rattle.gt_words.specs.declared.view.EntryStep.TheVariants.{ChangeMissed, Changed, Looked, PinMissed, Pinned, ReadBody, StoredBody, Unpinned}
+use Rattle.gt_words.specs.declared.view.EntryStep.TheVariants.{ChangeMissed, Changed, Looked, PinMissed, Pinned}
+use Rattle.gt_words.specs.declared.view.EntryStep.TheVariants.{ReadBody, StoredBody, Unpinned}
 use Rattle.gt_entry.specs.declared.change.Half.{Half}
 use Rattle.gt_entry.specs.declared.change.Half.TheVariants.{First, Second}
 use Rattle.gt_words.specs.declared.view.EntryRecord.{EntryRecord}

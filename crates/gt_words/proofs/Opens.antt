@@ -1,6 +1,8 @@
 -- The rule at the start, and when a seat is dealt.
 use Rattle.gt_words.specs.declared.word_table.TheConstants.{DOMAIN_WORDS, ENTRY_WORDS}
-use Rattle.std.proofs.Common.{◌≡◌, ◌≢◌, ◌⊎◌, inl, inr, ⊎_elim, ℕ, zero, suc, ◌+◌, ◌*◌, ◌/◌, ◌%◌, ◌<◌, ◌≤◌, Bool, false, cond, ◌==◌, List, [], ◌∷◌, ◌++◌, map, length, get_or, set, sym, refl, ap, ◌∙◌, subst, arith, length-append, eq-eqb, ne_eqb, All, IfSome, Option, Some, None}
+use Rattle.std.proofs.Common.{◌≡◌, ◌≢◌, ◌⊎◌, inl, inr, ⊎_elim, ℕ, zero, suc, ◌+◌, ◌*◌, ◌/◌, ◌%◌, ◌<◌, ◌≤◌, Bool, false}
+use Rattle.std.proofs.Common.{cond, ◌==◌, List, [], ◌∷◌, ◌++◌, map, length, get_or, set, sym, refl, ap, ◌∙◌, subst}
+use Rattle.std.proofs.Common.{arith, length-append, eq-eqb, ne_eqb, All, IfSome, Option, Some, None}
 use mathlib.Core.Option.{some, some-injective, some-ne-none}
 use mathlib.Core.List.{map-append}
 use lib.ListN.{get_elem?}
@@ -18,8 +20,10 @@ use Rattle.gt_words.proofs.Order.{leads_from, leads_to_more, new_index}
 use Rattle.gt_words.specs.Conditions.{initial}
 use Rattle.gt_words.specs.Controls.{generation_of}
 use Rattle.gt_words.specs.Places.{dealer_after, dealt_to, new_view}
-use Rattle.gt_words.specs.Rule.{HasGoneOn, IsHeader, Layout, Shows, ShowsEntry, ShowsRecord, first_header, header_now, header_place, owner_steps, place, total_pins, total_until}
-use Rattle.gt_words.specs.Views.{IsIn, earlier_records, exchanged, last_record, own, pin_count, pins, pins_until, steps_on, steps_on_header, stored_body, stored_header}
+use Rattle.gt_words.specs.Rule.{HasGoneOn, IsHeader, Layout, Shows, ShowsEntry, ShowsRecord, first_header, header_now}
+use Rattle.gt_words.specs.Rule.{header_place, owner_steps, place, total_pins, total_until}
+use Rattle.gt_words.specs.Views.{IsIn, earlier_records, exchanged, last_record, own, pin_count, pins, pins_until}
+use Rattle.gt_words.specs.Views.{steps_on, steps_on_header, stored_body, stored_header}
 use Rattle.gt_words.specs.declared.view.EntryStep.{EntryStep}
 use Rattle.gt_entry.specs.declared.change.Half.TheVariants.{First, Second}
 use Rattle.gt_words.specs.declared.view.HeaderStep.{HeaderStep}

@@ -1,12 +1,15 @@
 -- The one order of all steps goes on with each step, stays when a seat is dealt, and is empty at the start.
-use Rattle.std.proofs.Common.{◌≡◌, ◌≢◌, ◌⊎◌, inl, inr, ⊎_elim, ℕ, zero, suc, ◌+◌, ◌*◌, ◌<◌, ◌≤◌, Bool, true, false, cond, ◌==◌, List, [], ◌∷◌, ◌++◌, length, get_or, set, sym, refl, ap, ◌∙◌, subst, arith, length-set, length-append, get_or-set_other, get_or-set_same, eq-eqb, ne_eqb}
+use Rattle.std.proofs.Common.{◌≡◌, ◌≢◌, ◌⊎◌, inl, inr, ⊎_elim, ℕ, zero, suc, ◌+◌, ◌*◌, ◌<◌, ◌≤◌, Bool, true, false}
+use Rattle.std.proofs.Common.{cond, ◌==◌, List, [], ◌∷◌, ◌++◌, length, get_or, set, sym, refl, ap, ◌∙◌, subst, arith}
+use Rattle.std.proofs.Common.{length-set, length-append, get_or-set_other, get_or-set_same, eq-eqb, ne_eqb}
 use mathlib.Core.Option.{some, some-injective, some-ne-none}
 use mathlib.Core.Logic.{dite}
 use native.Mathlib.Decide.{ℕ_discrete}
 use lib.ListN.{get_elem?}
 use Rattle.atomic_table.specs.Table.{State, keeps, opening, stepped}
 use Rattle.atomic_table.proofs.Lists.{at_set, at_snoc}
-use Rattle.gt_words.specs.History.{HasLedTo, History, IsOwners, Layout, PinsLast, Says, initial, left_by, part_of, place_of, up_to, word_after}
+use Rattle.gt_words.specs.History.{HasLedTo, History, IsOwners, Layout, PinsLast, Says, initial, left_by, part_of}
+use Rattle.gt_words.specs.History.{place_of, up_to, word_after}
 use Rattle.gt_words.specs.Places.{dealer_after, dealt_to, new_view}
 use Rattle.gt_words.specs.Views.{with_step}
 use Rattle.gt_words.specs.declared.view.SeatStep.{SeatStep}

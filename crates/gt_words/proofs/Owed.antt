@@ -1,5 +1,7 @@
 -- What each call owes the table before its step.
-use Rattle.std.proofs.Common.{inl, inr, ◌&&◌, nat_le, ◌≡◌, ◌≢◌, ℕ, ◌+◌, ◌-◌, ◌*◌, ◌/◌, ◌%◌, ◌^◌, ◌<◌, ◌≤◌, Bool, true, false, not, cond, ◌==◌, List, [], ◌∷◌, map, get_or, set, sym, refl, ap, ◌∙◌, subst, arith, eq-eqb, ne_eqb, get_or-set_other, get_or-set_same}
+use Rattle.std.proofs.Common.{inl, inr, ◌&&◌, nat_le, ◌≡◌, ◌≢◌, ℕ, ◌+◌, ◌-◌, ◌*◌, ◌/◌, ◌%◌, ◌^◌, ◌<◌, ◌≤◌, Bool, true}
+use Rattle.std.proofs.Common.{false, not, cond, ◌==◌, List, [], ◌∷◌, map, get_or, set, sym, refl, ap, ◌∙◌, subst, arith}
+use Rattle.std.proofs.Common.{eq-eqb, ne_eqb, get_or-set_other, get_or-set_same}
 use mathlib.Core.Option.{some, none}
 use mathlib.Core.Logic.{dite}
 use native.Mathlib.Decide.{ℕ_discrete}
@@ -17,20 +19,26 @@ use Rattle.gt_types.specs.declared.Dir.TheVariants.{Read, Write}
 use Rattle.gt_words.proofs.Happened.{takes}
 use Rattle.gt_words.proofs.Kept.{there_is}
 use Rattle.gt_words.proofs.Lifts.{added, inside, shows_step}
-use Rattle.gt_words.proofs.OneEntry.{entry_grants, entry_looks, entry_misses_change, entry_misses_pin, entry_pins, entry_revokes, entry_reads, entry_stores_first, entry_stores_second, entry_turns, entry_unpins, entry_withdraws, mine, pin_counted, pins_last, turned_domain, turned_low}
+use Rattle.gt_words.proofs.OneEntry.{entry_grants, entry_looks, entry_misses_change, entry_misses_pin, entry_pins}
+use Rattle.gt_words.proofs.OneEntry.{entry_revokes, entry_reads, entry_stores_first, entry_stores_second, entry_turns}
+use Rattle.gt_words.proofs.OneEntry.{entry_unpins, entry_withdraws, mine, pin_counted, pins_last, turned_domain}
+use Rattle.gt_words.proofs.OneEntry.{turned_low}
 use Rattle.gt_words.proofs.Records.{legal_record, spelled_parts}
 use Rattle.gt_words.proofs.Seeing.{saw_there}
 use Rattle.gt_words.specs.Conditions.{HasLooked, Holds, IsIdleOf, MayPin}
 use Rattle.gt_entry.specs.Permits.{is_copying}
 use Rattle.gt_types.specs.declared.DomId.{DomId}
 use Rattle.std.proofs.lemmas.Bool.{and_parts}
-use Rattle.gt_words.specs.Controls.{ForwardsPin, IsValid, PermitsPin, demoted_word, generation_of, invalid_word, pins_in, promoted_word, withdrawn_word}
+use Rattle.gt_words.specs.Controls.{ForwardsPin, IsValid, PermitsPin, demoted_word, generation_of, invalid_word}
+use Rattle.gt_words.specs.Controls.{pins_in, promoted_word, withdrawn_word}
 use Rattle.gt_words.specs.Events.{IsByOwner}
 use Rattle.gt_words.specs.History.{IsOfRecord, SaysFound, owner_steps, left_on_entry, place_of, word_on}
 use Rattle.gt_words.specs.Rule.{id_at, IsRecord, Layout, Shows, ShowsEntry, place, total_pins}
-use Rattle.gt_words.specs.Steps.{StepKind, TakesStep, changed, entry_kind, exchanging, half_index, half_of, looking, missed, on_entry, reading, storing, taken, tells, tells_stored, unpinning}
+use Rattle.gt_words.specs.Steps.{StepKind, TakesStep, changed, entry_kind, exchanging, half_index, half_of, looking}
+use Rattle.gt_words.specs.Steps.{missed, on_entry, reading, storing, taken, tells, tells_stored, unpinning}
 use Rattle.gt_words.specs.Sight.{SawRecord}
-use Rattle.gt_words.specs.Views.{earlier_records, invalid_at, last_of, last_record, last_seen, pins, record_seen, seen, steps_on, stored_body, with_step}
+use Rattle.gt_words.specs.Views.{earlier_records, invalid_at, last_of, last_record, last_seen, pins, record_seen, seen}
+use Rattle.gt_words.specs.Views.{steps_on, stored_body, with_step}
 use Rattle.gt_entry.specs.declared.change.Change.{Change}
 use Rattle.gt_words.specs.declared.view.EntryStep.{EntryStep}
 use Rattle.gt_words.specs.declared.view.EntryStep.TheVariants.{Changed, Looked, ReadBody, StoredBody, Unpinned}

@@ -1,5 +1,6 @@
 -- What the rule says of words by views, and of pins of records that the owner's list has gone on from.
-use Rattle.std.proofs.Common.{◌≡◌, ◌≢◌, inl, inr, ℕ, zero, suc, ◌+◌, ◌<◌, ◌≤◌, Bool, true, false, cond, nat_le, List, [], ◌∷◌, map, get_or, set, sym, refl, ap, ◌∙◌, subst, arith}
+use Rattle.std.proofs.Common.{◌≡◌, ◌≢◌, inl, inr, ℕ, zero, suc, ◌+◌, ◌<◌, ◌≤◌, Bool, true, false, cond, nat_le, List}
+use Rattle.std.proofs.Common.{[], ◌∷◌, map, get_or, set, sym, refl, ap, ◌∙◌, subst, arith}
 use Rattle.std.proofs.lemmas.Bool.Decides.{nat_tests}
 use mathlib.Core.Option.{some, some-injective, some-ne-none}
 use lib.ListN.{get_elem?}
@@ -14,7 +15,8 @@ use Rattle.gt_words.specs.Steps.{on_entry}
 use Rattle.gt_words.specs.Controls.{generation_of, pins_in}
 use Rattle.gt_words.specs.Laws.{PastPinsAreRefused, PinsLeftAreCounted, WordsFollowViews}
 use Rattle.gt_words.specs.Rule.{ShowsEntry, header_now, owner_steps, place, total_until}
-use Rattle.gt_words.specs.Views.{IsIn, LivePin, exchanged, last_record, pins, pins_until, steps_on, steps_on_header, weight}
+use Rattle.gt_words.specs.Views.{IsIn, LivePin, exchanged, last_record, pins, pins_until, steps_on, steps_on_header}
+use Rattle.gt_words.specs.Views.{weight}
 use Rattle.gt_words.specs.declared.view.EntryRecord.{EntryRecord}
 use Rattle.gt_words.specs.declared.view.EntryStep.{EntryStep}
 use Rattle.gt_words.specs.declared.view.EntryStep.TheVariants.{Pinned}

@@ -1,5 +1,7 @@
 -- What follows from the state that a step was taken in.
-use Rattle.std.proofs.Common.{◌≡◌, ◌≢◌, inl, inr, ℕ, ◌+◌, ◌-◌, ◌*◌, ◌%◌, ◌^◌, ◌<◌, ◌≤◌, Bool, true, false, not, cond, ◌==◌, List, [], ◌∷◌, map, get_or, sym, refl, ap, ◌∙◌, subst, arith, Option, Some, None, eq-eqb, ne_eqb}
+use Rattle.std.proofs.Common.{◌≡◌, ◌≢◌, inl, inr, ℕ, ◌+◌, ◌-◌, ◌*◌, ◌%◌, ◌^◌, ◌<◌, ◌≤◌, Bool, true, false, not, cond}
+use Rattle.std.proofs.Common.{◌==◌, List, [], ◌∷◌, map, get_or, sym, refl, ap, ◌∙◌, subst, arith, Option, Some, None}
+use Rattle.std.proofs.Common.{eq-eqb, ne_eqb}
 use mathlib.Core.Option.{some}
 use mathlib.Core.Logic.{dite}
 use native.Mathlib.Decide.{ℕ_discrete}
@@ -15,7 +17,9 @@ use Rattle.gt_entry.specs.declared.entry.Entry.{Entry}
 use Rattle.gt_entry.specs.declared.entry.Entry.TheVariants.{Invalid, Page, Sub, Via}
 use Rattle.gt_types.specs.declared.Dir.{Dir}
 use Rattle.gt_types.specs.declared.Dir.TheVariants.{Read, Write}
-use Rattle.gt_words.proofs.Kept.{AreAlike, body_generation, given_less, given_records, keeps, keeps_header, keeps_others, keeps_pins, keeps_rows, sees_no_earlier, some_more, taken_more, taken_records, there_is}
+use Rattle.gt_words.proofs.Kept.{AreAlike, body_generation, given_less, given_records, keeps, keeps_header}
+use Rattle.gt_words.proofs.Kept.{keeps_others, keeps_pins, keeps_rows, sees_no_earlier, some_more, taken_more}
+use Rattle.gt_words.proofs.Kept.{taken_records, there_is}
 use Rattle.gt_words.proofs.Happened.{held_there}
 use Rattle.gt_words.proofs.Lifts.{inside, owner_made, steps_on-added, steps_on-added-else}
 use Rattle.gt_words.proofs.OneEntry.{count_in, held_at, idle_held, mine}
@@ -25,16 +29,26 @@ use Rattle.gt_words.specs.Laws.{bounded, one_record}
 use Rattle.gt_words.proofs.Records.{legal_record, listed_record, spelled_control, spelled_parts}
 use Rattle.gt_words.proofs.Seeing.{saw_there}
 use Rattle.gt_words.proofs.Looking.{seen_is_last}
-use Rattle.gt_words.specs.Conditions.{AddsToEntry, Changes, CountsPins, Demotes, HasLooked, HasNoPins, HasNoWritePins, Holds, IsBusyOf, IsIdleOf, IsNotEarlier, IsWordOf, LooksAtBody, LooksAtControl, MayPin, MissesBusy, MissesChange, MissesPin, Pins, Publishes, Revokes, StepsOnControl, StoresBody, Unpins}
+use Rattle.gt_words.specs.Answers.{AddsToEntry, Changes, Demotes}
+use Rattle.gt_words.specs.Conditions.{CountsPins, HasLooked, HasNoPins, HasNoWritePins}
+use Rattle.gt_words.specs.Conditions.{Holds, IsBusyOf, IsIdleOf, IsNotEarlier, IsWordOf}
+use Rattle.gt_words.specs.Answers.{LooksAtBody, LooksAtControl}
+use Rattle.gt_words.specs.Conditions.{MayPin}
+use Rattle.gt_words.specs.Answers.{MissesBusy, MissesChange, MissesPin, Pins, Publishes, Revokes}
+use Rattle.gt_words.specs.Answers.{StepsOnControl, StoresBody, Unpins}
 use Rattle.gt_words.specs.Controls.{IsTurnable, IsValid, generation_of, pins_in}
 use Rattle.gt_words.specs.History.{History, part_of}
 use Rattle.gt_words.specs.Rule.{IsRecord, Layout, ShowsEntry, ShowsRecord, Stands, owner_steps, place, total_pins}
 use Rattle.gt_words.specs.Sight.{SawRecord}
-use Rattle.gt_words.specs.Steps.{TakesStep, changed, changed_word, exchanging, half_index, half_of, missed, on_entry, taken}
-use Rattle.gt_words.specs.Views.{IsIn, LivePin, Seen, earlier_records, entry_steps, is_half, last_of, last_record, last_seen, own, own_body, pin_count, pins, record_seen, seen, steps_on, steps_on_header, stored_body, with_step}
+use Rattle.gt_words.specs.Steps.{TakesStep, changed, changed_word, exchanging, half_index, half_of, missed, on_entry}
+use Rattle.gt_words.specs.Steps.{taken}
+use Rattle.gt_words.specs.Views.{IsIn, LivePin, Seen, earlier_records, entry_steps, is_half, last_of, last_record}
+use Rattle.gt_words.specs.Views.{last_seen, own, own_body, pin_count, pins, record_seen, seen, steps_on}
+use Rattle.gt_words.specs.Views.{steps_on_header, stored_body, with_step}
 use Rattle.gt_entry.specs.declared.change.Change.{Change}
 use Rattle.gt_words.specs.declared.view.EntryStep.{EntryStep}
-use Rattle.gt_words.specs.declared.view.EntryStep.TheVariants.{ChangeMissed, Changed, Looked, PinMissed, Pinned, ReadBody, StoredBody, Unpinned}
+use Rattle.gt_words.specs.declared.view.EntryStep.TheVariants.{ChangeMissed, Changed, Looked, PinMissed, Pinned}
+use Rattle.gt_words.specs.declared.view.EntryStep.TheVariants.{ReadBody, StoredBody, Unpinned}
 use Rattle.gt_entry.specs.declared.change.Half.{Half}
 use Rattle.gt_entry.specs.declared.change.Half.TheVariants.{First, Second}
 use Rattle.gt_words.specs.declared.view.Purpose.{Purpose}

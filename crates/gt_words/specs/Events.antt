@@ -1,5 +1,6 @@
 -- What each event of the core makes of the state that a history of steps makes.
-use Rattle.std.specs.Prelude.{◌≡◌, ℕ, zero, suc, cond, ◌==◌, ◌&&◌, List, [], ◌∷◌, map, slice_index, slice_index_or, slice_set}
+use Rattle.std.specs.Prelude.{◌≡◌, ℕ, zero, suc, cond, ◌==◌, ◌&&◌, List, [], ◌∷◌, map, slice_index, slice_index_or}
+use Rattle.std.specs.Prelude.{slice_set}
 use Rattle.atomic_table.specs.Table.{State}
 use Rattle.gt_entry.specs.declared.change.Half.TheVariants.{First, Second}
 use Rattle.gt_words.specs.declared.view.EntryRecord.{EntryRecord}
@@ -13,7 +14,8 @@ use Rattle.gt_words.specs.declared.view.SeatStep.TheVariants.{Entry, Header}
 use Rattle.gt_words.specs.declared.view.View.{View}
 use Rattle.gt_words.specs.Views.{LivePin, pins, without_pin, last_record, stored_body, steps_on, steps_on_header}
 use Rattle.gt_words.specs.Views.{entry_steps, header_steps, stored_header}
-use Rattle.gt_words.specs.History.{EntryState, History, Moment, PinsLast, Says, entry_made, header_made, place_of, word_after}
+use Rattle.gt_words.specs.History.{EntryState, History, Moment, PinsLast, Says, entry_made, header_made, place_of}
+use Rattle.gt_words.specs.History.{word_after}
 pub use Rattle.gt_words.specs.History.{HeaderByOwner, IsByOwner}
 use Rattle.gt_words.specs.Rule.{Layout, Stands}
 

@@ -2,25 +2,12 @@
 -- came last.
 use Rattle.std.specs.Prelude.{◌≡◌, ◌≢◌, ℕ, ◌+◌, ◌-◌, ◌*◌, ◌/◌, ◌%◌, ◌^◌, ◌<◌, ◌≤◌, cond, ◌==◌, List, [], ◌∷◌, length}
 use Rattle.std.specs.Prelude.{map, slice_index, slice_index_or, suc, zero}
-use mathlib.Core.Option.{some}
-use lib.ListN.{get_elem?}
-use Rattle.atomic_table.specs.Table.{State}
-use Rattle.gt_entry.specs.Words.{unit_of}
-use Rattle.gt_entry.specs.declared.change.Half.{Half}
-use Rattle.gt_entry.specs.declared.change.Half.TheVariants.{First, Second}
-use Rattle.gt_types.specs.declared.DomId.{DomId}
-use Rattle.gt_words.specs.declared.view.EntryStep.{EntryStep}
-use Rattle.gt_words.specs.declared.view.EntryStep.TheVariants.{Looked, ReadBody, Pinned, PinMissed, Unpinned}
-use Rattle.gt_words.specs.declared.view.EntryStep.TheVariants.{StoredBody, Changed, ChangeMissed}
-use Rattle.gt_words.specs.declared.view.HeaderStep.{HeaderStep}
+use Rattle.gt_words.specs.Prelude.{some, get_elem?, State, unit_of, Half, First, Second, DomId, EntryStep, Looked}
+use Rattle.gt_words.specs.Prelude.{ReadBody, Pinned, PinMissed, Unpinned, StoredBody, Changed, ChangeMissed, HeaderStep}
+use Rattle.gt_words.specs.Prelude.{SeatStep, View, EntryRecord, Invalid, DOMAIN_WORDS, ENTRY_WORDS}
 use Rattle.gt_words.specs.declared.view.HeaderStep.TheVariants as header
-use Rattle.gt_words.specs.declared.view.SeatStep.{SeatStep}
 use Rattle.gt_words.specs.declared.view.SeatStep.TheVariants.{Entry, Header}
-use Rattle.gt_words.specs.declared.view.View.{View}
-use Rattle.gt_words.specs.declared.view.EntryRecord.{EntryRecord}
-use Rattle.gt_entry.specs.declared.entry.Entry.TheVariants.{Invalid}
 use Rattle.gt_words.specs.Views.{LivePin, entry_steps, header_steps, last_record, pins, stored_body, stored_header}
-use Rattle.gt_words.specs.declared.word_table.TheConstants.{DOMAIN_WORDS, ENTRY_WORDS}
 
 -- the run as the words need it: the domains in order, their number, the first
 -- generation of all entries, and the first header of each domain

@@ -1,40 +1,23 @@
 -- What follows from the definitions, for callers.
-use Rattle.std.specs.Prelude.{◌≡◌, ◌≢◌, ◌⊎◌, ℕ, ◌+◌, ◌*◌, ◌<◌, ◌≤◌, AllPairs, ◌==◌, not, cond, Bool, true, false, List, [], ◌∷◌, ◌++◌}
-use Rattle.std.specs.Prelude.{map, length, zero, suc, Option, Some, None, position, unwrap_or, nat_lt, IsSome}
-use Rattle.std.specs.Prelude.{slice_index}
-use Rattle.std.proofs.Common.{arith, inl, inr, ⊎_elim, get_or, eq-eqb, ne_eqb, refl, sym, ap, ◌∙◌, subst}
-use Rattle.std.specs.List.{position_or_len}
-use Rattle.std.proofs.lemmas.Bool.{lt-ltb}
-use Rattle.std.proofs.lemmas.Bool.Decides.{nat_tests}
-use Rattle.std.proofs.lemmas.List.Quantifiers.{position-Some}
-use mathlib.Core.Option.{some}
-use lib.ListN.{get_elem?}
-use Rattle.atomic_table.specs.Table.{Allows, Me, State, keeps, stepped}
-use Rattle.atomic_table.proofs.Lists.{at_map}
-use Rattle.gt_entry.specs.declared.entry.Entry.{Entry}
-use Rattle.gt_entry.specs.declared.entry.Entry.TheVariants.{Invalid}
-use Rattle.gt_types.specs.Config.{IsWithinLimits}
-use Rattle.gt_types.specs.Names.{domain_of}
-use Rattle.gt_types.specs.declared.DomId.{DomId}
-use Rattle.gt_types.specs.declared.config.Config.{Config}
-use Rattle.gt_types.specs.declared.config.DomainConfig.{DomainConfig}
-use Rattle.gt_types.specs.declared.limits.TheConstants.{TABLE_ENTRIES}
-use Rattle.gt_words.specs.Conditions.{Board, HasDomain, IsSeatOf, Publishes, Revokes, SeatOf, position_at}
+use Rattle.std.specs.Prelude.{◌≡◌, ◌≢◌, ◌⊎◌, ℕ, ◌+◌, ◌*◌, ◌<◌, ◌≤◌, AllPairs, ◌==◌, not, cond, Bool, true, false, List}
+use Rattle.std.specs.Prelude.{[], ◌∷◌, ◌++◌, map, length, zero, suc, Option, Some, None, position, unwrap_or, nat_lt}
+use Rattle.std.specs.Prelude.{IsSome, slice_index}
+use Rattle.gt_words.specs.Prelude.{arith, inl, inr, ⊎_elim, get_or, eq-eqb, ne_eqb, refl, sym, ap, ◌∙◌, subst}
+use Rattle.gt_words.specs.Prelude.{position_or_len, lt-ltb, nat_tests, position-Some, some, get_elem?, Allows, Me}
+use Rattle.gt_words.specs.Prelude.{State, keeps, stepped, at_map, Entry, Invalid, IsWithinLimits, domain_of, DomId}
+use Rattle.gt_words.specs.Prelude.{Config, DomainConfig, TABLE_ENTRIES, Dir, EntryRecord, EntryStep, Pinned, SeatStep}
+use Rattle.gt_words.specs.Prelude.{View, DOMAIN_WORDS}
+use Rattle.gt_words.specs.Conditions.{Board, HasDomain, IsSeatOf, SeatOf, position_at}
+use Rattle.gt_words.specs.Answers.{Publishes, Revokes}
 use Rattle.gt_words.specs.Controls.{generation_of, pins_in}
 use Rattle.gt_words.specs.Events.{TookPlace}
 use Rattle.gt_words.specs.History.{History, IsOwners, PinsLast, Says, place_of}
-use Rattle.gt_words.specs.Rule.{IsLawful, IsNextEntry, IsRevocation, Layout, Shows, Stands, header_place, id_at, layout_of}
-use Rattle.gt_words.specs.Rule.{owner_steps, place, position_in, total_until}
+use Rattle.gt_words.specs.Rule.{IsLawful, IsNextEntry, IsRevocation, Layout, Shows, Stands, header_place, id_at}
+use Rattle.gt_words.specs.Rule.{layout_of, owner_steps, place, position_in, total_until}
 use Rattle.gt_words.specs.Sight.{SawRecord}
 use Rattle.gt_words.specs.Steps.{on_entry}
-use Rattle.gt_words.specs.Views.{IsIn, LivePin, earlier_records, exchanged, last_of, last_record, pins, seen, steps_on, with_step}
-use Rattle.gt_types.specs.declared.Dir.{Dir}
-use Rattle.gt_words.specs.declared.view.EntryRecord.{EntryRecord}
-use Rattle.gt_words.specs.declared.view.EntryStep.{EntryStep}
-use Rattle.gt_words.specs.declared.view.EntryStep.TheVariants.{Pinned}
-use Rattle.gt_words.specs.declared.view.SeatStep.{SeatStep}
-use Rattle.gt_words.specs.declared.view.View.{View}
-use Rattle.gt_words.specs.declared.word_table.TheConstants.{DOMAIN_WORDS}
+use Rattle.gt_words.specs.Views.{IsIn, LivePin, earlier_records, exchanged, last_of, last_record, pins, seen, steps_on}
+use Rattle.gt_words.specs.Views.{with_step}
 
 -- a domain is one of the run exactly if the configuration has it
 abbrev pub DomainsAreOfRun : Type 0

@@ -6,6 +6,8 @@ pub mod Rule
 pub mod Events
 pub mod Steps
 pub mod Keeping
+pub mod Answers
 pub mod Conditions
 pub mod Places
 pub mod Laws
+pub mod Prelude

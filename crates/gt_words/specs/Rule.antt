@@ -1,32 +1,15 @@
 -- The rule of the table: between any two steps words and views show a state of the core.
 use Rattle.std.specs.Prelude.{◌≡◌, ◌≢◌, ◌⊎◌, ℕ, ◌+◌, ◌*◌, ◌<◌, ◌≤◌, true, not, ◌==◌, List, [], ◌∷◌, map, length}
 use Rattle.std.specs.Prelude.{slice_index, slice_index_or, position, unwrap_or}
-use mathlib.Core.Option.{some}
-use lib.ListN.{get_elem?}
-use Rattle.atomic_table.specs.Table.{State}
-use Rattle.gt_entry.specs.Entries.{IsEntry, is_read_only, with_ro}
-use Rattle.gt_entry.specs.Spelling.{IsSpelled, word_of}
-use Rattle.gt_entry.specs.Words.{header_word}
-use Rattle.gt_entry.specs.declared.header.Header.{Header}
-use Rattle.gt_entry.specs.declared.entry.Entry.{Entry}
-use Rattle.gt_entry.specs.declared.entry.Entry.TheVariants.{Invalid, Page, Sub, Via}
-use Rattle.gt_types.specs.declared.Dir.{Dir}
-use Rattle.gt_types.specs.declared.Dir.TheVariants.{Read, Write}
-use Rattle.gt_types.specs.declared.DomId.{DomId}
-use Rattle.gt_types.specs.declared.config.Config.{Config}
-use Rattle.gt_types.specs.declared.config.DomainConfig.{DomainConfig}
-use Rattle.gt_types.specs.declared.limits.TheConstants.{MAX_TABLE_FRAMES, TABLE_ENTRIES}
-use Rattle.gt_words.specs.declared.word_table.TheConstants.{DOMAIN_WORDS}
+use Rattle.gt_words.specs.Prelude.{some, get_elem?, State, IsEntry, is_read_only, with_ro, IsSpelled, word_of}
+use Rattle.gt_words.specs.Prelude.{header_word, Header, Entry, Invalid, Page, Sub, Via, Dir, Read, Write, DomId, Config}
+use Rattle.gt_words.specs.Prelude.{DomainConfig, MAX_TABLE_FRAMES, TABLE_ENTRIES, DOMAIN_WORDS, EntryStep, First}
+use Rattle.gt_words.specs.Prelude.{Second, HeaderStep, EntryRecord, View}
 use Rattle.gt_words.specs.Controls.{generation_of, pins_in}
 use Rattle.gt_words.specs.History.{HasLedTo, History}
 pub use Rattle.gt_words.specs.History.{Layout, header_place, initial, owner_steps, place}
-use Rattle.gt_words.specs.Views.{IsIn, LivePin, earlier_records, exchanged, last_record, pin_count, pins}
-use Rattle.gt_words.specs.Views.{pins_until, steps_on, steps_on_header, stored_body, stored_header}
-use Rattle.gt_words.specs.declared.view.EntryStep.{EntryStep}
-use Rattle.gt_entry.specs.declared.change.Half.TheVariants.{First, Second}
-use Rattle.gt_words.specs.declared.view.HeaderStep.{HeaderStep}
-use Rattle.gt_words.specs.declared.view.EntryRecord.{EntryRecord}
-use Rattle.gt_words.specs.declared.view.View.{View}
+use Rattle.gt_words.specs.Views.{IsIn, LivePin, earlier_records, exchanged, last_record, pin_count, pins, pins_until}
+use Rattle.gt_words.specs.Views.{steps_on, steps_on_header, stored_body, stored_header}
 
 -- the header of a domain at the start
 abbrev pub first_header : DomainConfig → Header

@@ -1,30 +1,15 @@
 -- One atomic step: what it adds to its seat's view, and the state that it was taken in.
 use Rattle.std.specs.Prelude.{◌≡◌, ℕ, ◌+◌, ◌-◌, ◌%◌, ◌^◌, cond, ◌==◌, ◌∷◌}
-use mathlib.Core.Option.{some}
-use lib.ListN.{get_elem?}
-use prog.Atomic.{either}
-use Rattle.atomic_table.specs.Table.{State, Me, Step as TableStep}
-use Rattle.gt_entry.specs.Changes.{changed_entry, raise_of}
-use Rattle.gt_entry.specs.Spelling.{idle_word_of}
-use Rattle.gt_entry.specs.Words.{unit_of}
-use Rattle.gt_entry.specs.declared.change.Change.{Change}
-use Rattle.gt_types.specs.declared.Dir.{Dir}
+use Rattle.gt_words.specs.Prelude.{some, get_elem?, either, State, Me, TableStep, changed_entry, raise_of, idle_word_of}
+use Rattle.gt_words.specs.Prelude.{unit_of, Change, Dir, EntryStep, ChangeMissed, Changed, Looked, PinMissed, Pinned}
+use Rattle.gt_words.specs.Prelude.{ReadBody, StoredBody, Unpinned, Half, First, Second, HeaderStep, Purpose}
+use Rattle.gt_words.specs.Prelude.{EntryRecord, SeatStep, View}
 use Rattle.gt_words.specs.Controls.{demoted_word, invalid_word, promoted_word, withdrawn_word}
 use Rattle.gt_words.specs.Events.{Happens}
 use Rattle.gt_words.specs.History.{History, PinsLast, Says, word_after}
 pub use Rattle.gt_words.specs.History.{half_index}
 use Rattle.gt_words.specs.Rule.{HasStood, Layout, Stands}
 use Rattle.gt_words.specs.Views.{last_of, last_seen, record_seen, with_step}
-use Rattle.gt_words.specs.declared.view.EntryStep.{EntryStep}
-use Rattle.gt_words.specs.declared.view.EntryStep.TheVariants.{ChangeMissed, Changed, Looked, PinMissed, Pinned}
-use Rattle.gt_words.specs.declared.view.EntryStep.TheVariants.{ReadBody, StoredBody, Unpinned}
-use Rattle.gt_entry.specs.declared.change.Half.{Half}
-use Rattle.gt_entry.specs.declared.change.Half.TheVariants.{First, Second}
-use Rattle.gt_words.specs.declared.view.HeaderStep.{HeaderStep}
-use Rattle.gt_words.specs.declared.view.Purpose.{Purpose}
-use Rattle.gt_words.specs.declared.view.EntryRecord.{EntryRecord}
-use Rattle.gt_words.specs.declared.view.SeatStep.{SeatStep}
-use Rattle.gt_words.specs.declared.view.View.{View}
 use Rattle.gt_entry.specs.declared.change.Change.TheVariants as change
 use Rattle.gt_words.specs.declared.view.Purpose.TheVariants as purpose
 use Rattle.gt_words.specs.declared.view.HeaderStep.TheVariants as header

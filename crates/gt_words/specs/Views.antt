@@ -1,24 +1,12 @@
 -- What follows from the steps of one seat. Lists begin with what came last.
 use Rattle.std.specs.Prelude.{◌≡◌, ◌⊎◌, ℕ, ◌+◌, Bool, true, false, cond, IsSome, ◌==◌, ◌&&◌, List, [], ◌∷◌, Option}
 use Rattle.std.specs.Prelude.{Some, None, slice_index, count_by, nat_le}
-use Rattle.gt_types.specs.declared.Dir.{Dir}
-use Rattle.gt_types.specs.declared.Dir.TheVariants.{Read, Write}
+use Rattle.gt_words.specs.Prelude.{Dir, Read, Write, Half, First, Second, EntryRecord, EntryStep, Looked, ReadBody}
+use Rattle.gt_words.specs.Prelude.{Pinned, PinMissed, Unpinned, StoredBody, Changed, ChangeMissed, HeaderStep, SeatStep}
+use Rattle.gt_words.specs.Prelude.{View, KindSub, entry_of, control_of, header_of, kind_of, TableHeader}
 use Rattle.gt_entry.specs.declared.entry.Entry.TheVariants as entries
-use Rattle.gt_entry.specs.declared.change.Half.{Half}
-use Rattle.gt_entry.specs.declared.change.Half.TheVariants.{First, Second}
-use Rattle.gt_words.specs.declared.view.EntryRecord.{EntryRecord}
-use Rattle.gt_words.specs.declared.view.EntryStep.{EntryStep}
-use Rattle.gt_words.specs.declared.view.EntryStep.TheVariants.{Looked, ReadBody, Pinned, PinMissed, Unpinned}
-use Rattle.gt_words.specs.declared.view.EntryStep.TheVariants.{StoredBody, Changed, ChangeMissed}
-use Rattle.gt_words.specs.declared.view.HeaderStep.{HeaderStep}
 use Rattle.gt_words.specs.declared.view.HeaderStep.TheVariants as header
-use Rattle.gt_words.specs.declared.view.SeatStep.{SeatStep}
 use Rattle.gt_words.specs.declared.view.SeatStep.TheVariants.{Entry, Header}
-use Rattle.gt_words.specs.declared.view.View.{View}
-use Rattle.gt_entry.specs.declared.control.Kind.TheVariants.{Sub as KindSub}
-use Rattle.gt_entry.specs.Spelling.{entry_of}
-use Rattle.gt_entry.specs.Words.{control_of, header_of, kind_of}
-use Rattle.gt_entry.specs.declared.header.Header.{Header as TableHeader}
 use Rattle.gt_words.specs.Controls.{generation_of}
 
 -- a is in the list

@@ -2,7 +2,8 @@
 ghost use Rattle.std.specs.Prelude.{◌≡◌, ℕ, ◌*◌, ◌%◌, ◌<◌, ◌≤◌, length, slice_index, slice_get, Some, IfOk, HoldsAt};
 ghost use Rattle.gt_types.specs.Config.{IsWithinLimits};
 ghost use Rattle.gt_words.specs.Rule.{layout_of, first_header};
-ghost use Rattle.gt_words.specs.Conditions.{Board, IsNewSeat, initial};
+ghost use Rattle.gt_words.specs.Conditions.{Board, initial};
+ghost use Rattle.gt_words.specs.Answers.{IsNewSeat};
 ghost use Rattle.gt_words.specs.Places.{IsNewPlace, dealer_after, dealt_to};
 
 use crate::view::View;

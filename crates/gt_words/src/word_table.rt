@@ -10,10 +10,12 @@ ghost use Rattle.gt_words.specs.Controls.{IsTurnable, generation_of, turned_word
 ghost use Rattle.gt_words.specs.Views.{last_of};
 ghost use Rattle.gt_words.specs.Rule.{Shows, layout_of, place, header_place, IsKeptHeader};
 ghost use Rattle.gt_words.specs.Steps.{StepKind, tells, tells_stored, looking, half_index};
-ghost use Rattle.gt_words.specs.Conditions.{CanDemote, CanPin, CanPublish, CanRevoke, CanTurn, CanWithdraw, Changes};
-ghost use Rattle.gt_words.specs.Conditions.{CountsPins, Demotes, Holds, IsWide, IsWordOf, LooksAtBody, LooksAtControl};
-ghost use Rattle.gt_words.specs.Conditions.{LooksAtHeader, MissesBusy, MissesChange, MissesPin, Pins, Publishes};
-ghost use Rattle.gt_words.specs.Conditions.{Revokes, StoresBody, StoresHeader, Unpins};
+ghost use Rattle.gt_words.specs.Conditions.{CanDemote, CanPin, CanPublish, CanRevoke, CanTurn, CanWithdraw};
+ghost use Rattle.gt_words.specs.Answers.{Changes};
+ghost use Rattle.gt_words.specs.Conditions.{CountsPins, Holds, IsWide, IsWordOf};
+ghost use Rattle.gt_words.specs.Answers.{Demotes, LooksAtBody, LooksAtControl};
+ghost use Rattle.gt_words.specs.Answers.{LooksAtHeader, MissesBusy, MissesChange, MissesPin, Pins, Publishes};
+ghost use Rattle.gt_words.specs.Answers.{Revokes, StoresBody, StoresHeader, Unpins};
 ghost use Rattle.gt_words.specs.Places.{new_view, IsSamePlace};
 
 use crate::view::{Purpose, View};

@@ -7,12 +7,13 @@ ghost use Rattle.gt_entry.specs.Entries.{IsEntry};
 ghost use Rattle.gt_words.specs.Controls.{generation_of};
 ghost use Rattle.gt_words.specs.Views.{own_header, own_table, last_of};
 ghost use Rattle.gt_words.specs.Rule.{layout_of, position_in, IsKeptHeader};
-ghost use Rattle.gt_words.specs.Conditions.{Board, SeatOf, IsSeatOf, IsSameSeat, IsNewSeat, IsStartFault, HasDomain};
+ghost use Rattle.gt_words.specs.Conditions.{Board, SeatOf, IsSeatOf, IsSameSeat, HasDomain};
+ghost use Rattle.gt_words.specs.Answers.{IsNewSeat, IsStartFault};
 ghost use Rattle.gt_words.specs.Conditions.{IsEntryOf, position_at, with_version, with_frames, IsWordOf, Holds};
 ghost use Rattle.gt_words.specs.Conditions.{CanPin, CanPublish, CanRevoke, CanWithdraw, CanDemote, CanTurn, CountsPins};
-ghost use Rattle.gt_words.specs.Conditions.{LooksAtHeader, LooksAtControl, LooksAtBody, StoresBody, StoresHeader};
-ghost use Rattle.gt_words.specs.Conditions.{UnpinsPin, Pins, MissesPin, Changes, MissesChange, MissesBusy, Revokes};
-ghost use Rattle.gt_words.specs.Conditions.{Demotes, Publishes};
+ghost use Rattle.gt_words.specs.Answers.{LooksAtHeader, LooksAtControl, LooksAtBody, StoresBody, StoresHeader};
+ghost use Rattle.gt_words.specs.Answers.{UnpinsPin, Pins, MissesPin, Changes, MissesChange, MissesBusy, Revokes};
+ghost use Rattle.gt_words.specs.Answers.{Demotes, Publishes};
 
 use crate::start::{deal_seats, first_words};
 use crate::word_table::{TableSeat, WordTable};

@@ -3,7 +3,8 @@ use Rattle.std.proofs.Common.{◌≡◌, ℕ, ◌+◌, ◌<◌, ◌==◌, ◌&&�
 use Rattle.gt_types.specs.declared.DomId.{DomId}
 use Rattle.gt_types.specs.declared.GrantRef.{GrantRef}
 use Rattle.gt_types.specs.declared.Dir.TheVariants.{Read}
-use Rattle.gt_words.specs.Conditions.{Board, Holds, HoldsOneMore, KeepsPins, UnpinsPin, position_at}
+use Rattle.gt_words.specs.Conditions.{Board, Holds, HoldsOneMore, KeepsPins, position_at}
+use Rattle.gt_words.specs.Answers.{UnpinsPin}
 use Rattle.gt_words.specs.Controls.{generation_of}
 use Rattle.gt_words.specs.Keeping.{held, is_pin_of}
 use Rattle.gt_words.specs.Views.{LivePin, pins_like}

@@ -1,8 +1,20 @@
 -- What an access to bytes rests on: it is inside a frame, and justified.
-use Rattle.gt_core.proofs.Words.{◌≡◌, ◌≢◌, ◌≤◌, ◌<◌, ◌+◌, ◌⊎◌, inl, inr, ℕ, suc, refl, Bool, true, List, [], ◌∷◌, Some, None, sym, ap, ◌∙◌, arith, subst, reverse, eqb-true, none-some, same_Some, Any, resolved, DomId, Dir, Read, Write, ForMap, ForCopy, FRAME_SIZE, Entry, frame_of, permits, forwards, Handle, Held, Route, Direct, Through, Pins, End, Asked, Load, Store, Peek, Poke, Copy, Holder, ByMapping, Place, ReadBytes, WriteBytes, last_first, CallerKnowledge, begun, frames_of, via_judged, rights_to_copy, is_source_granted, is_dest_granted, source_pair, dest_pair, opens, RestsOnRequest, RestsOnWays, IsReached, LeadsTo, State, History, Setting, Pin, live, known_at, legs_at, mappings_at, mapping_of, gather, by_mapping, by_leg, same_handle, IsInFrame, CopyIsJustified, Justified, IsLawful, IsLawfullyHeld, DomainsStand, numbered, owner_by, IsAllowed, IsMapped, IsPermitted, Reaches, Forwards, MayCopy, MayUseMapping, MayAsk, EndIsJustified, cond_both}
-use Rattle.gt_core.proofs.{Phases.none-of, Steps.Observers.IsKeyed, Steps.Observers.mapping-keyed, Steps.Observers.leg-keyed}
+use Rattle.gt_core.proofs.Words.{◌≡◌, ◌≢◌, ◌≤◌, ◌<◌, ◌+◌, ◌⊎◌, inl, inr, ℕ, suc, refl, Bool, true, List, [], ◌∷◌, Some}
+use Rattle.gt_core.proofs.Words.{None, sym, ap, ◌∙◌, arith, subst, reverse, eqb-true, none-some, same_Some, Any}
+use Rattle.gt_core.proofs.Words.{resolved, DomId, Dir, Read, Write, ForMap, ForCopy, FRAME_SIZE, Entry, frame_of}
+use Rattle.gt_core.proofs.Words.{permits, forwards, Handle, Held, Route, Direct, Through, Pins, End, Asked, Load, Store}
+use Rattle.gt_core.proofs.Words.{Peek, Poke, Copy, Holder, ByMapping, Place, ReadBytes, WriteBytes, last_first}
+use Rattle.gt_core.proofs.Words.{CallerKnowledge, begun, frames_of, via_judged, rights_to_copy, is_source_granted}
+use Rattle.gt_core.proofs.Words.{is_dest_granted, source_pair, dest_pair, opens, RestsOnRequest, RestsOnWays, IsReached}
+use Rattle.gt_core.proofs.Words.{LeadsTo, State, History, Setting, Pin, live, known_at, legs_at, mappings_at}
+use Rattle.gt_core.proofs.Words.{mapping_of, gather, by_mapping, by_leg, same_handle, IsInFrame, CopyIsJustified}
+use Rattle.gt_core.proofs.Words.{Justified, IsLawful, IsLawfullyHeld, DomainsStand, numbered, owner_by, IsAllowed}
+use Rattle.gt_core.proofs.Words.{IsMapped, IsPermitted, Reaches, Forwards, MayCopy, MayUseMapping, MayAsk}
+use Rattle.gt_core.proofs.Words.{EndIsJustified, cond_both}
+use Rattle.gt_core.proofs.{Phases.none-of, Steps.Observers.IsKeyed, Steps.Observers.mapping-keyed}
+use Rattle.gt_core.proofs.{Steps.Observers.leg-keyed}
 use Rattle.gt_calls.specs.{declared.held.Route.TheVariants.Own, Path.place_of}
-use Rattle.gt_core.{specs.Legal.AccessIsJustified, specs.Standing.LetsUse}
+use Rattle.gt_core.{specs.Justified.AccessIsJustified, specs.Standing.LetsUse}
 
 -- pins among those that a domain's give
 

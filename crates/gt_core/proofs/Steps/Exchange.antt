@@ -1,7 +1,32 @@
 -- An owner's exchange: it keeps what a core stands for. What it rests on, which rule it meets, and where it leads its
 -- call.
-use Rattle.gt_core.proofs.Words.{◌≡◌, ◌≢◌, ◌<◌, ◌≤◌, ◌+◌, ℕ, refl, Bool, true, List, ◌∷◌, length, Option, Some, None, cond, sym, ap, ◌∙◌, arith, subst, get_or, eqb-true, none-some, slice_get-get_or, option_map, ◌==◌, All, slice_get, fun_ext, DomId, GrantRef, TABLE_ENTRIES, LAST_GENERATION, Entry, Invalid, Change, Publish, IsEntry, Own, Open, Item, Answer, entry_in, generation_in, row_entry, row_generation, changed_at, State, state_of, changed_in, with_own, own_after, History, Setting, Pin, live, entry_at, raises_at, raise_of, generation_at, open_call, change_of, entry_after, raise_after, one_if_mapped, IsSafeChange, IsLawful, FitsTable, Agrees, DomainsStand, CallAgrees, GivenAgrees, gather, by_mapping, first, false, inl, suc, zero, ◌-◌, cond_both, eq-eqb, false≢true, lt-leb, lt-ltb, ltb-false, ltb-true, nat_le, nat_lt, Read, Write, N18, N19, MAX_TRIES, is_invalid, control_of, control_word, ToReadOnly, ToWritable, ToInvalid, ToWithdrawn, FirstHalf, SecondHalf, last_first, no_pins, action_at, phase_after, refused_as, opens, Continuation, idle_word, path, RestsOnWord, CallerKnowledge, begun, control_with, size_of, stands, HasShown, IsQuiet, IsTurn, Makes, Seen, Missed, Taken, Step, Exchange, Granted, Phase, Changing, Ending, Exchanging, Last, Looking, Walking, MORE_TRIES, Asked, Demote, Grant, Promote, Revoke, Withdraw, known_at, reads_at, seen_by, word_at, writes_at, IsSpelled, StepsSoFar, at_entry, first_at, FitsAsked, PhaseStands, phase_refusal, body_at, table_at, misses, IsLegalHistory}
-use Rattle.gt_core.proofs.{Steps.Observers.unstored, Steps.Observers.answered-stays, Steps.Observers.kept-table, Keeping.SlotsAgree, Keeping.same-number, Keeping.counts-fit, Rows.get-changed, Rows.length-changed, Mappings.mappings-same, Keeping.slots-kept, Keeping.Facts, Keeping.facts_at, Keeping.Fits, Keeping.facts-fit, Keeping.each-stays, Keeping.all-stand, Keeping.own-changed, Steps.Observers.exchanged, Steps.Observers.exchanged-entry, Steps.Observers.exchanged-raises, Steps.Observers.exchanged-live, Phases.none-of, Phases.IsHere, Phases.makes-same, Phases.by-leg, Phases.by-giving, Phases.Judged, Phases.Leads, Legs.late-last, Legs.late-more, Legs.control-parts, Steps.See.word-shows, Steps.See.table-fits, Steps.Look.writes-shown}
+use Rattle.gt_core.proofs.Words.{◌≡◌, ◌≢◌, ◌<◌, ◌≤◌, ◌+◌, ℕ, refl, Bool, true, List, ◌∷◌, length, Option, Some, None}
+use Rattle.gt_core.proofs.Words.{cond, sym, ap, ◌∙◌, arith, subst, get_or, eqb-true, none-some, slice_get-get_or}
+use Rattle.gt_core.proofs.Words.{option_map, ◌==◌, All, slice_get, fun_ext, DomId, GrantRef, TABLE_ENTRIES}
+use Rattle.gt_core.proofs.Words.{LAST_GENERATION, Entry, Invalid, Change, Publish, IsEntry, Own, Open, Item, Answer}
+use Rattle.gt_core.proofs.Words.{entry_in, generation_in, row_entry, row_generation, changed_at, State, state_of}
+use Rattle.gt_core.proofs.Words.{changed_in, with_own, own_after, History, Setting, Pin, live, entry_at, raises_at}
+use Rattle.gt_core.proofs.Words.{raise_of, generation_at, open_call, change_of, entry_after, raise_after, one_if_mapped}
+use Rattle.gt_core.proofs.Words.{IsSafeChange, IsLawful, FitsTable, Agrees, DomainsStand, CallAgrees, GivenAgrees}
+use Rattle.gt_core.proofs.Words.{gather, by_mapping, first, false, inl, suc, zero, ◌-◌, cond_both, eq-eqb, false≢true}
+use Rattle.gt_core.proofs.Words.{lt-leb, lt-ltb, ltb-false, ltb-true, nat_le, nat_lt, Read, Write, N18, N19, MAX_TRIES}
+use Rattle.gt_core.proofs.Words.{is_invalid, control_of, control_word, ToReadOnly, ToWritable, ToInvalid, ToWithdrawn}
+use Rattle.gt_core.proofs.Words.{FirstHalf, SecondHalf, last_first, no_pins, action_at, phase_after, refused_as, opens}
+use Rattle.gt_core.proofs.Words.{Continuation, idle_word, path, RestsOnWord, CallerKnowledge, begun, control_with}
+use Rattle.gt_core.proofs.Words.{size_of, stands, HasShown, IsQuiet, IsTurn, Makes, Seen, Missed, Taken, Step, Exchange}
+use Rattle.gt_core.proofs.Words.{Granted, Phase, Changing, Ending, Exchanging, Last, Looking, Walking, MORE_TRIES}
+use Rattle.gt_core.proofs.Words.{Asked, Demote, Grant, Promote, Revoke, Withdraw, known_at, reads_at, seen_by, word_at}
+use Rattle.gt_core.proofs.Words.{writes_at, IsSpelled, StepsSoFar, at_entry, first_at, FitsAsked, PhaseStands}
+use Rattle.gt_core.proofs.Words.{phase_refusal, body_at, table_at, misses, IsLegalHistory}
+use Rattle.gt_core.proofs.{Steps.Observers.unstored, Steps.Observers.answered-stays, Steps.Observers.kept-table}
+use Rattle.gt_core.proofs.{Keeping.SlotsAgree, Keeping.same-number, Keeping.counts-fit, Rows.get-changed}
+use Rattle.gt_core.proofs.{Rows.length-changed, Mappings.mappings-same, Keeping.slots-kept, Keeping.Facts}
+use Rattle.gt_core.proofs.{Keeping.facts_at, Keeping.Fits, Keeping.facts-fit, Keeping.each-stays, Keeping.all-stand}
+use Rattle.gt_core.proofs.{Keeping.own-changed, Steps.Observers.exchanged, Steps.Observers.exchanged-entry}
+use Rattle.gt_core.proofs.{Steps.Observers.exchanged-raises, Steps.Observers.exchanged-live, Phases.none-of}
+use Rattle.gt_core.proofs.{Phases.IsHere, Phases.makes-same, Phases.by-leg, Phases.by-giving, Phases.Judged}
+use Rattle.gt_core.proofs.{Phases.Leads, Legs.late-last, Legs.late-more, Legs.control-parts, Steps.See.word-shows}
+use Rattle.gt_core.proofs.{Steps.See.table-fits, Steps.Look.writes-shown}
 
 -- each number of the entry that is published fits its type
 abbrev pub FitsChange : Change → Type 0

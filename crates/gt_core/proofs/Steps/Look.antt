@@ -1,7 +1,24 @@
 -- A look at a header, a control word or a body word: the refusal that it leads to is the first rule that stands, and
 -- where the call stands next. What it sees is in See.
-use Rattle.gt_core.proofs.Words.{ℕ, Bool, List, None, Option, Some, [], ap, arith, cond, false, inl, refl, subst, sym, true, ◌+◌, ◌<◌, ◌∙◌, ◌∷◌, ◌≡◌, ◌≢◌, ◌≤◌, eqb-true, ltb-true, true≢false, nat_le, nat_lt, not, ◌&&◌, ◌==◌, denial_of, domain_of, DomId, GrantRef, Denial, HeaderFacts, Rule, N18, N19, N9, MAX_TRIES, TABLE_ENTRIES, IsEntry, entry-read, entry_of, first_body, control_of, header_of, header_word, Change, ToReadOnly, ToWritable, ToWithdrawn, Half, FirstHalf, SecondHalf, Control, KindSub, Entry, Invalid, Sub, Header, after_look, after_miss, after_words, leg_after, leg_step, refused_as, opens, entry_refusal, rule_of_try, begun, control_with, first, first_look, is_kind, size_of, stands, IsTurn, Seen, Word, LookBody, LookControl, LookHeader, Asking, Changing, Looking, Question, AsksSize, AsksVersion, Leg, Going, LegRefused, LegPhase, Body, AtHeader, Look, Pinning, Relook, Second, MORE_TRIES, Asked, GetVersion, QuerySize, History, Setting, control_at, generation_at, known_at, reads_at, seen_by, word_at, writes_at, IsSpelled, LegNow, StepsSoFar, at_entry, first_at, is_demote, is_in_body, is_other, leg_at, rule_at_header, rule_at_look, rule_before_pin, Asks, HasLooked, HasRead, IsShown, LegStands, PhaseStands, WhileSame, phase_refusal, State, state_of, body_at, entry_at, table_at, looked_at, misses}
-use Rattle.gt_core.proofs.{Phases.none-of, Phases.of-run, Phases.Judged, Legs.misses-look, Legs.misses-relook, Legs.few, Legs.first-alone, Legs.alone, Legs.control-parts, Legs.Words, Legs.as-tried, Legs.still-judged, Legs.IsLegOf, Legs.ComesTo, Legs.miss-comes, Steps.See.IsWithin}
+use Rattle.gt_core.proofs.Words.{ℕ, Bool, List, None, Option, Some, [], ap, arith, cond, false, inl, refl, subst, sym}
+use Rattle.gt_core.proofs.Words.{true, ◌+◌, ◌<◌, ◌∙◌, ◌∷◌, ◌≡◌, ◌≢◌, ◌≤◌, eqb-true, ltb-true, true≢false, nat_le}
+use Rattle.gt_core.proofs.Words.{nat_lt, not, ◌&&◌, ◌==◌, denial_of, domain_of, DomId, GrantRef, Denial, HeaderFacts}
+use Rattle.gt_core.proofs.Words.{Rule, N18, N19, N9, MAX_TRIES, TABLE_ENTRIES, IsEntry, entry-read, entry_of}
+use Rattle.gt_core.proofs.Words.{first_body, control_of, header_of, header_word, Change, ToReadOnly, ToWritable}
+use Rattle.gt_core.proofs.Words.{ToWithdrawn, Half, FirstHalf, SecondHalf, Control, KindSub, Entry, Invalid, Sub}
+use Rattle.gt_core.proofs.Words.{Header, after_look, after_miss, after_words, leg_after, leg_step, refused_as, opens}
+use Rattle.gt_core.proofs.Words.{entry_refusal, rule_of_try, begun, control_with, first, first_look, is_kind, size_of}
+use Rattle.gt_core.proofs.Words.{stands, IsTurn, Seen, Word, LookBody, LookControl, LookHeader, Asking, Changing}
+use Rattle.gt_core.proofs.Words.{Looking, Question, AsksSize, AsksVersion, Leg, Going, LegRefused, LegPhase, Body}
+use Rattle.gt_core.proofs.Words.{AtHeader, Look, Pinning, Relook, Second, MORE_TRIES, Asked, GetVersion, QuerySize}
+use Rattle.gt_core.proofs.Words.{History, Setting, control_at, generation_at, known_at, reads_at, seen_by, word_at}
+use Rattle.gt_core.proofs.Words.{writes_at, IsSpelled, LegNow, StepsSoFar, at_entry, first_at, is_demote, is_in_body}
+use Rattle.gt_core.proofs.Words.{is_other, leg_at, rule_at_header, rule_at_look, rule_before_pin, Asks, HasLooked}
+use Rattle.gt_core.proofs.Words.{HasRead, IsShown, LegStands, PhaseStands, WhileSame, phase_refusal, State, state_of}
+use Rattle.gt_core.proofs.Words.{body_at, entry_at, table_at, looked_at, misses}
+use Rattle.gt_core.proofs.{Phases.none-of, Phases.of-run, Phases.Judged, Legs.misses-look, Legs.misses-relook, Legs.few}
+use Rattle.gt_core.proofs.{Legs.first-alone, Legs.alone, Legs.control-parts, Legs.Words, Legs.as-tried}
+use Rattle.gt_core.proofs.{Legs.still-judged, Legs.IsLegOf, Legs.ComesTo, Legs.miss-comes, Steps.See.IsWithin}
 
 -- a phase of a leg that looks
 abbrev pub IsLooking : LegPhase → Type 0

@@ -1,5 +1,13 @@
 -- What an item leaves of the entries, words, pins and mappings, and of the other domains.
-use Rattle.gt_core.proofs.Words.{◌≡◌, ◌+◌, ℕ, refl, Bool, true, false, List, [], ◌∷◌, ◌++◌, Option, None, cond, ap, ◌∙◌, arith, ◌==◌, DomId, Header, Change, Item, History, Setting, entry_at, entry_after, raises_at, raise_after, live, Pin, pinned_by, unpinned_by, change_at, change_of, maps_answered_at, one_if_mapped, known_at, mappings_at, gather, by_mapping, legs_at, by_leg, header_stored, header_or, table_at, append-nil, Half, or_else, stored_at, body_at, ◌&&◌, Holder, Held, without, is_holder, cond_both, Some, Handle, ByMapping, ByLeg, append_assoc, All-cons, All-head, All-tail, All, length, sum_by_push, count_by, Dir, GrantRef, Seen, Taken, Step, Exchange, PinStep, Unpin, holder_after, is_pin_on, Answer, Stepped}
+use Rattle.gt_core.proofs.Words.{◌≡◌, ◌+◌, ℕ, refl, Bool, true, false, List, [], ◌∷◌, ◌++◌, Option, None, cond, ap, ◌∙◌}
+use Rattle.gt_core.proofs.Words.{arith, ◌==◌, DomId, Header, Change, Item, History, Setting, entry_at, entry_after}
+use Rattle.gt_core.proofs.Words.{raises_at, raise_after, live, Pin, pinned_by, unpinned_by, change_at, change_of}
+use Rattle.gt_core.proofs.Words.{maps_answered_at, one_if_mapped, known_at, mappings_at, gather, by_mapping, legs_at}
+use Rattle.gt_core.proofs.Words.{by_leg, header_stored, header_or, table_at, append-nil, Half, or_else, stored_at}
+use Rattle.gt_core.proofs.Words.{body_at, ◌&&◌, Holder, Held, without, is_holder, cond_both, Some, Handle, ByMapping}
+use Rattle.gt_core.proofs.Words.{ByLeg, append_assoc, All-cons, All-head, All-tail, All, length, sum_by_push, count_by}
+use Rattle.gt_core.proofs.Words.{Dir, GrantRef, Seen, Taken, Step, Exchange, PinStep, Unpin, holder_after, is_pin_on}
+use Rattle.gt_core.proofs.Words.{Answer, Stepped}
 
 -- the item changes no entry, pin or mapping
 pub record KeepsKnown (i : Item) : Type 0 where

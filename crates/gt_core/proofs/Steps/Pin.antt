@@ -1,6 +1,36 @@
 -- A pin: it keeps what a core stands for. What a pin that is taken rests on, and where a pin leads its call.
-use Rattle.gt_core.proofs.Words.{◌≡◌, ◌<◌, ◌+◌, ℕ, refl, Bool, true, List, [], ◌∷◌, ◌++◌, length, Option, Some, cond, sym, ap, ◌∙◌, arith, subst, ◌==◌, ◌&&◌, All, All-push, append-nil, DomId, Dir, Read, Write, MAX_PINS, Half, FirstHalf, SecondHalf, HandleMap, Handle, Held, Holder, ByLeg, PinCounts, Open, Item, Answer, Mapped, State, state_of, changed_in, with_slot, slot_after, Adds, History, Setting, Pin, live, entry_at, body_at, mappings_at, maps_answered_at, legs_at, open_call, is_pin_on, same_dir, FitsWord, control_at, gather, by_mapping, by_leg, holder_after, one_if_mapped, IsLawful, SlotAgrees, Agrees, DomainsStand, CallAgrees, GivenAgrees, MappingsAgree, None, false, inl, inr, reverse, ◌≢◌, cond_both, eqb-false, false≢true, leb-false, true≢false, same_Some, is_none, not, ◌||◌, denial_of, domain_of, resolved, GrantRef, TypeId, ForMap, Policy, N1, N11, N12, N13, N14, N15, N16, N17, N5, Perms, Triple, frame_of, allows_direction, is_copying, permits, control_of, Entry, Invalid, Page, Sub, Via, last_first, pins_so_far, action_at, after_dest_pin, after_pin_of, after_source_pin, at_dest, leg_after, phase_after, where_via, holds-first, opens, dest_pair, end_leg, held_of, map_leg, path, second_leg, source_pair, IsFor, IsOnFrom, Lets, RestsOnTry, CallerKnowledge, begun, control_with, copy_denied, denied, first, first_look, frames_of, is_dest_granted, is_outside, is_past_owner, map_dir, pins_of, refused_when, rights_to_copy, stands, via_judged, HasShown, IsQuiet, Makes, Seen, Missed, Taken, Step, PinStep, Verdict, Refused, Phase, Accessing, Ending, Last, Walking, Aim, Dest, Mapping, Source, Pins, Route, Direct, Through, Leg, AtHeader, Pinning, Asked, Copy, Map, CopyArgs, generation_at, known_at, reads_at, word_at, writes_at, LegNow, MayUse, NoneStands, StepsSoFar, leg_at, refusal_in, rule_at_pin, rule_at_via, rule_before_pin, EndsCopy, HasLooked, PhaseStands, numbered, misses, IsLegalHistory}
-use Rattle.gt_core.proofs.{Steps.Observers.answered-stays, Steps.Observers.gather-append, Keeping.KeepsEntries, Keeping.same-body, Keeping.becomes-changed, Keeping.slots-stand, Keeping.keeps-stands, Keeping.same-number, Mappings.mappings-added, Mappings.mappings-same, Steps.Observers.new_pin, Steps.Observers.pinned-live, Steps.Observers.Grows, Steps.Observers.grown-count, Steps.Observers.at-place, Steps.Observers.pins, Steps.Observers.pins_at, Keeping.counts-fit, Phases.none-of, Phases.IsHere, Phases.makes-same, Phases.by-giving, Phases.of-run, Phases.words-of, Phases.Leads, Legs.alone, Legs.control-parts, Legs.IsAsTried, Legs.as-tried, Legs.still-judged, Legs.IsLegOf, Legs.ComesTo, Legs.miss-comes, Aims.pair_of, Aims.leg-here}
+use Rattle.gt_core.proofs.Words.{◌≡◌, ◌<◌, ◌+◌, ℕ, refl, Bool, true, List, [], ◌∷◌, ◌++◌, length, Option, Some, cond}
+use Rattle.gt_core.proofs.Words.{sym, ap, ◌∙◌, arith, subst, ◌==◌, ◌&&◌, All, All-push, append-nil, DomId, Dir, Read}
+use Rattle.gt_core.proofs.Words.{Write, MAX_PINS, Half, FirstHalf, SecondHalf, HandleMap, Handle, Held, Holder, ByLeg}
+use Rattle.gt_core.proofs.Words.{PinCounts, Open, Item, Answer, Mapped, State, state_of, changed_in, with_slot}
+use Rattle.gt_core.proofs.Words.{slot_after, Adds, History, Setting, Pin, live, entry_at, body_at, mappings_at}
+use Rattle.gt_core.proofs.Words.{maps_answered_at, legs_at, open_call, is_pin_on, same_dir, FitsWord, control_at}
+use Rattle.gt_core.proofs.Words.{gather, by_mapping, by_leg, holder_after, one_if_mapped, IsLawful, SlotAgrees, Agrees}
+use Rattle.gt_core.proofs.Words.{DomainsStand, CallAgrees, GivenAgrees, MappingsAgree, None, false, inl, inr, reverse}
+use Rattle.gt_core.proofs.Words.{◌≢◌, cond_both, eqb-false, false≢true, leb-false, true≢false, same_Some, is_none, not}
+use Rattle.gt_core.proofs.Words.{◌||◌, denial_of, domain_of, resolved, GrantRef, TypeId, ForMap, Policy, N1, N11, N12}
+use Rattle.gt_core.proofs.Words.{N13, N14, N15, N16, N17, N5, Perms, Triple, frame_of, allows_direction, is_copying}
+use Rattle.gt_core.proofs.Words.{permits, control_of, Entry, Invalid, Page, Sub, Via, last_first, pins_so_far}
+use Rattle.gt_core.proofs.Words.{action_at, after_dest_pin, after_pin_of, after_source_pin, at_dest, leg_after}
+use Rattle.gt_core.proofs.Words.{phase_after, where_via, holds-first, opens, dest_pair, end_leg, held_of, map_leg, path}
+use Rattle.gt_core.proofs.Words.{second_leg, source_pair, IsFor, IsOnFrom, Lets, RestsOnTry, CallerKnowledge, begun}
+use Rattle.gt_core.proofs.Words.{control_with, copy_denied, denied, first, first_look, frames_of, is_dest_granted}
+use Rattle.gt_core.proofs.Words.{is_outside, is_past_owner, map_dir, pins_of, refused_when, rights_to_copy, stands}
+use Rattle.gt_core.proofs.Words.{via_judged, HasShown, IsQuiet, Makes, Seen, Missed, Taken, Step, PinStep, Verdict}
+use Rattle.gt_core.proofs.Words.{Refused, Phase, Accessing, Ending, Last, Walking, Aim, Dest, Mapping, Source, Pins}
+use Rattle.gt_core.proofs.Words.{Route, Direct, Through, Leg, AtHeader, Pinning, Asked, Copy, Map, CopyArgs}
+use Rattle.gt_core.proofs.Words.{generation_at, known_at, reads_at, word_at, writes_at, LegNow, MayUse, NoneStands}
+use Rattle.gt_core.proofs.Words.{StepsSoFar, leg_at, refusal_in, rule_at_pin, rule_at_via, rule_before_pin, EndsCopy}
+use Rattle.gt_core.proofs.Words.{HasLooked, PhaseStands, numbered, misses, IsLegalHistory}
+use Rattle.gt_core.proofs.{Steps.Observers.answered-stays, Steps.Observers.gather-append, Keeping.KeepsEntries}
+use Rattle.gt_core.proofs.{Keeping.same-body, Keeping.becomes-changed, Keeping.slots-stand, Keeping.keeps-stands}
+use Rattle.gt_core.proofs.{Keeping.same-number, Mappings.mappings-added, Mappings.mappings-same}
+use Rattle.gt_core.proofs.{Steps.Observers.new_pin, Steps.Observers.pinned-live, Steps.Observers.Grows}
+use Rattle.gt_core.proofs.{Steps.Observers.grown-count, Steps.Observers.at-place, Steps.Observers.pins}
+use Rattle.gt_core.proofs.{Steps.Observers.pins_at, Keeping.counts-fit, Phases.none-of, Phases.IsHere}
+use Rattle.gt_core.proofs.{Phases.makes-same, Phases.by-giving, Phases.of-run, Phases.words-of, Phases.Leads}
+use Rattle.gt_core.proofs.{Legs.alone, Legs.control-parts, Legs.IsAsTried, Legs.as-tried, Legs.still-judged}
+use Rattle.gt_core.proofs.{Legs.IsLegOf, Legs.ComesTo, Legs.miss-comes, Aims.pair_of, Aims.leg-here}
 use Rattle.gt_core.specs.declared.pin_counts.CountsChange.TheVariants.{Pinned}
 use Rattle.gt_calls.specs.declared.held.Route.TheVariants.{Own}
 

@@ -1,5 +1,14 @@
 -- What the core's steps see is what the history left.
-use Rattle.gt_core.proofs.Words.{◌≡◌, ◌<◌, ◌≤◌, ◌+◌, ◌%◌, ℕ, Bool, true, false, cond, List, ap, ◌∙◌, arith, ◌==◌, TABLE_ENTRIES, control_of, header_word, header_of, Header, State, History, Setting, word_at, control_at, DomainsStand, FitsTable, ◌*◌, ◌/◌, control-round, MAX_TABLE_FRAMES, ENTRIES_V1, ENTRIES_V2, ◌≢◌, zero, suc, refl, [], ◌∷◌, length, Option, Some, None, same_Some, slice_get, DomId, Entry, control_word, PinCounts, Own, Step, LookHeader, LookControl, LookBody, Exchange, Word, control_with, generation_in, Half, FirstHalf, SecondHalf, entry_at, generation_at, reads_at, body_at, table_at, seen_by, exchange_sees, Agrees, StateAgrees, control_seen, header_seen, body_seen, sees, reads_in, writes_in, body_in, slot_reads, slot_writes, slot_body, control_in, size_of, state_of, PinStep}
+use Rattle.gt_core.proofs.Words.{◌≡◌, ◌<◌, ◌≤◌, ◌+◌, ◌%◌, ℕ, Bool, true, false, cond, List, ap, ◌∙◌, arith, ◌==◌}
+use Rattle.gt_core.proofs.Words.{TABLE_ENTRIES, control_of, header_word, header_of, Header, State, History, Setting}
+use Rattle.gt_core.proofs.Words.{word_at, control_at, DomainsStand, FitsTable, ◌*◌, ◌/◌, control-round}
+use Rattle.gt_core.proofs.Words.{MAX_TABLE_FRAMES, ENTRIES_V1, ENTRIES_V2, ◌≢◌, zero, suc, refl, [], ◌∷◌, length}
+use Rattle.gt_core.proofs.Words.{Option, Some, None, same_Some, slice_get, DomId, Entry, control_word, PinCounts, Own}
+use Rattle.gt_core.proofs.Words.{Step, LookHeader, LookControl, LookBody, Exchange, Word, control_with, generation_in}
+use Rattle.gt_core.proofs.Words.{Half, FirstHalf, SecondHalf, entry_at, generation_at, reads_at, body_at, table_at}
+use Rattle.gt_core.proofs.Words.{seen_by, exchange_sees, Agrees, StateAgrees, control_seen, header_seen, body_seen}
+use Rattle.gt_core.proofs.Words.{sees, reads_in, writes_in, body_in, slot_reads, slot_writes, slot_body, control_in}
+use Rattle.gt_core.proofs.Words.{size_of, state_of, PinStep}
 
 pub word-shows : (s : Setting) (h : History) (xs : List State) (t r : ℕ) → DomainsStand s h xs → r < TABLE_ENTRIES → control_of (word_at s h t r) ≡ control_at s h t r
 word-shows s h xs t r st within = control-round (control_at s h t r) (st.words t r within).in_range (st.words t r within).domain

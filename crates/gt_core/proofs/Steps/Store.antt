@@ -1,7 +1,21 @@
 -- A header, or a body word of an invalid entry, that its owner stores: it keeps what a core stands for. What it rests
 -- on, and where it leads its call.
-use Rattle.gt_core.proofs.Words.{◌≡◌, ◌%◌, ℕ, refl, Bool, true, List, ◌∷◌, Option, Some, None, cond, sym, ap, ◌∙◌, arith, subst, ◌==◌, DomId, Header, StoreHeader, Nothing, Open, Item, Answer, State, state_of, changed_in, with_header, History, Setting, header_or, table_at, one_if_mapped, open_call, FitsTable, Agrees, DomainsStand, CallAgrees, GivenAgrees, GrantRef, Half, FirstHalf, SecondHalf, StoreBody, Stored, with_slot, body_at, inl, inr, ◌≤◌, ◌⊎◌, LAST_VERSION, MAX_TABLE_FRAMES, first_body, Entry, Invalid, Sub, last_first, action_at, after_store, phase_after, opens, Continuation, path, RestsOnGrant, RestsOnRequest, CallerKnowledge, begun, first, second_body, HasShown, Makes, Seen, Step, Phase, Ending, Last, Storing, StoringSecond, Walking, Asked, Grant, SetVersion, SetupTable, known_at, StepsSoFar, PhaseStands, phase_refusal, entry_at}
-use Rattle.gt_core.proofs.{Steps.Observers.unstored, Steps.Observers.KeepsKnown, Steps.Observers.kept-live, Steps.Observers.other-table, Steps.Observers.kept-table, Steps.Observers.stepped, Keeping.SlotsAgree, Keeping.actor-agrees, Keeping.kept-stands, Keeping.mappings-stay, Keeping.same-number, Keeping.Moves, Keeping.slots-kept, Keeping.each-stays, Keeping.becomes-changed, Keeping.own-changed, Keeping.slots-stand, Phases.none-of, Phases.makes-same, Phases.by-leg, Phases.by-giving, Steps.Exchange.grant-invalid}
+use Rattle.gt_core.proofs.Words.{◌≡◌, ◌%◌, ℕ, refl, Bool, true, List, ◌∷◌, Option, Some, None, cond, sym, ap, ◌∙◌}
+use Rattle.gt_core.proofs.Words.{arith, subst, ◌==◌, DomId, Header, StoreHeader, Nothing, Open, Item, Answer, State}
+use Rattle.gt_core.proofs.Words.{state_of, changed_in, with_header, History, Setting, header_or, table_at}
+use Rattle.gt_core.proofs.Words.{one_if_mapped, open_call, FitsTable, Agrees, DomainsStand, CallAgrees, GivenAgrees}
+use Rattle.gt_core.proofs.Words.{GrantRef, Half, FirstHalf, SecondHalf, StoreBody, Stored, with_slot, body_at, inl, inr}
+use Rattle.gt_core.proofs.Words.{◌≤◌, ◌⊎◌, LAST_VERSION, MAX_TABLE_FRAMES, first_body, Entry, Invalid, Sub, last_first}
+use Rattle.gt_core.proofs.Words.{action_at, after_store, phase_after, opens, Continuation, path, RestsOnGrant}
+use Rattle.gt_core.proofs.Words.{RestsOnRequest, CallerKnowledge, begun, first, second_body, HasShown, Makes, Seen}
+use Rattle.gt_core.proofs.Words.{Step, Phase, Ending, Last, Storing, StoringSecond, Walking, Asked, Grant, SetVersion}
+use Rattle.gt_core.proofs.Words.{SetupTable, known_at, StepsSoFar, PhaseStands, phase_refusal, entry_at}
+use Rattle.gt_core.proofs.{Steps.Observers.unstored, Steps.Observers.KeepsKnown, Steps.Observers.kept-live}
+use Rattle.gt_core.proofs.{Steps.Observers.other-table, Steps.Observers.kept-table, Steps.Observers.stepped}
+use Rattle.gt_core.proofs.{Keeping.SlotsAgree, Keeping.actor-agrees, Keeping.kept-stands, Keeping.mappings-stay}
+use Rattle.gt_core.proofs.{Keeping.same-number, Keeping.Moves, Keeping.slots-kept, Keeping.each-stays}
+use Rattle.gt_core.proofs.{Keeping.becomes-changed, Keeping.own-changed, Keeping.slots-stand, Phases.none-of}
+use Rattle.gt_core.proofs.{Phases.makes-same, Phases.by-leg, Phases.by-giving, Steps.Exchange.grant-invalid}
 
 -- the item of a header that is stored
 abbrev pub headed : DomId → ℕ → ℕ → Option Answer → Item

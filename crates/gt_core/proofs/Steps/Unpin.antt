@@ -1,6 +1,21 @@
 -- An unpin: it keeps what a core stands for, and where it leads its call.
-use Rattle.gt_core.proofs.Words.{◌≡◌, ◌+◌, ℕ, refl, Bool, false, List, [], ◌∷◌, ◌++◌, length, Option, Some, None, cond, sym, ap, ◌∙◌, arith, subst, ◌==◌, ◌&&◌, All, count_by, none-some, sum_by-cons, DomId, Dir, Read, Write, Half, FirstHalf, SecondHalf, Handle, HandleMap, Held, Holder, ByMapping, ByLeg, Seen, PinCounts, Open, Unpinned, Item, Answer, State, state_of, changed_in, with_slot, without_mapping, slot_after, taken, History, Setting, Pin, live, body_at, mappings_at, maps_answered_at, legs_at, open_call, is_pin_on, without, is_holder, same_handle, same_dir, gather, by_mapping, by_leg, mapping_of, one_if_mapped, IsLawful, SlotAgrees, Agrees, DomainsStand, CallAgrees, GivenAgrees, MappingsAgree, numbered, inl, inr, ◌⊎◌, option_or, Denial, last_first, next_to_give, Done, Makes, Step, Verdict, Ending, Pins, Asked, Copy, CopyArgs, StepsSoFar, EndsCopy}
-use Rattle.gt_core.proofs.{Steps.Observers.answered-stays, Steps.Observers.cond-same, Steps.Observers.without-kept, Steps.Observers.IsKeyed, Steps.Observers.mapping-keyed, Steps.Observers.leg-keyed, Keeping.KeepsEntries, Keeping.same-body, Keeping.Becomes, Keeping.becomes-changed, Keeping.slots-stand, Keeping.keeps-stands, Mappings.less, Mappings.less_of, Mappings.mappings-taken, Mappings.mappings-same, Rows.state-changed, Steps.Observers.pins_at, Steps.Pin.pins-fit, Steps.Observers.all-without, Steps.Observers.unpinned-live, Steps.Observers.unpins, Phases.by-giving, Phases.Placed}
+use Rattle.gt_core.proofs.Words.{◌≡◌, ◌+◌, ℕ, refl, Bool, false, List, [], ◌∷◌, ◌++◌, length, Option, Some, None, cond}
+use Rattle.gt_core.proofs.Words.{sym, ap, ◌∙◌, arith, subst, ◌==◌, ◌&&◌, All, count_by, none-some, sum_by-cons, DomId}
+use Rattle.gt_core.proofs.Words.{Dir, Read, Write, Half, FirstHalf, SecondHalf, Handle, HandleMap, Held, Holder}
+use Rattle.gt_core.proofs.Words.{ByMapping, ByLeg, Seen, PinCounts, Open, Unpinned, Item, Answer, State, state_of}
+use Rattle.gt_core.proofs.Words.{changed_in, with_slot, without_mapping, slot_after, taken, History, Setting, Pin, live}
+use Rattle.gt_core.proofs.Words.{body_at, mappings_at, maps_answered_at, legs_at, open_call, is_pin_on, without}
+use Rattle.gt_core.proofs.Words.{is_holder, same_handle, same_dir, gather, by_mapping, by_leg, mapping_of}
+use Rattle.gt_core.proofs.Words.{one_if_mapped, IsLawful, SlotAgrees, Agrees, DomainsStand, CallAgrees, GivenAgrees}
+use Rattle.gt_core.proofs.Words.{MappingsAgree, numbered, inl, inr, ◌⊎◌, option_or, Denial, last_first, next_to_give}
+use Rattle.gt_core.proofs.Words.{Done, Makes, Step, Verdict, Ending, Pins, Asked, Copy, CopyArgs, StepsSoFar, EndsCopy}
+use Rattle.gt_core.proofs.{Steps.Observers.answered-stays, Steps.Observers.cond-same, Steps.Observers.without-kept}
+use Rattle.gt_core.proofs.{Steps.Observers.IsKeyed, Steps.Observers.mapping-keyed, Steps.Observers.leg-keyed}
+use Rattle.gt_core.proofs.{Keeping.KeepsEntries, Keeping.same-body, Keeping.Becomes, Keeping.becomes-changed}
+use Rattle.gt_core.proofs.{Keeping.slots-stand, Keeping.keeps-stands, Mappings.less, Mappings.less_of}
+use Rattle.gt_core.proofs.{Mappings.mappings-taken, Mappings.mappings-same, Rows.state-changed, Steps.Observers.pins_at}
+use Rattle.gt_core.proofs.{Steps.Pin.pins-fit, Steps.Observers.all-without, Steps.Observers.unpinned-live}
+use Rattle.gt_core.proofs.{Steps.Observers.unpins, Phases.by-giving, Phases.Placed}
 
 -- what an unpin takes from the live pins
 

@@ -1,6 +1,24 @@
 -- The frames of a core: what a step of a call writes to them is by right, and leaves them as the history tells.
-use Rattle.gt_core.proofs.Words.{◌≡◌, ◌≤◌, ◌<◌, ◌+◌, ◌-◌, inl, inr, ℕ, refl, Bool, true, false, List, [], ◌∷◌, ◌++◌, replicate, length, take, drop, Option, Some, None, cond, sym, ap, ◌∙◌, arith, subst, eqb-true, eq-eqb, and_parts, and_from, append-nil, map-append, length-append, length-drop, length-take-le, length-replicate, ◌==◌, ◌&&◌, nat_lt, is_some, IsTrue, DomId, Write, ForMap, DomainConfig, FRAME_SIZE, Entry, frame_of, permits, Handle, value_of, Held, Route, Direct, End, Request, Asked, Store, Poke, Place, Seen, Step, ReadBytes, WriteBytes, CopyBytes, Makes, Call, CallerKnowledge, begun, frames_of, is_dest_granted, dest_pair, opens, Rests, RestsOnRequest, RestsOnWays, IsReached, pins_at, Patch, written, bytes_at, frame_counts, FrameSet, frame_at, has_range, all_zeros, AreKept, Open, Item, Answer, Begun, State, IsLoadOf, IsReadable, IsAdmitted, AccessedBy, History, Setting, patches_at, patches_by, contents_at, written_by, Writing, given_in, open_call, Underway, values, known_at, IsInFrame, CopyIsJustified, grown, DomainsStand, FramesStand, Agrees, OpenAgrees, FitsGiven, begun_element, le-leb, unwrap_or, overlay, replay, zeros, FrameState, patch_of, patches, permits_writing, suffices, all_rightful, pool_number, frames_of_all, is_name, has_frame, admits, WritesTo, journal_in, name_of, ground_of, begun_route, route_of, IsWritOf, FrameName, Writ, WriteRecord, BegunBusy, BegunNoDomain, cond_both}
-use Rattle.gt_core.proofs.{Starting.get-replicate, Steps.Observers.stepped, Phases.call-is, Phases.none-of, Steps.Access.permits-as, Steps.Access.mapping-pin, Steps.Access.same-held, Steps.Access.read-justified, Steps.Access.copy-justified}
+use Rattle.gt_core.proofs.Words.{◌≡◌, ◌≤◌, ◌<◌, ◌+◌, ◌-◌, inl, inr, ℕ, refl, Bool, true, false, List, [], ◌∷◌, ◌++◌}
+use Rattle.gt_core.proofs.Words.{replicate, length, take, drop, Option, Some, None, cond, sym, ap, ◌∙◌, arith, subst}
+use Rattle.gt_core.proofs.Words.{eqb-true, eq-eqb, and_parts, and_from, append-nil, map-append, length-append}
+use Rattle.gt_core.proofs.Words.{length-drop, length-take-le, length-replicate, ◌==◌, ◌&&◌, nat_lt, is_some, IsTrue}
+use Rattle.gt_core.proofs.Words.{DomId, Write, ForMap, DomainConfig, FRAME_SIZE, Entry, frame_of, permits, Handle}
+use Rattle.gt_core.proofs.Words.{value_of, Held, Route, Direct, End, Request, Asked, Store, Poke, Place, Seen, Step}
+use Rattle.gt_core.proofs.Words.{ReadBytes, WriteBytes, CopyBytes, Makes, Call, CallerKnowledge, begun, frames_of}
+use Rattle.gt_core.proofs.Words.{is_dest_granted, dest_pair, opens, Rests, RestsOnRequest, RestsOnWays, IsReached}
+use Rattle.gt_core.proofs.Words.{pins_at, Patch, written, bytes_at, frame_counts, FrameSet, frame_at, has_range}
+use Rattle.gt_core.proofs.Words.{all_zeros, AreKept, Open, Item, Answer, Begun, State, IsLoadOf, IsReadable, IsAdmitted}
+use Rattle.gt_core.proofs.Words.{AccessedBy, History, Setting, patches_at, patches_by, contents_at, written_by, Writing}
+use Rattle.gt_core.proofs.Words.{given_in, open_call, Underway, values, known_at, IsInFrame, CopyIsJustified, grown}
+use Rattle.gt_core.proofs.Words.{DomainsStand, FramesStand, Agrees, OpenAgrees, FitsGiven, begun_element, le-leb}
+use Rattle.gt_core.proofs.Words.{unwrap_or, overlay, replay, zeros, FrameState, patch_of, patches, permits_writing}
+use Rattle.gt_core.proofs.Words.{suffices, all_rightful, pool_number, frames_of_all, is_name, has_frame, admits}
+use Rattle.gt_core.proofs.Words.{WritesTo, journal_in, name_of, ground_of, begun_route, route_of, IsWritOf, FrameName}
+use Rattle.gt_core.proofs.Words.{Writ, WriteRecord, BegunBusy, BegunNoDomain, cond_both}
+use Rattle.gt_core.proofs.{Starting.get-replicate, Steps.Observers.stepped, Phases.call-is, Phases.none-of}
+use Rattle.gt_core.proofs.{Steps.Access.permits-as, Steps.Access.mapping-pin, Steps.Access.same-held}
+use Rattle.gt_core.proofs.{Steps.Access.read-justified, Steps.Access.copy-justified}
 use Rattle.gt_calls.specs.{declared.held.Route.TheVariants.Own, Path.place_of}
 use Rattle.std.specs.Cmp.{both_ways}
 

@@ -1,6 +1,18 @@
 -- `gthost_copy_begin`: null is answered by its name, and else the handle that lies there is lent for the call. Made by
 -- tools/walks.py.
-use Rattle.gt_c.proofs.Steps.{◌≡◌, ℕ, ◌^◌, ◌<◌, List, [], ◌∷◌, refl, ap, lit<, w16, w32, w64, Option, Some, None, proved, Ura, full_share, named, Val, vint, vptr, SProp, ent, sep, via, fst∗, snd∗, never, never_e, id⊢, ex, Lft, GName, ftrue, flft, flent, Model, Wired, WpFn, Logic, sem, Body, fact, Running, MachineTables, tables, ‵, raw, ◌⊛◌, some, later, prop, at_ret, Sq, ◌$◌, ◌∵◌, !, qed, done, move, keep, drop, use1, use2, use3, show, split, join, fsplit, pick, await, suffices, group, enter, lit, bin, addr, stop, no_more, and_then, first, branches, skips, exec, returns, returns_within, alloc_all, pass_all, free_all, look_at, get, through, sets, lands_as, env, lft_new, lft_end, u16, u32, u64, usize, yes, Is, shows, lends_ref, ref_back, mem, part_at, uint_Makes, uint_vals, uint_Tells, Ptr, RawPtr, block_ptr, null_ptr, ptr_val, count_of, tests_null, rawptr_vals, rawptr_Tells, rawptr_Lawful, MutBor, MutRef, plain, nothing, owned, heard, peeks, loose_lawful, calls_at, Clauses, Lasts, lasts, on_entry, triple_of, Contract, framed, Stays, walk_of, says, stay_dropped, Goes-dropped, ends_at}
+use Rattle.gt_c.proofs.Steps.{◌≡◌, ℕ, ◌^◌, ◌<◌, List, [], ◌∷◌, refl, ap, lit<, w16, w32, w64, Option, Some, None}
+use Rattle.gt_c.proofs.Steps.{proved, Ura, full_share, named, Val, vint, vptr, SProp, ent, sep, via, fst∗, snd∗, never}
+use Rattle.gt_c.proofs.Steps.{never_e, id⊢, ex, Lft, GName, ftrue, flft, flent, Model, Wired, WpFn, Logic, sem, Body}
+use Rattle.gt_c.proofs.Steps.{fact, Running, MachineTables, tables, ‵, raw, ◌⊛◌, some, later, prop, at_ret, Sq, ◌$◌}
+use Rattle.gt_c.proofs.Steps.{◌∵◌, !, qed, done, move, keep, drop, use1, use2, use3, show, split, join, fsplit, pick}
+use Rattle.gt_c.proofs.Steps.{await, suffices, group, enter, lit, bin, addr, stop, no_more, and_then, first, branches}
+use Rattle.gt_c.proofs.Steps.{skips, exec, returns, returns_within, alloc_all, pass_all, free_all, look_at, get}
+use Rattle.gt_c.proofs.Steps.{through, sets, lands_as, env, lft_new, lft_end, u16, u32, u64, usize, yes, Is, shows}
+use Rattle.gt_c.proofs.Steps.{lends_ref, ref_back, mem, part_at, uint_Makes, uint_vals, uint_Tells, Ptr, RawPtr}
+use Rattle.gt_c.proofs.Steps.{block_ptr, null_ptr, ptr_val, count_of, tests_null, rawptr_vals, rawptr_Tells}
+use Rattle.gt_c.proofs.Steps.{rawptr_Lawful, MutBor, MutRef, plain, nothing, owned, heard, peeks, loose_lawful}
+use Rattle.gt_c.proofs.Steps.{calls_at, Clauses, Lasts, lasts, on_entry, triple_of, Contract, framed, Stays, walk_of}
+use Rattle.gt_c.proofs.Steps.{says, stay_dropped, Goes-dropped, ends_at}
 use denote.Struct.Laws as laws
 use Rattle.std.specs.contracts.alloc.Global as Heap
 use Rattle.std.proofs.alloc.Global.TheLaws as heap

@@ -1,4 +1,5 @@
-use Rattle.gt_core.proofs.Words.{◌≡◌, ℕ, List, length, sym, ap, ◌∙◌, subst, bytes_at, frame_at, admits, IsTrue, FrameName, WritesTo, Step, name_of, State, IsAdmitted, AccessedBy}
+use Rattle.gt_core.proofs.Words.{◌≡◌, ℕ, List, length, sym, ap, ◌∙◌, subst, bytes_at, frame_at, admits, IsTrue}
+use Rattle.gt_core.proofs.Words.{FrameName, WritesTo, Step, name_of, State, IsAdmitted, AccessedBy}
 use Rattle.gt_core.proofs.accesses.write_bytes.Goals as goal
 
 pub write-requires : goal.write-requires

@@ -2,7 +2,7 @@ use Rattle.std.proofs.Common.{refl}
 use Rattle.gt_calls.specs.Asking.{asked}
 use Rattle.gt_calls.specs.declared.call.TheConstants.{MAX_STEPS}
 use Rattle.gt_core.specs.History.{Setting}
-use Rattle.gt_core.specs.Standing.{setting_of}
+use Rattle.gt_core.specs.Acting.{setting_of}
 use Rattle.gt_host.proofs.OpenLemmas.{begins_open, unanswered}
 use Rattle.gt_host.proofs.RunLemmas.{call_busy, call_done, call_ticked, same_setting}
 use Rattle.gt_host.proofs.run.run_call.Goals as goal

@@ -1,5 +1,5 @@
 use Rattle.std.proofs.Common.{subst, sym, OnOk}
-use Rattle.gt_core.specs.Standing.{setting_of}
+use Rattle.gt_core.specs.Acting.{setting_of}
 use Rattle.gt_lines.specs.declared.calls.ScriptAction.{ScriptAction}
 use Rattle.gt_host.specs.Runs.{RunsLine}
 use Rattle.gt_host.specs.Ticking.{Leads}

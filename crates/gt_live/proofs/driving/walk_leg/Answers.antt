@@ -6,13 +6,14 @@ use Rattle.gt_calls.specs.declared.action.Step.TheVariants.{Pin}
 use Rattle.gt_calls.specs.declared.held.Held.{Held}
 use Rattle.gt_calls.specs.declared.leg.LegNext.TheVariants.{Refused, Pinned}
 use Rattle.gt_calls.specs.declared.leg.LegPhase.TheVariants.{Body, Header, Look, Pinning, Relook}
-use Rattle.gt_calls.specs.Machine.{after_miss}
+use Rattle.gt_calls.specs.Legs.{after_miss}
 use Rattle.gt_live.specs.Driving.{CanMake}
 use Rattle.gt_live.specs.Legs.{WalksLeg}
 use Rattle.gt_live.specs.Walks.{Made}
 use Rattle.gt_words.specs.Conditions.{IsSameSeat}
 use Rattle.gt_live.proofs.Making.{same_seat-then, still_seat}
-use Rattle.gt_live.proofs.Legs.{header-passes, header-refuses, last-miss, look-refuses, looked, next-try, pin-missed, relook-missed, relook-refuses, tried, walk-begins, walk-on, walk-to}
+use Rattle.gt_live.proofs.Legs.{header-passes, header-refuses, last-miss, look-refuses, looked, next-try, pin-missed}
+use Rattle.gt_live.proofs.Legs.{relook-missed, relook-refuses, tried, walk-begins, walk-on, walk-to}
 use Rattle.gt_live.proofs.driving.walk_leg.Goals as goal
 use Rattle.gt_live.proofs.driving.walk_leg.Goals.{in-Some-judge_words+else-found-word, in-None+in-Err}
 

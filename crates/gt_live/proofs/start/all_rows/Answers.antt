@@ -1,4 +1,5 @@
-use Rattle.std.proofs.Common.{◌≡◌, ◌∙◌, ◌+◌, List, [], ◌∷◌, ℕ, ap, sym, subst, length, length-append, arith, All, Vec, Global}
+use Rattle.std.proofs.Common.{◌≡◌, ◌∙◌, ◌+◌, List, [], ◌∷◌, ℕ, ap, sym, subst, length, length-append, arith, All, Vec}
+use Rattle.std.proofs.Common.{Global}
 use Rattle.std.proofs.lemmas.List.Elements.{All-head, All-push, All-tail}
 use Rattle.std.specs.Vec.Iter.{into_iter_items}
 use Rattle.gt_calls.specs.declared.known.Own.{Own}

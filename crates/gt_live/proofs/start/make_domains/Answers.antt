@@ -1,9 +1,11 @@
-use Rattle.std.proofs.Common.{◌≡◌, ◌∙◌, ◌+◌, ◌<◌, ℕ, sym, ap, subst, refl, List, [], ◌∷◌, ◌++◌, length, get_or, Some, arith, inl, inr, length-append, length-drop, Option, None, true}
+use Rattle.std.proofs.Common.{◌≡◌, ◌∙◌, ◌+◌, ◌<◌, ℕ, sym, ap, subst, refl, List, [], ◌∷◌, ◌++◌, length, get_or, Some}
+use Rattle.std.proofs.Common.{arith, inl, inr, length-append, length-drop, Option, None, true}
 use Rattle.std.specs.Prelude.{is_some, vec_capacity}
 use lib.ListN.{get_or-append}
 use Rattle.std.proofs.lemmas.Bool.{cases_eq}
 use Rattle.std.proofs.lemmas.List.Elements.{All-pop}
-use Rattle.gt_words.specs.Conditions.{IsNewSeat, SeatOf}
+use Rattle.gt_words.specs.Answers.{IsNewSeat}
+use Rattle.gt_words.specs.Conditions.{SeatOf}
 use Rattle.gt_live.specs.Starting.{first_rows, IsNewDomain}
 use Rattle.gt_live.specs.declared.domain.Domain.{Domain}
 use Rattle.gt_live.proofs.NewDomain.{new-domain}

@@ -2,7 +2,8 @@ use Rattle.std.proofs.Common.{rules, ◌<◌, ◌∙◌, length, arith}
 use Rattle.std.proofs.lemmas.Bool.{eq-eqb, ne_eqb}
 use Rattle.gt_run.proofs.ListLemmas.{await_more, come_none, do_more, gate_stops, list_ends, other_more, tell_more}
 use Rattle.gt_run.proofs.serving.serve.Goals as goal
-use Rattle.gt_run.proofs.serving.serve.Goals.{then-task-dom+in-Do, then-task-dom+in-Tell, then-task-dom+in-Await+else-not-pass, else-task-dom}
+use Rattle.gt_run.proofs.serving.serve.Goals.{then-task-dom+in-Do, then-task-dom+in-Tell}
+use Rattle.gt_run.proofs.serving.serve.Goals.{then-task-dom+in-Await+else-not-pass, else-task-dom}
 
 pub tasks-init : goal.tasks-init
 tasks-init g c = (c.requires.monitor, come_none g.P.Allows.may _ _ _ _ _ c.requires.text c.requires.told c.new-labels.ensures)

@@ -2,7 +2,8 @@ use Rattle.std.proofs.Common.{◌≡◌, ℕ, ◌+◌, ◌<◌, List, arith, len
 use Rattle.atomic_table.specs.Seated.{TableId}
 use Rattle.atomic_table.specs.Table.{Me}
 use Rattle.gt_types.specs.declared.config.Config.{Config}
-use Rattle.gt_words.specs.Conditions.{IsNewSeat, SeatOf}
+use Rattle.gt_words.specs.Answers.{IsNewSeat}
+use Rattle.gt_words.specs.Conditions.{SeatOf}
 use Rattle.gt_words.specs.Places.{IsNewPlace}
 use Rattle.gt_words.specs.Rule.{layout_of}
 use Rattle.gt_words.specs.declared.view.View.{View}

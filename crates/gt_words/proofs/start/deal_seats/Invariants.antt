@@ -1,5 +1,5 @@
 use Rattle.std.proofs.Common.{◌≡◌, ℕ, ◌<◌, ◌+◌, length, HoldsAt}
-use Rattle.gt_words.specs.Conditions.{IsNewSeat}
+use Rattle.gt_words.specs.Answers.{IsNewSeat}
 use Rattle.gt_words.specs.Places.{IsNewPlace}
 use Rattle.gt_words.specs.Rule.{layout_of}
 use Rattle.gt_words.proofs.start.deal_seats.Given as goal

@@ -3,7 +3,8 @@ use Rattle.gt_types.specs.declared.limits.TheConstants.{MAX_DOMAINS}
 use Rattle.gt_types.specs.Config.{IsWithinLimits}
 use Rattle.gt_types.specs.declared.config.Config.{Config}
 use Rattle.atomic_table.specs.Table.{Me}
-use Rattle.gt_words.specs.Conditions.{IsNewSeat, SeatOf}
+use Rattle.gt_words.specs.Answers.{IsNewSeat}
+use Rattle.gt_words.specs.Conditions.{SeatOf}
 use Rattle.gt_words.specs.Rule.{Layout, layout_of}
 use Rattle.gt_words.specs.declared.word_table.TheConstants.{DOMAIN_WORDS}
 use Rattle.gt_words.specs.declared.view.View.{View}

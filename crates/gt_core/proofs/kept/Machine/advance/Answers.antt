@@ -1,4 +1,5 @@
-use Rattle.gt_core.proofs.Words.{◌≡◌, List, length, refl, sym, ◌∙◌, subst, same_Some, slice_get_read, Own, knowledge_of, State}
+use Rattle.gt_core.proofs.Words.{◌≡◌, List, length, refl, sym, ◌∙◌, subst, same_Some, slice_get_read, Own, knowledge_of}
+use Rattle.gt_core.proofs.Words.{State}
 use Rattle.gt_calls.specs.Following.{IsLeftAlike}
 use Rattle.gt_core.proofs.kept.Machine.advance.Goals as goal
 

@@ -1,5 +1,10 @@
-use Rattle.gt_core.proofs.Words.{sym, ◌∙◌, ap, Some, ◌≡◌, ℕ, List, refl, subst, None, Option, position, is_some, Open, with_call, given_by, State, kept_by, ◌<◌, ◌+◌, knowledge_of, DomainsStand, Opens, same_Some, set, ◌∷◌, Opening, ◌^◌}
-use Rattle.gt_core.{proofs.Beginning.serial-left, proofs.Beginning.begin-wants, proofs.Beginning.begin-nowhere, proofs.Beginning.begin-busy, proofs.Beginning.begin-answers, proofs.Beginning.begin-opened, proofs.Beginning.place-at, proofs.Beginning.began, proofs.Placed.either-way, proofs.Placed.ids-set, proofs.Rows.has_id, proofs.Rows.on-err, specs.Standing.setting_by}
+use Rattle.gt_core.proofs.Words.{sym, ◌∙◌, ap, Some, ◌≡◌, ℕ, List, refl, subst, None, Option, position, is_some, Open}
+use Rattle.gt_core.proofs.Words.{with_call, given_by, State, kept_by, ◌<◌, ◌+◌, knowledge_of, DomainsStand, Opens}
+use Rattle.gt_core.proofs.Words.{same_Some, set, ◌∷◌, Opening, ◌^◌}
+use Rattle.gt_core.{proofs.Beginning.serial-left, proofs.Beginning.begin-wants, proofs.Beginning.begin-nowhere}
+use Rattle.gt_core.{proofs.Beginning.begin-busy, proofs.Beginning.begin-answers, proofs.Beginning.begin-opened}
+use Rattle.gt_core.{proofs.Beginning.place-at, proofs.Beginning.began, proofs.Placed.either-way, proofs.Placed.ids-set}
+use Rattle.gt_core.{proofs.Rows.has_id, proofs.Rows.on-err, specs.Acting.setting_by}
 use Rattle.gt_core.proofs.kept.Machine.begin.Goals as goal
 
 pub returns-in_default-clause-stands : goal.returns-in_default-clause-stands

@@ -1,4 +1,6 @@
-use Rattle.gt_core.proofs.{Words.List, Words.[], Words.refl, Words.sym, Words.subst, Words.State, Words.DomainsStand, Words.setting_of, Words.ap, Words.◌∙◌, Words.Config, Placed.ids_in, Placed.ids-first, Placed.numbers, Starting.starts}
+use Rattle.gt_core.proofs.{Words.List, Words.[], Words.refl, Words.sym, Words.subst, Words.State, Words.DomainsStand}
+use Rattle.gt_core.proofs.{Words.setting_of, Words.ap, Words.◌∙◌, Words.Config, Placed.ids_in, Placed.ids-first}
+use Rattle.gt_core.proofs.{Placed.numbers, Starting.starts}
 use Rattle.gt_core.proofs.kept.Machine.new.Goals as goal
 
 pub returns-clause-domains : goal.returns-clause-domains

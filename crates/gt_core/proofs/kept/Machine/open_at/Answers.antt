@@ -1,4 +1,5 @@
-use Rattle.gt_core.proofs.Words.{◌≡◌, List, length, refl, sym, ◌∙◌, subst, same_Some, slice_get_read, Own, knowledge_of, State, Opens}
+use Rattle.gt_core.proofs.Words.{◌≡◌, List, length, refl, sym, ◌∙◌, subst, same_Some, slice_get_read, Own, knowledge_of}
+use Rattle.gt_core.proofs.Words.{State, Opens}
 use Rattle.gt_core.proofs.kept.Machine.open_at.Goals as goal
 
 pub returns : goal.returns

@@ -1,5 +1,6 @@
 use Rattle.gt_core.proofs.Words.{◌≡◌, ◌<◌, ◌≤◌, ℕ, List, Some, None, sym, ap, ◌∙◌, subst, position, size_of, State}
-use Rattle.gt_core.{proofs.Rows.has_id, proofs.Showing.shown-nowhere, proofs.Showing.shown-past, proofs.Showing.shown-there, specs.Standing.setting_by}
+use Rattle.gt_core.{proofs.Rows.has_id, proofs.Showing.shown-nowhere, proofs.Showing.shown-past}
+use Rattle.gt_core.{proofs.Showing.shown-there, specs.Acting.setting_by}
 use Rattle.gt_core.proofs.kept.Machine.show.Goals as goal
 
 pub returns-in_err-at : goal.returns-in_err-at

@@ -1,6 +1,8 @@
-use Rattle.gt_core.proofs.Words.{◌≡◌, List, Option, Some, None, sym, ap, ◌∙◌, position, Held, State, place_of, Bor, option_copied}
+use Rattle.gt_core.proofs.Words.{◌≡◌, List, Option, Some, None, sym, ap, ◌∙◌, position, Held, State, place_of, Bor}
+use Rattle.gt_core.proofs.Words.{option_copied}
 use Rattle.std.specs.Prelude.{option_map}
-use Rattle.gt_core.{proofs.Rows.has_id, proofs.Showing.subject-nowhere, proofs.Showing.subject-there, specs.Standing.setting_by}
+use Rattle.gt_core.{proofs.Rows.has_id, proofs.Showing.subject-nowhere, proofs.Showing.subject-there}
+use Rattle.gt_core.{specs.Acting.setting_by}
 use Rattle.gt_core.proofs.kept.Machine.subject.Goals as goal
 
 pub returns-in_err-at : goal.returns-in_err-at

@@ -1,8 +1,12 @@
-use Rattle.gt_core.proofs.Words.{sym, refl, ◌∙◌, ap, Some, Bool, TypeId, Perms, CallerKnowledge, Settled, ◌≡◌, List, None, subst, position, slice_get, same_Some, State, IsAdmitted}
-use Rattle.gt_core.proofs.{Beginning.begin-nowhere, Beginning.tick-idle, Beginning.place-at, Performing.still-underway, Performing.still-within, Rows.has_id, Rows.on-err, Stepping.begins-after, Stepping.tick-does, Stepping.room-asked, Stepping.tick-wants, Stepping.tick-admitted, Stepping.tick-readable, Stepping.readable-after}
+use Rattle.gt_core.proofs.Words.{sym, refl, ◌∙◌, ap, Some, Bool, TypeId, Perms, CallerKnowledge, Settled, ◌≡◌, List}
+use Rattle.gt_core.proofs.Words.{None, subst, position, slice_get, same_Some, State, IsAdmitted}
+use Rattle.gt_core.proofs.{Beginning.begin-nowhere, Beginning.tick-idle, Beginning.place-at, Performing.still-underway}
+use Rattle.gt_core.proofs.{Performing.still-within, Rows.has_id, Rows.on-err, Stepping.begins-after, Stepping.tick-does}
+use Rattle.gt_core.proofs.{Stepping.room-asked, Stepping.tick-wants, Stepping.tick-admitted, Stepping.tick-readable}
+use Rattle.gt_core.proofs.{Stepping.readable-after}
 use Rattle.gt_calls.specs.Following.{IsLeftAlike}
 use Rattle.gt_core.specs.declared.kept.Machine.{Machine}
-use Rattle.gt_core.specs.Standing.{setting_by, known_by}
+use Rattle.gt_core.specs.Acting.{setting_by, known_by}
 use Rattle.gt_core.proofs.kept.Machine.tick.Goals as goal
 
 -- what a domain knows of the run stays

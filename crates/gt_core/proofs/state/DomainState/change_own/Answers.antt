@@ -1,4 +1,5 @@
-use Rattle.gt_core.proofs.{Words.◌<◌, Words.◌≤◌, Words.List, Words.length, Words.sym, Words.ap, Words.◌∙◌, Words.arith, Words.Own, Words.with_own, Words.own_after, Rows.set-changed, Rows.changed-past}
+use Rattle.gt_core.proofs.{Words.◌<◌, Words.◌≤◌, Words.List, Words.length, Words.sym, Words.ap, Words.◌∙◌, Words.arith}
+use Rattle.gt_core.proofs.{Words.Own, Words.with_own, Words.own_after, Rows.set-changed, Rows.changed-past}
 use Rattle.gt_core.proofs.state.DomainState.change_own.Goals as goal
 
 pub returns-then-at-len : goal.returns-then-at-len

@@ -1,4 +1,5 @@
-use Rattle.gt_core.proofs.{Words.◌<◌, Words.◌≤◌, Words.List, Words.length, Words.sym, Words.ap, Words.◌∙◌, Words.arith, Words.PinCounts, Words.with_slot, Words.slot_after, Rows.set-changed, Rows.changed-past}
+use Rattle.gt_core.proofs.{Words.◌<◌, Words.◌≤◌, Words.List, Words.length, Words.sym, Words.ap, Words.◌∙◌, Words.arith}
+use Rattle.gt_core.proofs.{Words.PinCounts, Words.with_slot, Words.slot_after, Rows.set-changed, Rows.changed-past}
 use Rattle.gt_core.proofs.state.DomainState.change_slot.Goals as goal
 
 pub returns-then-at-len : goal.returns-then-at-len

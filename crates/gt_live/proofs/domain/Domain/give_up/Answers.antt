@@ -5,7 +5,8 @@ use Rattle.std.specs.Prelude.{OnSome}
 use Rattle.gt_handles.specs.declared.handles.Handle.{Handle}
 use Rattle.gt_handles.specs.Handles.{HandleMap, Updates, count_of, value_of}
 use Rattle.gt_handles.specs.Listing.{IsTaken}
-use Rattle.gt_words.specs.Conditions.{HasDomain, Holds, Unpins}
+use Rattle.gt_words.specs.Conditions.{HasDomain, Holds}
+use Rattle.gt_words.specs.Answers.{Unpins}
 use Rattle.gt_words.specs.Controls.{generation_of}
 use Rattle.gt_words.specs.Rule.{position_in}
 use Rattle.gt_words.specs.declared.words.Pin.{Pin}

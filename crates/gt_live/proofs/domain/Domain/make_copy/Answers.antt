@@ -13,7 +13,8 @@ use Rattle.gt_frames.specs.Receipts.{Copying}
 use Rattle.gt_access.specs.Accesses.{copying_at}
 use Rattle.gt_live.specs.Accesses.{IsCopiedBy, spot_of}
 use Rattle.gt_live.proofs.Accessing.{refused-access}
-use Rattle.gt_live.proofs.Copied.{access-dest, access-dest-range, access-may, access-source, access-source-range, made-whole}
+use Rattle.gt_live.proofs.Copied.{access-dest, access-dest-range, access-may, access-source, access-source-range}
+use Rattle.gt_live.proofs.Copied.{made-whole}
 use Rattle.gt_live.proofs.Kept.{looked}
 use Rattle.gt_live.proofs.Making.{same_seat-then, still_seat}
 use Rattle.gt_live.proofs.Taking.{all-back}

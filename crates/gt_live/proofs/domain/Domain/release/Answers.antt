@@ -1,6 +1,7 @@
 use Rattle.std.proofs.Common.{◌<◌, sym, subst, refl, [], ◌∷◌}
 use Rattle.gt_types.specs.declared.limits.TheConstants.{TABLE_ENTRIES}
-use Rattle.gt_words.specs.Conditions.{HasDomain, Holds, Unpins}
+use Rattle.gt_words.specs.Conditions.{HasDomain, Holds}
+use Rattle.gt_words.specs.Answers.{Unpins}
 use Rattle.gt_words.specs.Controls.{generation_of}
 use Rattle.gt_words.specs.Rule.{position_in}
 use Rattle.gt_words.specs.declared.words.Pin.{Pin}

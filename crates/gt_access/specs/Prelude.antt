@@ -1,0 +1,29 @@
+-- The names of other crates, and of the code, that the definitions here speak of.
+pub use Rattle.gt_calls.specs.Holding.{owner_by}
+pub use Rattle.gt_calls.specs.Opening.{IsAllowed}
+pub use Rattle.gt_calls.specs.Resting.{LeadsTo}
+pub use Rattle.gt_calls.specs.Rules.{label_of, map_perms, triples}
+pub use Rattle.gt_calls.specs.declared.held.Held.{Held}
+pub use Rattle.gt_calls.specs.declared.held.Pins.{Pins}
+pub use Rattle.gt_calls.specs.declared.held.Route.{Route}
+pub use Rattle.gt_calls.specs.declared.held.Route.TheVariants.{Direct, Own, Through}
+pub use Rattle.gt_entry.specs.Permits.{forwards, is_of_frame, permits}
+pub use Rattle.gt_frames.specs.declared.places.FrameName.{FrameName}
+pub use Rattle.gt_frames.specs.declared.writ.Ground.TheVariants.{Forwarded, Granted, Owned}
+pub use Rattle.gt_frames.specs.declared.writ.Writ.{Writ}
+pub use Rattle.gt_types.specs.Names.{copy}
+pub use Rattle.gt_types.specs.declared.Dir.{Dir}
+pub use Rattle.gt_types.specs.declared.Dir.TheVariants.{Read, Write}
+pub use Rattle.gt_types.specs.declared.DomId.{DomId}
+pub use Rattle.gt_types.specs.declared.TypeId.{TypeId}
+pub use Rattle.gt_types.specs.declared.Use.{Use}
+pub use Rattle.gt_types.specs.declared.Use.TheVariants.{Copy as ForCopy}
+pub use Rattle.gt_types.specs.declared.config.DomainConfig.{DomainConfig}
+pub use Rattle.gt_types.specs.declared.limits.TheConstants.{TABLE_ENTRIES}
+pub use Rattle.gt_types.specs.declared.perms.Perms.{Perms}
+pub use Rattle.gt_words.specs.Conditions.{HasDomain, SeatOf}
+pub use Rattle.gt_words.specs.Controls.{generation_of}
+pub use Rattle.gt_words.specs.Rule.{Layout, position_in}
+pub use Rattle.gt_words.specs.Views.{IsIn, pins, steps_on}
+pub use Rattle.gt_words.specs.declared.view.EntryRecord.{EntryRecord}
+pub use Rattle.gt_words.specs.declared.view.View.{View}

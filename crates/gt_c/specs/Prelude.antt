@@ -1,0 +1,44 @@
+-- The names of other crates, and of the code, that the definitions here speak of.
+pub use Rattle.gt_allow.specs.Looking.{Table, looks}
+pub use Rattle.gt_audit.specs.Telling.{Tells}
+pub use Rattle.gt_audit.specs.declared.record.Hypercall.{Hypercall}
+pub use Rattle.gt_audit.specs.declared.record.Record.{Record as Kept}
+pub use Rattle.gt_c.specs.declared.copies.CopySettings.{CopySettings}
+pub use Rattle.gt_c.specs.declared.copies.PlaceTold.{PlaceTold}
+pub use Rattle.gt_c.specs.declared.copies.PlacesTold.{PlacesTold}
+pub use Rattle.gt_c.specs.declared.faults.Fault.{Fault}
+pub use Rattle.gt_c.specs.declared.handle.Handle.{Handle}
+pub use Rattle.gt_c.specs.declared.here.Here.{Here}
+pub use Rattle.gt_c.specs.declared.telling.Mapping.{Mapping}
+pub use Rattle.gt_calls.specs.declared.action.Place.{Place}
+pub use Rattle.gt_calls.specs.declared.action.Verdict.{Verdict}
+pub use Rattle.gt_calls.specs.declared.held.Held.{Held as Mapped}
+pub use Rattle.gt_calls.specs.declared.request.CopyArgs.{CopyArgs}
+pub use Rattle.gt_calls.specs.declared.request.End.{End}
+pub use Rattle.gt_calls.specs.declared.request.Request.{Request}
+pub use Rattle.gt_entry.specs.Entries.{frame_of}
+pub use Rattle.gt_handles.specs.Handles.{value_of}
+pub use Rattle.gt_handles.specs.declared.handles.Handle.{Handle as Name}
+pub use Rattle.gt_live.specs.Domains.{Answered, HasLeft, KeepsPinned, MapAnswered, mapping_reply, subject_of, told_of}
+pub use Rattle.gt_live.specs.Domains.{verdict_of}
+pub use Rattle.gt_live.specs.Mappings.{Removes}
+pub use Rattle.gt_live.specs.declared.domain.Domain.{Domain}
+pub use Rattle.gt_live.specs.declared.domain.Left.{Left}
+pub use Rattle.gt_seat.specs.Encoding.{encoded}
+pub use Rattle.gt_seat.specs.Recording.{no_end, recorded}
+pub use Rattle.gt_seat.specs.Seated.{Begins, Ends, Seated, StaysIdle}
+pub use Rattle.gt_seat.specs.declared.answer.Answer.{Answer}
+pub use Rattle.gt_seat.specs.declared.answer.Outcome.{Outcome}
+pub use Rattle.gt_seat.specs.declared.guest.Places.{Places}
+pub use Rattle.gt_seat.specs.declared.record.CopyEnd.{CopyEnd}
+pub use Rattle.gt_seat.specs.declared.record.Record.{Record}
+pub use Rattle.gt_types.specs.declared.Dir.{Dir}
+pub use Rattle.gt_types.specs.declared.Dir.TheVariants.{Read, Write}
+pub use Rattle.gt_types.specs.declared.DomId.{DomId}
+pub use Rattle.gt_types.specs.declared.GrantRef.{GrantRef}
+pub use Rattle.gt_types.specs.declared.Memory.{Memory}
+pub use Rattle.gt_types.specs.declared.Size.{Size}
+pub use Rattle.gt_types.specs.declared.TypeId.{TypeId}
+pub use Rattle.gt_types.specs.declared.denial.Denial.{Denial}
+pub use Rattle.gt_types.specs.declared.perms.Perms.{Perms}
+pub use Rattle.std.specs.List.{slice_get}

@@ -1,0 +1,86 @@
+-- The names of other crates, and of the code, that the definitions here speak of.
+pub use Rattle.gt_calls.specs.declared.action.Action.{Action}
+pub use Rattle.gt_calls.specs.declared.action.Action.TheVariants.{Done, Step as Makes}
+pub use Rattle.gt_calls.specs.declared.action.Place.{Place}
+pub use Rattle.gt_calls.specs.declared.action.Seen.{Seen}
+pub use Rattle.gt_calls.specs.declared.action.Seen.TheVariants.{Missed, Nothing, Taken, Word}
+pub use Rattle.gt_calls.specs.declared.action.Step.{Step}
+pub use Rattle.gt_calls.specs.declared.action.Step.TheVariants.{Copy as CopyBytes, Exchange, LookBody, LookControl}
+pub use Rattle.gt_calls.specs.declared.action.Step.TheVariants.{LookHeader, Pin, Read as ReadBytes, StoreBody}
+pub use Rattle.gt_calls.specs.declared.action.Step.TheVariants.{StoreHeader, Unpin, Write as WriteBytes}
+pub use Rattle.gt_calls.specs.declared.action.Value.{Value}
+pub use Rattle.gt_calls.specs.declared.action.Value.TheVariants.{Frames, Size as SizeTold, Version as VersionTold}
+pub use Rattle.gt_calls.specs.declared.action.Verdict.{Verdict}
+pub use Rattle.gt_calls.specs.declared.action.Verdict.TheVariants.{Given, Granted, Mapped, Refused}
+pub use Rattle.gt_calls.specs.declared.call.Call.{Call}
+pub use Rattle.gt_calls.specs.declared.call.Phase.{Phase}
+pub use Rattle.gt_calls.specs.declared.call.Phase.TheVariants.{Accessing, Asking, Changing, Ending, Exchanging, Last}
+pub use Rattle.gt_calls.specs.declared.call.Phase.TheVariants.{Looking, Storing, StoringSecond, Walking}
+pub use Rattle.gt_calls.specs.declared.call.Question.{Question}
+pub use Rattle.gt_calls.specs.declared.call.Question.TheVariants.{Size, Version}
+pub use Rattle.gt_calls.specs.declared.call.Start.{Start}
+pub use Rattle.gt_calls.specs.declared.call.Start.TheVariants.{Done as StartDone, Open}
+pub use Rattle.gt_calls.specs.declared.call.TheConstants.{MAX_STEPS}
+pub use Rattle.gt_calls.specs.declared.copying.Aim.{Aim}
+pub use Rattle.gt_calls.specs.declared.copying.Aim.TheVariants.{Dest, Mapping, Source}
+pub use Rattle.gt_calls.specs.declared.held.Held.{Held}
+pub use Rattle.gt_calls.specs.declared.held.Pins.{Pins}
+pub use Rattle.gt_calls.specs.declared.held.Route.{Route}
+pub use Rattle.gt_calls.specs.declared.held.Route.TheVariants.{Direct, Own, Through}
+pub use Rattle.gt_calls.specs.declared.judging.Judged.{Judged}
+pub use Rattle.gt_calls.specs.declared.judging.TheConstants.{END_OF_SERIALS}
+pub use Rattle.gt_calls.specs.declared.known.Known.{Known}
+pub use Rattle.gt_calls.specs.declared.leg.Leg.{Leg}
+pub use Rattle.gt_calls.specs.declared.leg.LegNext.{LegNext}
+pub use Rattle.gt_calls.specs.declared.leg.LegNext.TheVariants.{Going, Pinned, Refused as LegRefused}
+pub use Rattle.gt_calls.specs.declared.leg.LegPhase.{LegPhase}
+pub use Rattle.gt_calls.specs.declared.leg.LegPhase.TheVariants.{Body, Header, Look, Pinning, Relook, Second}
+pub use Rattle.gt_calls.specs.declared.leg.TheConstants.{MORE_TRIES}
+pub use Rattle.gt_calls.specs.declared.request.Asked.{Asked}
+pub use Rattle.gt_calls.specs.declared.request.Asked.TheVariants.{Copy, Demote, GetVersion, Grant, Load, Map, Peek}
+pub use Rattle.gt_calls.specs.declared.request.Asked.TheVariants.{Poke, Promote, QuerySize, Revoke, SetVersion}
+pub use Rattle.gt_calls.specs.declared.request.Asked.TheVariants.{SetupTable, Store, Unmap, Withdraw}
+pub use Rattle.gt_calls.specs.declared.request.CopyArgs.{CopyArgs}
+pub use Rattle.gt_calls.specs.declared.request.End.{End}
+pub use Rattle.gt_calls.specs.declared.request.Holder.TheVariants.{Leg as ByLeg, Mapping as ByHandle}
+pub use Rattle.gt_calls.specs.declared.request.Request.{Request}
+pub use Rattle.gt_entry.specs.Bytes.{Spells, field, first_refused, flags_of, is_set}
+pub use Rattle.gt_entry.specs.Entries.{IsEntry, frame_of}
+pub use Rattle.gt_entry.specs.Permits.{allows_direction, forwards, is_copying, permits}
+pub use Rattle.gt_entry.specs.Spelling.{entry_of}
+pub use Rattle.gt_entry.specs.Words.{control_of, control_word, header_of}
+pub use Rattle.gt_entry.specs.declared.change.Change.{Change}
+pub use Rattle.gt_entry.specs.declared.change.Change.TheVariants.{Demote as ToReadOnly, Promote as ToWritable, Publish}
+pub use Rattle.gt_entry.specs.declared.change.Change.TheVariants.{Revoke as ToInvalid, Withdraw as ToWithdrawn}
+pub use Rattle.gt_entry.specs.declared.change.Half.{Half}
+pub use Rattle.gt_entry.specs.declared.change.Half.TheVariants.{First as FirstHalf, Second as SecondHalf}
+pub use Rattle.gt_entry.specs.declared.control.Control.{Control}
+pub use Rattle.gt_entry.specs.declared.control.Kind.TheVariants.{Invalid as KindInvalid, Page as KindPage}
+pub use Rattle.gt_entry.specs.declared.control.Kind.TheVariants.{Sub as KindSub, Via as KindVia}
+pub use Rattle.gt_entry.specs.declared.entry.Entry.{Entry}
+pub use Rattle.gt_entry.specs.declared.entry.Entry.TheVariants.{Invalid, Page, Sub, Via}
+pub use Rattle.gt_handles.specs.Handles.{HandleMap, count_of, value_of}
+pub use Rattle.gt_handles.specs.declared.handles.Handle.{Handle}
+pub use Rattle.gt_types.specs.Denial.{denial_of}
+pub use Rattle.gt_types.specs.Names.{copy, domain_of, map_read, map_write, query, resolved, setup, unmap}
+pub use Rattle.gt_types.specs.declared.Dir.{Dir}
+pub use Rattle.gt_types.specs.declared.Dir.TheVariants.{Read, Write}
+pub use Rattle.gt_types.specs.declared.DomId.{DomId}
+pub use Rattle.gt_types.specs.declared.GrantRef.{GrantRef}
+pub use Rattle.gt_types.specs.declared.TypeId.{TypeId}
+pub use Rattle.gt_types.specs.declared.Use.{Use}
+pub use Rattle.gt_types.specs.declared.Use.TheVariants.{Copy as ForCopy, Map as ForMap}
+pub use Rattle.gt_types.specs.declared.config.DomainConfig.{DomainConfig}
+pub use Rattle.gt_types.specs.declared.denial.Denial.{Denial}
+pub use Rattle.gt_types.specs.declared.denial.Facts.TheVariants.{Entry as EntryFacts, Field as FieldFacts}
+pub use Rattle.gt_types.specs.declared.denial.Facts.TheVariants.{Header as HeaderFacts, None as NoFacts, Policy}
+pub use Rattle.gt_types.specs.declared.denial.Field.{Field}
+pub use Rattle.gt_types.specs.declared.denial.Rule.{Rule}
+pub use Rattle.gt_types.specs.declared.denial.Rule.TheVariants.{N1, N10, N11, N12, N13, N14, N15, N16, N17, N18, N19}
+pub use Rattle.gt_types.specs.declared.denial.Rule.TheVariants.{N2, N20, N21, N22, N23, N24, N25, N3, N4, N5, N6, N7}
+pub use Rattle.gt_types.specs.declared.denial.Rule.TheVariants.{N8, N9}
+pub use Rattle.gt_types.specs.declared.limits.TheConstants.{FRAME_SIZE, LAST_GENERATION, MAX_MAPPINGS, MAX_PINS}
+pub use Rattle.gt_types.specs.declared.limits.TheConstants.{MAX_TABLE_FRAMES, MAX_TRIES}
+pub use Rattle.gt_types.specs.declared.perms.Perms.{Perms}
+pub use Rattle.gt_types.specs.declared.rights.Triple.{Triple}
+pub use Rattle.std.proofs.Common.{arith}

@@ -1,0 +1,141 @@
+-- What a core does when it begins a call or makes its next step, and when memory can be wanted.
+use Rattle.std.specs.Prelude.{◌≡◌, ◌≢◌, ◌≤◌, ℕ, Bool, true, List, [], Option, Some, None}
+use Rattle.gt_core.specs.Prelude.{domain_of, DomId, TypeId, Perms, IsWithinLimits, IsFirstFault, StartFault}
+use Rattle.gt_core.specs.Prelude.{ConfigFault, NoMemory, Config, Request, Asked, asked, begun_of, IsSaid, Verdict}
+use Rattle.gt_core.specs.Prelude.{Granted, Given, KeptPin, Refused, Value, Frames, SizeTold, VersionTold, Seen, Action}
+use Rattle.gt_core.specs.Prelude.{Makes, Ends, Call, Answer, Denied, MappedAnswer, AnswerDone, BytesAnswer}
+use Rattle.gt_core.specs.Prelude.{FramesAnswer, SizeAnswer, VersionAnswer, Handle, Step, ReadBytes, bytes_at, FrameSet}
+use Rattle.gt_core.specs.Prelude.{frame_at, HandleMap, Held, set, Began, Stepped, Element, Busy, Idle, NoDomain, Did}
+use Rattle.gt_core.specs.Prelude.{Open, Begun, BegunOpen, BegunDone, BegunBusy, BegunNoDomain, Ticked, TickedStep}
+use Rattle.gt_core.specs.Prelude.{TickedDone, TickedIdle, TickedNoDomain, Machine, Opening, OpeningOpen, OpeningDone}
+use Rattle.gt_core.specs.Prelude.{CallerKnowledge, knowledge_of, begun, path, GoesOn, first_phase, action_at, Rests}
+use Rattle.gt_core.specs.Prelude.{IsAt, pins_by_call, most_steps, steps_to_come}
+use Rattle.gt_core.specs.declared.trace.Bytes.{Bytes}
+use Rattle.gt_core.specs.Effects.{with_underway, with_mapping, Adds}
+use Rattle.gt_core.specs.Accesses.{IsWriting}
+use Rattle.gt_core.specs.States.{State, CoreState, core_of, asks_memory, IsMapping}
+use Rattle.gt_core.specs.History.{History, Setting, known_at, Underway, open_call, values}
+
+-- a call opens so: no rule stands at its beginning, and it is about to make its first step
+pub record IsOpened (k : CallerKnowledge) (dom : DomId) (request : Request) (o : Open) : Type 0 where
+  pub unanswered : begun_of k dom request ≡ None
+  pub said : IsSaid k.header request
+  pub caller : o.call.caller ≡ dom
+  pub asks : o.call.request ≡ asked request
+  pub none : begun k dom (asked request) ≡ None
+  pub phase : o.call.phase ≡ Some (first_phase k dom (asked request))
+  pub at : IsAt k o.call []
+  pub acts : action_at dom (first_phase k dom (asked request)) ≡ Makes o.step
+  pub follows : GoesOn k dom (asked request) [] (Makes o.step)
+  pub rests : Rests k dom (asked request) (pins_by_call o.call) [] (Makes o.step)
+  pub few : steps_to_come o.call ≤ most_steps (asked request)
+
+-- a call begins so: with an answer, or with a first step
+abbrev pub Opens : CallerKnowledge → DomId → Request → Opening → Type 0
+Opens k dom request (OpeningDone verdict) = begun_of k dom request ≡ Some verdict
+Opens k dom request (OpeningOpen o) = IsOpened k dom request o
+
+-- the answer with this value
+abbrev pub answer_with : Value → Answer
+answer_with (Frames frames) = FramesAnswer frames
+answer_with (SizeTold size) = SizeAnswer size
+answer_with (VersionTold version) = VersionAnswer version
+
+-- the answer of a call that ends so, and gives no mapping and no bytes
+abbrev pub answer_of : Verdict → Answer
+answer_of Granted = AnswerDone
+answer_of (KeptPin p) = AnswerDone
+answer_of (Given value) = answer_with value
+answer_of (Refused denial) = Denied denial
+
+-- what the trace has for what `begin` did
+abbrev pub begun_element : DomId → Request → Begun → Element
+begun_element dom request BegunOpen = Did (record { actor = dom; happened = Began request; answer = None })
+begun_element dom request (BegunDone answer) =
+    Did (record { actor = dom; happened = Began request; answer = Some answer })
+begun_element dom request BegunBusy = Busy
+begun_element dom request BegunNoDomain = NoDomain
+
+-- what the trace has for what `tick` did
+abbrev pub ticked_element : DomId → Ticked → Element
+ticked_element dom (TickedStep step seen) = Did (record { actor = dom; happened = Stepped step seen; answer = None })
+ticked_element dom (TickedDone step seen answer) =
+    Did (record { actor = dom; happened = Stepped step seen; answer = Some answer })
+ticked_element dom TickedIdle = Idle
+ticked_element dom TickedNoDomain = NoDomain
+
+-- what a tick answers for a step: with the call's answer, if there is one
+abbrev pub ticked_with : Step → Seen → Option Answer → Ticked
+ticked_with step seen None = TickedStep step seen
+ticked_with step seen (Some answer) = TickedDone step seen answer
+
+-- the setting of a run with this configuration and these rights
+abbrev pub setting_of : Config → (TypeId → TypeId → Perms → Bool) → Setting
+setting_of config may = record { domains = config.domains.items; first_generation = config.first_gen; may = may }
+
+-- the setting of a machine's run, if this is what its policy allows by its rights
+abbrev pub setting_by : {P : Type 0} → (P → TypeId → TypeId → Perms → Bool) → Machine P → Setting
+setting_by may m = setting_of m.config (may m.rights)
+
+-- what a machine keeps
+abbrev pub state_by : {P : Type 0} → Machine P → CoreState
+state_by m = core_of m.domains.items m.frames
+
+-- what a call of this domain knows in a machine
+abbrev pub known_by : {P : Type 0} → (P → TypeId → TypeId → Perms → Bool)
+    → Machine P → State → CallerKnowledge
+known_by may m d = knowledge_of m.config.domains.items m.config.first_gen (may m.rights) d.own d.header d.mappings
+
+-- a call that is Ok is over after this last step: its answer, and the states; a read gives what the
+-- frame holds
+abbrev pub Closed : FrameSet → List State → ℕ → State → Step → Answer → List State → Type 0
+Closed fs xs at d (ReadBytes dom frame off len) answer new =
+    (b : Bytes) × (answer ≡ BytesAnswer b) × (new ≡ set xs at (with_underway None d))
+    × (b.bytes.items ≡ bytes_at (frame_at fs (record { owner = dom; number = frame })) off len)
+Closed fs xs at d step answer new = (answer ≡ AnswerDone) × (new ≡ set xs at (with_underway None d))
+
+-- a call is over with this verdict: its answer, and the states
+abbrev pub Ended : FrameSet → List State → ℕ → State → Step → Verdict → Answer → List State → Type 0
+Ended fs xs at d step Granted answer new = Closed fs xs at d step answer new
+Ended fs xs at d step (KeptPin held) answer new =
+    (handle : Handle) × (kept : HandleMap Held) × (answer ≡ MappedAnswer handle) × Adds d.mappings kept handle held
+    × (new ≡ set xs at (with_mapping kept d))
+Ended fs xs at d step (Given value) answer new =
+    (answer ≡ answer_with value) × (new ≡ set xs at (with_underway None d))
+Ended fs xs at d step (Refused denial) answer new =
+    (answer ≡ Denied denial) × (new ≡ set xs at (with_underway None d))
+
+-- a call comes to its next step, or to its end with an answer
+abbrev pub Settled : FrameSet → List State → ℕ → State → Step → Call → Action
+    → Option Answer → List State → Type 0
+Settled fs xs at d step call (Makes next) answer new =
+    (answer ≡ None) × (new ≡ set xs at (with_underway (Some (record { call = call; step = next })) d))
+Settled fs xs at d step call (Ends verdict) answer new =
+    (a : Answer) × (answer ≡ Some a) × Ended fs xs at d step verdict a new
+
+-- only a map ends with a mapping, for which it made room when it began
+abbrev pub IsRoomFor : Asked → Action → Type 0
+IsRoomFor request (Ends (KeptPin held)) = IsMapping (Some request)
+IsRoomFor request action = Unit {0}
+
+-- a run can't start for this reason: the first fault of its configuration, or, if that has none, refused memory
+abbrev pub IsStartFaultOf : Config → StartFault → Type 0
+IsStartFaultOf config (ConfigFault fault) = IsFirstFault config fault
+IsStartFaultOf config NoMemory = IsWithinLimits config
+
+-- memory can be wanted if a domain of the run, at rest, begins a map, a load, a store, a peek or a poke against
+-- which no rule stands
+abbrev pub WantsMemory : Setting → History → DomId → Request → Type 0
+WantsMemory s h d request =
+    (asks_memory (asked request) ≡ true) × (domain_of s.domains d ≢ None) × (open_call h d.0 ≡ None)
+    × (begun_of (known_at s h d) d request ≡ None)
+
+-- the action is an access that writes: of a store, a poke or a copy
+abbrev pub IsWritingNext : Option Action → Type 0
+IsWritingNext (Some (Makes step)) = IsWriting step
+IsWritingNext action = ⊥
+
+-- memory can be wanted if the domain's open call is about to write bytes, whose frame keeps a record of them
+abbrev pub WantsMemoryNow : Setting → History → DomId → Type 0
+WantsMemoryNow s h d =
+    (c : Underway) × (open_call h d.0 ≡ Some c) × IsWritingNext (path (known_at s h d) d c.request (values c))

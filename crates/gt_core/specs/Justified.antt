@@ -1,0 +1,121 @@
+-- When a domain may reach bytes: what an access, and a change of an entry, must have for it.
+use Rattle.std.specs.Prelude.{◌≡◌, ◌≤◌, ◌⊎◌, ℕ, Bool, true, false, [], Option, Some, None, Any, ◌+◌, ◌<◌}
+use Rattle.gt_core.specs.Prelude.{resolved, IsAllowed, DomId, FRAME_SIZE, Dir, Read, Write, Use, ForMap, ForCopy}
+use Rattle.gt_core.specs.Prelude.{Invalid, permits, forwards, IsSpelled, FirstHalf, SecondHalf, ByMapping, Asked, Unmap}
+use Rattle.gt_core.specs.Prelude.{Load, Store, Copy, Held, Place, Change, Publish, ToInvalid, ToReadOnly, ToWritable}
+use Rattle.gt_core.specs.Prelude.{ToWithdrawn, Step, StoreBody, Unpin, Exchange, ReadBytes, WriteBytes, CopyBytes}
+use Rattle.gt_core.specs.Prelude.{Taken, Item, Happened, Stepped, rights_to_map, rights_to_copy, frames_of}
+use Rattle.gt_core.specs.Prelude.{is_source_granted, is_dest_granted, LeadsTo}
+use Rattle.gt_core.specs.History.{History, Setting, entry_at, body_at, reads_at, writes_at, live, Pin, known_at}
+use Rattle.gt_core.specs.History.{frame_of, mappings_at, mapping_of}
+
+-- The live pin lets domain d reach this range of a frame: it was taken from an entry of the frame that permitted the
+-- domain judged this direction, purpose and range; for writing it is a write pin
+pub record Reaches (d judged : DomId) (dir : Dir) (purpose : Use) (at : Place) (len : ℕ) (p : Pin) : Type 0 where
+  pub of_actor : p.actor ≡ d.0
+  pub of_owner : p.held.dom.0 ≡ at.owner.0
+  pub of_frame : frame_of p.held.entry ≡ at.frame
+  pub permitted : permits p.held.entry judged dir purpose at.off len ≡ true
+  pub writes : (dir ≡ Write) → p.held.dir ≡ Write
+
+-- The live pin is of a Via of the domain named, which forwarded domain d in this direction, and leads to the entry of
+-- the other pin; for writing it is a write pin
+pub record Forwards (d : DomId) (dir : Dir) (named : DomId) (p via : Pin) : Type 0 where
+  pub of_actor : via.actor ≡ d.0
+  pub of_named : via.held.dom ≡ named
+  pub forwarded : forwards via.held.entry d dir ≡ true
+  pub leads : LeadsTo via.held.entry p.held
+  pub writes : (dir ≡ Write) → via.held.dir ≡ Write
+
+-- the policy allows domain d a mapping of this kind of a frame of domain t (XSM FLASK)
+abbrev pub MayUse : Setting → DomId → DomId → Dir → Type 0
+MayUse s d t dir = IsAllowed s.may (rights_to_map (known_at s [] d) d t dir)
+
+-- the policy allows a copy from the first domain of the pair to the second (XSM FLASK)
+abbrev pub MayCopy : Setting → DomId × DomId → Type 0
+MayCopy s pair = IsAllowed s.may (rights_to_copy (known_at s [] pair.0) pair.0 pair.1)
+
+-- the frame is one of the domain's, and the range is inside it
+abbrev pub IsInFrame : Setting → Place → ℕ → Type 0
+IsInFrame s at len = (at.frame < frames_of s.domains at.owner) × (at.off + len ≤ FRAME_SIZE)
+
+-- the domain's own frame, or a range that a live pin of a mapping's kind reaches
+abbrev pub MayAccess : History → DomId → Dir → Place → ℕ → Type 0
+MayAccess before d dir at len = (at.owner.0 ≡ d.0) ⊎ Any (Reaches d d dir ForMap at len) (live before)
+
+-- the policy allows what the pin of this mapping is for; there is such a mapping (XSM FLASK)
+abbrev pub MayUseMapping : Setting → DomId → Option Held → Type 0
+MayUseMapping s d None = ⊥
+MayUseMapping s d (Some m) = MayUse s d m.dom m.dir
+
+-- the policy allows what the call asks for its access: a load or store what the pin of its mapping is for, in whichever
+-- frame (XSM FLASK)
+abbrev pub MayAsk : Setting → History → DomId → Asked → Type 0
+MayAsk s before d (Load handle off len) = MayUseMapping s d (mapping_of (mappings_at before d.0) handle)
+MayAsk s before d (Store handle off len) = MayUseMapping s d (mapping_of (mappings_at before d.0) handle)
+MayAsk s before d request = Unit {0}
+
+-- two live pins reach this range: one of a Via of the domain named, and one of the entry that it leads to, which
+-- permitted the Via's owner
+abbrev pub ReachesThrough : History → DomId → Dir → Place → ℕ → DomId → Type 0
+ReachesThrough before d dir at len named =
+    Any (λ p. Any (λ via. Forwards d dir named p via × Reaches d named dir ForCopy at len p) (live before))
+    (live before)
+
+-- an end of a copy: if it was given by a frame number, in a frame of the domain's own; else reached by a pin on an
+-- entry of the domain named, or through a Via of that domain if the policy allows the copy between the owners,
+-- whosever the frame is
+abbrev pub EndIsJustified : Setting → History → DomId → Bool → Dir → Place → ℕ → DomId → DomId × DomId → Type 0
+EndIsJustified s before d granted dir at len named owners =
+    ((granted ≡ false) × (at.owner ≡ d))
+    ⊎ ((granted ≡ true) × (at.owner ≡ named) × Any (Reaches d d dir ForCopy at len) (live before))
+    ⊎ ((granted ≡ true) × ReachesThrough before d dir at len named × MayCopy s owners)
+
+-- a copy's access is of the call's two ends, each justified, and the policy allows the copy between the domains named;
+-- a Via of the source asks for its owner's domain and the destination named, one of the destination for the owners of
+-- both frames
+abbrev pub CopyIsJustified : Setting → History → DomId → Asked → Place → Place → ℕ → Type 0
+CopyIsJustified s before d (Copy c) from to len =
+    IsInFrame s from len × IsInFrame s to len × MayCopy s (resolved d c.source.domid, resolved d c.dest.domid)
+    × EndIsJustified s before d (is_source_granted c) Read from len (resolved d c.source.domid)
+    (from.owner, resolved d c.dest.domid)
+    × EndIsJustified s before d (is_dest_granted c) Write to len (resolved d c.dest.domid) (from.owner, to.owner)
+CopyIsJustified s before d request from to len = ⊥
+
+-- an access of one range is inside a frame, of the domain's own or reached by a pin, and the policy allows what its
+-- call asks
+abbrev pub AccessIsJustified : Setting → History → DomId → Asked → Dir → Place → ℕ → Type 0
+AccessIsJustified s before d request dir at len =
+    IsInFrame s at len × MayAccess before d dir at len × MayAsk s before d request
+
+-- an access is justified, and a mapping is given up only by the unmap that asked for its handle
+abbrev pub Justified : Setting → History → DomId → Asked → Step → Type 0
+Justified s before d request (ReadBytes dom frame off len) =
+    AccessIsJustified s before d request Read (record { owner = dom; frame = frame; off = off }) len
+Justified s before d request (WriteBytes dom frame off len) =
+    AccessIsJustified s before d request Write (record { owner = dom; frame = frame; off = off }) len
+Justified s before d request (CopyBytes from to len) = CopyIsJustified s before d request from to len
+Justified s before d request (Unpin p (ByMapping handle)) = request ≡ Unmap handle
+Justified s before d request _ = Unit {0}
+
+-- owners' changes, and pins
+
+-- the change is made only of an entry that allows it: a publication on an Invalid one without live pins, spelled by
+-- the stored body words; a revocation if no pin is live, a demotion if no write pin is; a withdrawal always
+abbrev pub IsSafeChange : History → ℕ → ℕ → Change → Type 0
+IsSafeChange before t r (Publish entry) =
+    (entry_at before t r ≡ Invalid) × IsSpelled entry (body_at before t r FirstHalf) (body_at before t r SecondHalf)
+    × (reads_at before t r ≡ 0) × (writes_at before t r ≡ 0)
+IsSafeChange before t r ToWithdrawn = Unit {0}
+IsSafeChange before t r ToInvalid = (reads_at before t r ≡ 0) × (writes_at before t r ≡ 0)
+IsSafeChange before t r ToReadOnly = writes_at before t r ≡ 0
+IsSafeChange before t r ToWritable = Unit {0}
+
+-- an exchange that is taken makes a safe change, and a body word is stored only on an Invalid entry
+abbrev pub IsSafe : Setting → History → Item → Type 0
+IsSafe s before i = IsSafeStep i.happened
+  where
+    IsSafeStep : Happened → Type 0
+    IsSafeStep (Stepped (Exchange gref looked change) Taken) = IsSafeChange before i.actor.0 gref.0 change
+    IsSafeStep (Stepped (StoreBody gref half word) seen) = entry_at before i.actor.0 gref.0 ≡ Invalid
+    IsSafeStep _ = Unit {0}

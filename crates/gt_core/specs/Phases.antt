@@ -1,0 +1,107 @@
+-- What the steps of an open call have shown in each of its phases.
+use Rattle.std.specs.Prelude.{◌≡◌, ◌≢◌, ◌<◌, ◌≤◌, ◌+◌, ◌⊎◌, ℕ, true, false, List, [], ◌∷◌, Option, Some, None, All}
+use Rattle.gt_core.specs.Prelude.{domain_of, resolved, DomId, Denial, TABLE_ENTRIES, CopyArgs, Asked, Verdict, Granted}
+use Rattle.gt_core.specs.Prelude.{Given, Refused, Frames, Publish, ToInvalid, FirstHalf, SecondHalf, Seen, Step}
+use Rattle.gt_core.specs.Prelude.{StoreHeader, Held, first_look, first_body, is_kind, control_with, rule_of_try}
+use Rattle.gt_core.specs.Prelude.{MORE_TRIES, entry_of, Rule, Entry, Invalid, Control, KindSub, control_of, Copy}
+use Rattle.gt_core.specs.Prelude.{SetVersion, SetupTable, QuerySize, GetVersion, last_first, Question, AsksSize}
+use Rattle.gt_core.specs.Prelude.{AsksVersion, Leg, LegPhase, AtHeader, Look, Body, Second, Pinning, Relook, Phase}
+use Rattle.gt_core.specs.Prelude.{Storing, StoringSecond, Exchanging, Looking, Changing, Walking, Accessing, Asking}
+use Rattle.gt_core.specs.Prelude.{Last, Ending}
+use Rattle.gt_core.specs.History.{History, Setting, entry_at, generation_at, body_at}
+use Rattle.gt_core.specs.Legal.{LeavesAll, IsSpelled}
+use Rattle.gt_core.specs.FirstRule.{StepsSoFar, misses, looked_at, is_in_body, refusal_in}
+
+-- while the leg's entry has the generation that was looked at and is valid, this holds of it
+abbrev pub WhileSame : Setting → History → Leg → ℕ → (Entry → Type 0) → Type 0
+WhileSame s h l word Holds =
+    generation_at s h l.dom.0 l.gref.0 ≡ (control_of word).generation → entry_at h l.dom.0 l.gref.0 ≢ Invalid
+    → Holds (entry_at h l.dom.0 l.gref.0)
+
+-- the entry is the one that this word shows
+abbrev pub IsShown : Control → Entry → Type 0
+IsShown c entry = c ≡ control_with entry c.generation c.reads c.writes
+
+-- a control word of the leg's entry was looked at in this try, no rule on the entry stood, and the entry's generation
+-- was reached
+pub record HasLooked (s : Setting) (h : History) (l : Leg) (so_far : StepsSoFar) (more word : ℕ) : Type 0 where
+  pub within : l.gref.0 < TABLE_ENTRIES
+  pub turn : misses so_far + more ≡ MORE_TRIES
+  pub looked : looked_at so_far ≡ Some word
+  pub passed : first_look l (control_of word) ≡ None
+  pub reached : (control_of word).generation ≤ generation_at s h l.dom.0 l.gref.0
+  pub shown : WhileSame s h l word (IsShown (control_of word))
+
+-- its body words were read too, and this rule stands on them
+pub record HasRead (s : Setting) (h : History) (l : Leg) (so_far : StepsSoFar) (word body second : ℕ)
+    (rule : Option Rule) : Type 0 where
+  pub in_body : is_in_body so_far ≡ true
+  pub judged : rule_of_try l word body second ≡ rule
+  pub spelled : WhileSame s h l word (λ entry. entry_of (control_of word) body second ≡ entry)
+
+-- a leg is in this phase, by the steps so far
+abbrev pub LegStands : Setting → History → Leg → StepsSoFar → LegPhase → Type 0
+LegStands s h l so_far AtHeader = Unit {0}
+LegStands s h l so_far (Look more) =
+    (l.gref.0 < TABLE_ENTRIES) × (misses so_far + more ≡ MORE_TRIES) × (is_in_body so_far ≡ false)
+LegStands s h l so_far (Body more word) = HasLooked s h l so_far more word
+LegStands s h l so_far (Second more word body) =
+    HasLooked s h l so_far more word × WhileSame s h l word (λ entry. first_body entry ≡ body)
+    × (is_kind (control_of word).kind KindSub ≡ true)
+LegStands s h l so_far (Pinning more word body second) =
+    HasLooked s h l so_far more word × HasRead s h l so_far word body second None
+LegStands s h l so_far (Relook more word rule) =
+    HasLooked s h l so_far more word
+    × ((body : ℕ) × (second : ℕ) × HasRead s h l so_far word body second (Some rule))
+
+-- the call asks this of a header
+abbrev pub Asks : DomId → Asked → DomId → Question → Type 0
+Asks d request dom AsksSize = (named : DomId) × (request ≡ QuerySize named) × (dom ≡ resolved d named)
+Asks d request dom AsksVersion = (named : DomId) × (request ≡ GetVersion named) × (dom ≡ resolved d named)
+
+-- the call ends so after its one step: a set up with the frames that it stored, each other one with no value
+abbrev pub EndsAfter : Asked → Step → Verdict → Type 0
+EndsAfter request (StoreHeader version frames) verdict =
+    ((request ≡ SetVersion version) × (verdict ≡ Granted))
+    ⊎ ((request ≡ SetupTable frames) × (verdict ≡ Given (Frames frames)))
+EndsAfter request step verdict = verdict ≡ Granted
+
+-- a copy ends with Ok, or with a refusal
+abbrev pub EndsCopy : Verdict → Type 0
+EndsCopy Granted = Unit {0}
+EndsCopy (Refused denial) = Unit {0}
+EndsCopy verdict = ⊥
+
+-- a call is in this phase, by the steps so far, the newest first
+abbrev pub PhaseStands : Setting → History → DomId → Asked → StepsSoFar → Phase → Type 0
+PhaseStands s h d request so_far (Storing gref entry) = Unit {0}
+PhaseStands s h d request so_far (StoringSecond gref entry) = body_at h d.0 gref.0 FirstHalf ≡ first_body entry
+PhaseStands s h d request so_far (Exchanging gref looked (Publish entry)) =
+    IsSpelled entry (body_at h d.0 gref.0 FirstHalf) (body_at h d.0 gref.0 SecondHalf)
+PhaseStands s h d request so_far (Exchanging gref looked ToInvalid) = Unit {0}
+PhaseStands s h d request so_far (Exchanging gref looked change) = ⊥
+PhaseStands s h d request so_far (Looking gref change more) =
+    (misses so_far + more ≡ MORE_TRIES) × (is_in_body so_far ≡ false)
+PhaseStands s h d request so_far (Changing gref change more looked) =
+    (misses so_far + more ≡ MORE_TRIES) × (looked_at so_far ≡ Some looked)
+PhaseStands s h d request so_far (Walking aim l at) = (domain_of s.domains l.dom ≢ None) × LegStands s h l so_far at
+PhaseStands s h d request so_far (Accessing copy source dest) = Unit {0}
+PhaseStands s h d request so_far (Asking dom question) = Asks d request dom question
+PhaseStands s h d request so_far (Last step verdict) = EndsAfter request step verdict
+PhaseStands s h d request so_far (Ending pins verdict) =
+    (last_first pins ≡ []) ⊎ ((copy : CopyArgs) × (request ≡ Copy copy) × EndsCopy verdict)
+
+-- the refusal that a call ends with, if it has come to its end
+abbrev pub phase_refusal : Phase → Option Denial
+phase_refusal (Ending pins verdict) = refusal_in (Some verdict)
+phase_refusal phase = None
+
+-- the steps so far have left all as it was, unless the call is to end with Ok
+abbrev pub IsClean : Phase → List (Step × Seen) → Type 0
+IsClean (Ending pins verdict) steps = (refusal_in (Some verdict) ≡ None) ⊎ All LeavesAll steps
+IsClean phase steps = All LeavesAll steps
+
+-- these, each under its place from this one on
+abbrev pub numbered : ℕ → List Held → List (ℕ × Held)
+numbered n [] = []
+numbered n (p ∷ ps) = (n, p) ∷ numbered (n + 1) ps

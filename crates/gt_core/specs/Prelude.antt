@@ -1,0 +1,120 @@
+-- The names of other crates, and of the code, that the definitions here speak of.
+pub use Rattle.gt_calls.specs.Asking.{FitsAsked, IsSaid, asked, begun_of, given_by}
+pub use Rattle.gt_calls.specs.Counting.{most_steps, steps_left, steps_to_come}
+pub use Rattle.gt_calls.specs.Following.{GoesOn}
+pub use Rattle.gt_calls.specs.Holding.{last_first}
+pub use Rattle.gt_calls.specs.Machine.{action_at, first_phase}
+pub use Rattle.gt_calls.specs.Opening.{IsAllowed}
+pub use Rattle.gt_calls.specs.Path.{dest_pair, end_leg, entry_refusal, map_leg, path, rule_of_try, second_leg}
+pub use Rattle.gt_calls.specs.Path.{source_pair}
+pub use Rattle.gt_calls.specs.Resting.{LeadsTo, Rests}
+pub use Rattle.gt_calls.specs.Rules.{CallerKnowledge, before_pin, begun, control_with, entry_in, first, first_body}
+pub use Rattle.gt_calls.specs.Rules.{first_look, frames_of, generation_in, is_dest_granted, is_kind, is_source_granted}
+pub use Rattle.gt_calls.specs.Rules.{knowledge_of, rights_to_copy, rights_to_map, size_of, stands, via_judged}
+pub use Rattle.gt_calls.specs.Standing.{IsAt, StandsAt, held_in, pins_at, pins_by_call}
+pub use Rattle.gt_calls.specs.declared.action.Action.{Action}
+pub use Rattle.gt_calls.specs.declared.action.Action.TheVariants.{Done as Ends, Step as Makes}
+pub use Rattle.gt_calls.specs.declared.action.Place.{Place}
+pub use Rattle.gt_calls.specs.declared.action.Seen.{Seen}
+pub use Rattle.gt_calls.specs.declared.action.Seen.TheVariants.{Missed, Nothing, Taken, Word}
+pub use Rattle.gt_calls.specs.declared.action.Step.{Step}
+pub use Rattle.gt_calls.specs.declared.action.Step.TheVariants.{Copy as CopyBytes, Exchange, LookBody, LookControl}
+pub use Rattle.gt_calls.specs.declared.action.Step.TheVariants.{LookHeader, Pin, Pin as PinStep, Read as ReadBytes}
+pub use Rattle.gt_calls.specs.declared.action.Step.TheVariants.{StoreBody, StoreHeader, Unpin, Write as WriteBytes}
+pub use Rattle.gt_calls.specs.declared.action.Value.{Value}
+pub use Rattle.gt_calls.specs.declared.action.Value.TheVariants.{Frames, Size as SizeTold, Version as VersionTold}
+pub use Rattle.gt_calls.specs.declared.action.Verdict.{Verdict}
+pub use Rattle.gt_calls.specs.declared.action.Verdict.TheVariants.{Given, Granted, Mapped as KeptPin, Refused}
+pub use Rattle.gt_calls.specs.declared.call.Call.{Call}
+pub use Rattle.gt_calls.specs.declared.call.Phase.{Phase}
+pub use Rattle.gt_calls.specs.declared.call.Phase.TheVariants.{Accessing, Asking, Changing, Ending, Exchanging, Last}
+pub use Rattle.gt_calls.specs.declared.call.Phase.TheVariants.{Looking, Storing, StoringSecond, Walking}
+pub use Rattle.gt_calls.specs.declared.call.Question.{Question}
+pub use Rattle.gt_calls.specs.declared.call.Question.TheVariants.{Size as AsksSize, Version as AsksVersion}
+pub use Rattle.gt_calls.specs.declared.held.Held.{Held}
+pub use Rattle.gt_calls.specs.declared.held.Route.{Route}
+pub use Rattle.gt_calls.specs.declared.held.Route.TheVariants.{Direct, Through}
+pub use Rattle.gt_calls.specs.declared.judging.TheConstants.{END_OF_SERIALS}
+pub use Rattle.gt_calls.specs.declared.leg.Leg.{Leg}
+pub use Rattle.gt_calls.specs.declared.leg.LegPhase.{LegPhase}
+pub use Rattle.gt_calls.specs.declared.leg.LegPhase.TheVariants.{Body, Header as AtHeader, Look, Pinning, Relook}
+pub use Rattle.gt_calls.specs.declared.leg.LegPhase.TheVariants.{Second}
+pub use Rattle.gt_calls.specs.declared.leg.TheConstants.{MORE_TRIES}
+pub use Rattle.gt_calls.specs.declared.request.Asked.{Asked}
+pub use Rattle.gt_calls.specs.declared.request.Asked.TheVariants.{Copy, Demote, GetVersion, Load, Map, Peek, Poke}
+pub use Rattle.gt_calls.specs.declared.request.Asked.TheVariants.{QuerySize, SetVersion, SetupTable, Store, Unmap}
+pub use Rattle.gt_calls.specs.declared.request.CopyArgs.{CopyArgs}
+pub use Rattle.gt_calls.specs.declared.request.Holder.{Holder}
+pub use Rattle.gt_calls.specs.declared.request.Holder.TheVariants.{Leg as ByLeg, Mapping as ByMapping}
+pub use Rattle.gt_calls.specs.declared.request.Request.{Request}
+pub use Rattle.gt_core.specs.declared.core_state.Begun.{Begun}
+pub use Rattle.gt_core.specs.declared.core_state.Begun.TheVariants.{Busy as BegunBusy, Done as BegunDone}
+pub use Rattle.gt_core.specs.declared.core_state.Begun.TheVariants.{NoDomain as BegunNoDomain, Open as BegunOpen}
+pub use Rattle.gt_core.specs.declared.core_state.Ticked.{Ticked}
+pub use Rattle.gt_core.specs.declared.core_state.Ticked.TheVariants.{Done as TickedDone, Idle as TickedIdle}
+pub use Rattle.gt_core.specs.declared.core_state.Ticked.TheVariants.{NoDomain as TickedNoDomain, Step as TickedStep}
+pub use Rattle.gt_core.specs.declared.kept.Machine.{Machine}
+pub use Rattle.gt_core.specs.declared.machine.Opening.{Opening}
+pub use Rattle.gt_core.specs.declared.machine.Opening.TheVariants.{Done as OpeningDone, Open as OpeningOpen}
+pub use Rattle.gt_core.specs.declared.pin_counts.CountsChange.{CountsChange}
+pub use Rattle.gt_core.specs.declared.pin_counts.CountsChange.TheVariants.{Pinned, Stored, Unpinned}
+pub use Rattle.gt_core.specs.declared.pin_counts.PinCounts.{PinCounts}
+pub use Rattle.gt_core.specs.declared.trace.Answer.{Answer}
+pub use Rattle.gt_core.specs.declared.trace.Answer.TheVariants.{Bytes, Bytes as BytesAnswer, Denied, Done}
+pub use Rattle.gt_core.specs.declared.trace.Answer.TheVariants.{Done as AnswerDone, Frames as FramesAnswer, Mapped}
+pub use Rattle.gt_core.specs.declared.trace.Answer.TheVariants.{Mapped as MappedAnswer, Size, Size as SizeAnswer}
+pub use Rattle.gt_core.specs.declared.trace.Answer.TheVariants.{Version, Version as VersionAnswer}
+pub use Rattle.gt_core.specs.declared.trace.Element.{Element}
+pub use Rattle.gt_core.specs.declared.trace.Element.TheVariants.{Busy, Idle, Item as Did, NoDomain}
+pub use Rattle.gt_core.specs.declared.trace.Event.{Event}
+pub use Rattle.gt_core.specs.declared.trace.Event.TheVariants.{Begin, Tick}
+pub use Rattle.gt_core.specs.declared.trace.Happened.{Happened}
+pub use Rattle.gt_core.specs.declared.trace.Happened.TheVariants.{Began, Stepped}
+pub use Rattle.gt_core.specs.declared.trace.Item.{Item}
+pub use Rattle.gt_core.specs.declared.underway.Open.{Open}
+pub use Rattle.gt_entry.specs.Entries.{IsEntry}
+pub use Rattle.gt_entry.specs.Permits.{forwards, permits}
+pub use Rattle.gt_entry.specs.Spelling.{IsSpelled, entry_of}
+pub use Rattle.gt_entry.specs.Words.{IsInRange, control_of, control_word, header_word, pins_of}
+pub use Rattle.gt_entry.specs.declared.change.Change.{Change}
+pub use Rattle.gt_entry.specs.declared.change.Change.TheVariants.{Demote as ToReadOnly, Promote as ToWritable, Publish}
+pub use Rattle.gt_entry.specs.declared.change.Change.TheVariants.{Revoke as ToInvalid, Withdraw as ToWithdrawn}
+pub use Rattle.gt_entry.specs.declared.change.Half.{Half}
+pub use Rattle.gt_entry.specs.declared.change.Half.TheVariants.{First as FirstHalf, Second as SecondHalf}
+pub use Rattle.gt_entry.specs.declared.control.Control.{Control}
+pub use Rattle.gt_entry.specs.declared.control.Kind.TheVariants.{Sub as KindSub}
+pub use Rattle.gt_entry.specs.declared.entry.Entry.{Entry}
+pub use Rattle.gt_entry.specs.declared.entry.Entry.TheVariants.{Invalid, Via}
+pub use Rattle.gt_entry.specs.declared.header.Header.{Header}
+pub use Rattle.gt_frames.specs.Bytes.{Patch, written}
+pub use Rattle.gt_frames.specs.Frames.{bytes_at, patches}
+pub use Rattle.gt_frames.specs.Places.{frame_counts}
+pub use Rattle.gt_frames.specs.Sets.{AreKept, FrameSet, frame_at}
+pub use Rattle.gt_frames.specs.declared.places.FrameName.{FrameName}
+pub use Rattle.gt_handles.specs.Handles.{HandleMap, Updates, count_of, value_of, value_of as mapping_under}
+pub use Rattle.gt_handles.specs.declared.handles.Handle.{Handle}
+pub use Rattle.gt_types.specs.Config.{IsFirstFault, IsWithinLimits}
+pub use Rattle.gt_types.specs.Denial.{denial_of}
+pub use Rattle.gt_types.specs.Names.{domain_of, resolved}
+pub use Rattle.gt_types.specs.declared.Dir.{Dir}
+pub use Rattle.gt_types.specs.declared.Dir.TheVariants.{Read, Write}
+pub use Rattle.gt_types.specs.declared.DomId.{DomId}
+pub use Rattle.gt_types.specs.declared.GrantRef.{GrantRef}
+pub use Rattle.gt_types.specs.declared.TypeId.{TypeId}
+pub use Rattle.gt_types.specs.declared.Use.{Use}
+pub use Rattle.gt_types.specs.declared.Use.TheVariants.{Copy as ForCopy, Map as ForMap}
+pub use Rattle.gt_types.specs.declared.config.Config.{Config}
+pub use Rattle.gt_types.specs.declared.config.DomainConfig.{DomainConfig}
+pub use Rattle.gt_types.specs.declared.config.StartFault.{StartFault}
+pub use Rattle.gt_types.specs.declared.config.StartFault.TheVariants.{Config as ConfigFault, Memory as NoMemory}
+pub use Rattle.gt_types.specs.declared.denial.Denial.{Denial}
+pub use Rattle.gt_types.specs.declared.denial.Facts.TheVariants.{Header as HeaderFacts}
+pub use Rattle.gt_types.specs.declared.denial.Rule.{Rule}
+pub use Rattle.gt_types.specs.declared.denial.Rule.TheVariants.{N18, N19, N9}
+pub use Rattle.gt_types.specs.declared.limits.TheConstants.{FRAME_SIZE, LAST_VERSION, MAX_PINS, MAX_TABLE_FRAMES}
+pub use Rattle.gt_types.specs.declared.limits.TheConstants.{MAX_TRIES, TABLE_ENTRIES}
+pub use Rattle.gt_types.specs.declared.perms.Perms.{Perms}
+pub use Rattle.std.proofs.Common.{inl, inr}
+pub use Rattle.std.proofs.Math.ListN.{set}
+pub use Rattle.std.specs.Borrow.{Bor}
+pub use Rattle.std.specs.Option.{option_map, option_or}

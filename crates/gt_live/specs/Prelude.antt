@@ -1,0 +1,108 @@
+-- The names of other crates, and of the code, that the definitions here speak of.
+pub use Rattle.gt_access.specs.Accesses.{IsReadOf, copying_at, writing_at}
+pub use Rattle.gt_access.specs.Routes.{MayCopy, Reaches}
+pub use Rattle.gt_access.specs.declared.by.Refused.{Refused as NotMade}
+pub use Rattle.gt_access.specs.declared.by.Refused.TheVariants.{Gone, Memory as OutOfMemory}
+pub use Rattle.gt_audit.specs.declared.record.CopyEnd.{CopyEnd}
+pub use Rattle.gt_audit.specs.declared.record.Hypercall.{Hypercall}
+pub use Rattle.gt_audit.specs.declared.record.Record.{Record}
+pub use Rattle.gt_audit.specs.declared.record.Reply.{Reply}
+pub use Rattle.gt_calls.specs.Asking.{asked, begun_of}
+pub use Rattle.gt_calls.specs.Changes.{raise_of}
+pub use Rattle.gt_calls.specs.CopyCalls.{copy_call, unmoved_copy}
+pub use Rattle.gt_calls.specs.Following.{GoesOn, MakesStep}
+pub use Rattle.gt_calls.specs.Holding.{last_first, no_pins, pins_so_far, without_last}
+pub use Rattle.gt_calls.specs.Machine.{action_at, after_pin_of, at_dest}
+pub use Rattle.gt_calls.specs.Opening.{IsAllowed}
+pub use Rattle.gt_calls.specs.Path.{AfterPin, AfterRefusal, Continuation, end_leg, entry_refusal, give_back, path}
+pub use Rattle.gt_calls.specs.Path.{path_of, place_of, refused_at, second_leg, tries, try_pin, turn, turns}
+pub use Rattle.gt_calls.specs.Resting.{Rests, RestsOnWays}
+pub use Rattle.gt_calls.specs.Rules.{CallerKnowledge, begun, entry_in, frames_of, generation_in, knowledge_of, label_of}
+pub use Rattle.gt_calls.specs.Rules.{map_perms, triples}
+pub use Rattle.gt_calls.specs.Standing.{IsAt, IsFresh, held_by_call, held_in, pins_by_call}
+pub use Rattle.gt_calls.specs.declared.action.Action.{Action}
+pub use Rattle.gt_calls.specs.declared.action.Action.TheVariants.{Done, Step as Makes}
+pub use Rattle.gt_calls.specs.declared.action.Place.{Place}
+pub use Rattle.gt_calls.specs.declared.action.Seen.{Seen}
+pub use Rattle.gt_calls.specs.declared.action.Seen.TheVariants.{Missed, Nothing, Taken, Word}
+pub use Rattle.gt_calls.specs.declared.action.Step.{Step}
+pub use Rattle.gt_calls.specs.declared.action.Step.TheVariants.{Copy as CopyBytes, Exchange, LookBody, LookControl}
+pub use Rattle.gt_calls.specs.declared.action.Step.TheVariants.{LookHeader, Pin, Read as ReadBytes, StoreBody}
+pub use Rattle.gt_calls.specs.declared.action.Step.TheVariants.{StoreHeader, Unpin, Write as WriteBytes}
+pub use Rattle.gt_calls.specs.declared.action.Value.TheVariants.{Frames, Size as SizeTold, Version}
+pub use Rattle.gt_calls.specs.declared.action.Verdict.{Verdict}
+pub use Rattle.gt_calls.specs.declared.action.Verdict.TheVariants.{Given, Granted, Mapped, Refused}
+pub use Rattle.gt_calls.specs.declared.call.Call.{Call}
+pub use Rattle.gt_calls.specs.declared.call.Phase.{Phase}
+pub use Rattle.gt_calls.specs.declared.call.Phase.TheVariants.{Accessing, Ending, Walking}
+pub use Rattle.gt_calls.specs.declared.copying.Aim.{Aim}
+pub use Rattle.gt_calls.specs.declared.copying.Aim.TheVariants.{Dest, Source}
+pub use Rattle.gt_calls.specs.declared.held.Held.{Held}
+pub use Rattle.gt_calls.specs.declared.held.Pins.{Pins}
+pub use Rattle.gt_calls.specs.declared.held.Route.{Route}
+pub use Rattle.gt_calls.specs.declared.held.Route.TheVariants.{Direct}
+pub use Rattle.gt_calls.specs.declared.leg.Leg.{Leg}
+pub use Rattle.gt_calls.specs.declared.leg.LegPhase.TheVariants.{Header}
+pub use Rattle.gt_calls.specs.declared.leg.TheConstants.{MORE_TRIES}
+pub use Rattle.gt_calls.specs.declared.request.Asked.{Asked}
+pub use Rattle.gt_calls.specs.declared.request.Asked.TheVariants.{Copy}
+pub use Rattle.gt_calls.specs.declared.request.CopyArgs.{CopyArgs}
+pub use Rattle.gt_calls.specs.declared.request.End.{End}
+pub use Rattle.gt_calls.specs.declared.request.Holder.TheVariants.{Leg as ByLeg}
+pub use Rattle.gt_calls.specs.declared.request.Request.{Request}
+pub use Rattle.gt_entry.specs.Entries.{frame_of}
+pub use Rattle.gt_entry.specs.Permits.{permits}
+pub use Rattle.gt_entry.specs.Words.{control_of, is_kind}
+pub use Rattle.gt_entry.specs.declared.change.Change.{Change}
+pub use Rattle.gt_entry.specs.declared.change.Change.TheVariants.{Demote, Promote, Publish, Revoke, Withdraw}
+pub use Rattle.gt_entry.specs.declared.change.Half.{Half}
+pub use Rattle.gt_entry.specs.declared.change.Half.TheVariants.{First as FirstHalf, Second as SecondHalf}
+pub use Rattle.gt_entry.specs.declared.control.Kind.TheVariants.{Sub}
+pub use Rattle.gt_entry.specs.declared.entry.Entry.TheVariants.{Invalid}
+pub use Rattle.gt_frames.specs.Receipts.{Copying, Reading, Writing}
+pub use Rattle.gt_frames.specs.declared.places.FrameName.{FrameName}
+pub use Rattle.gt_frames.specs.declared.places.Spot.{Spot}
+pub use Rattle.gt_handles.specs.Handles.{HandleMap, KeepsSpent, value_of}
+pub use Rattle.gt_handles.specs.Listing.{IsInserted, IsTaken, count_passing}
+pub use Rattle.gt_handles.specs.declared.handles.Handle.{Handle}
+pub use Rattle.gt_live.specs.declared.domain.Domain.{Domain}
+pub use Rattle.gt_live.specs.declared.domain.Left.{Left}
+pub use Rattle.gt_live.specs.declared.domain.copies.Halfway.{Halfway}
+pub use Rattle.gt_live.specs.declared.driving.Effect.{Effect}
+pub use Rattle.gt_live.specs.declared.driving.Effect.TheVariants.{Changed, Pinned, Stored, Unpinned}
+pub use Rattle.gt_live.specs.declared.monitor.Monitor.{Monitor}
+pub use Rattle.gt_types.specs.Denial.{denial_of}
+pub use Rattle.gt_types.specs.Names.{domain_of}
+pub use Rattle.gt_types.specs.declared.Dir.{Dir}
+pub use Rattle.gt_types.specs.declared.Dir.TheVariants.{Read, Write}
+pub use Rattle.gt_types.specs.declared.DomId.{DomId}
+pub use Rattle.gt_types.specs.declared.GrantRef.{GrantRef}
+pub use Rattle.gt_types.specs.declared.Size.{Size}
+pub use Rattle.gt_types.specs.declared.TypeId.{TypeId}
+pub use Rattle.gt_types.specs.declared.Use.TheVariants.{Copy as ForCopy, Map as ForMap}
+pub use Rattle.gt_types.specs.declared.config.Config.{Config}
+pub use Rattle.gt_types.specs.declared.config.DomainConfig.{DomainConfig}
+pub use Rattle.gt_types.specs.declared.denial.Denial.{Denial}
+pub use Rattle.gt_types.specs.declared.denial.Facts.{Facts}
+pub use Rattle.gt_types.specs.declared.denial.Facts.TheVariants.{None as NoFacts}
+pub use Rattle.gt_types.specs.declared.denial.Rule.TheVariants.{N16, N18, N26}
+pub use Rattle.gt_types.specs.declared.limits.TheConstants.{TABLE_ENTRIES}
+pub use Rattle.gt_types.specs.declared.perms.Perms.{Perms}
+pub use Rattle.gt_words.specs.Answers.{Changes, Demotes, LooksAtBody, LooksAtControl, LooksAtHeader, MissesBusy}
+pub use Rattle.gt_words.specs.Answers.{MissesChange, MissesPin, Publishes, Revokes, StoresBody, StoresHeader, Unpins}
+pub use Rattle.gt_words.specs.Conditions.{Board, CanChange, CanPin, HasDomain, Holds, IsNotEarlier, IsSameSeat}
+pub use Rattle.gt_words.specs.Conditions.{IsSeatOf, IsWordOf, KeepsPins, SeatOf, SeesNoEarlier}
+pub use Rattle.gt_words.specs.Controls.{generation_of}
+pub use Rattle.gt_words.specs.Events.{TookPlace}
+pub use Rattle.gt_words.specs.History.{Moment, part_of}
+pub use Rattle.gt_words.specs.Keeping.{held}
+pub use Rattle.gt_words.specs.Rule.{IsKeptHeader, Layout, id_at, position_in}
+pub use Rattle.gt_words.specs.Steps.{on_entry, on_header}
+pub use Rattle.gt_words.specs.Views.{IsIn, LivePin, is_same_dir, last_of, last_seen, own_table, pins, record_seen}
+pub use Rattle.gt_words.specs.Views.{steps_on, with_step}
+pub use Rattle.gt_words.specs.declared.view.EntryStep.{EntryStep}
+pub use Rattle.gt_words.specs.declared.view.EntryStep.TheVariants.{ChangeMissed, Looked, PinMissed, ReadBody}
+pub use Rattle.gt_words.specs.declared.view.EntryStep.TheVariants.{StoredBody}
+pub use Rattle.gt_words.specs.declared.view.SeatStep.{SeatStep}
+pub use Rattle.gt_words.specs.declared.view.SeatStep.TheVariants.{Entry}
+pub use Rattle.gt_words.specs.declared.view.View.{View}

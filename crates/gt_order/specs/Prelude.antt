@@ -1,0 +1,69 @@
+-- The names of other crates, and of the code, that the definitions here speak of.
+pub use Rattle.atomic_table.specs.Table.{State}
+pub use Rattle.gt_calls.specs.Asking.{FitsAsked, asked, bytes_of}
+pub use Rattle.gt_calls.specs.Path.{Continuation, path, path_of}
+pub use Rattle.gt_calls.specs.declared.action.Action.{Action}
+pub use Rattle.gt_calls.specs.declared.action.Action.TheVariants.{Done, Step as Makes}
+pub use Rattle.gt_calls.specs.declared.action.Seen.{Seen}
+pub use Rattle.gt_calls.specs.declared.action.Seen.TheVariants.{Nothing}
+pub use Rattle.gt_calls.specs.declared.action.Step.{Step}
+pub use Rattle.gt_calls.specs.declared.action.Step.TheVariants.{Exchange, LookBody, LookControl, LookHeader}
+pub use Rattle.gt_calls.specs.declared.action.Step.TheVariants.{Pin as PinStep, StoreBody, StoreHeader, Unpin}
+pub use Rattle.gt_calls.specs.declared.action.Step.TheVariants.{Write as WriteBytes}
+pub use Rattle.gt_calls.specs.declared.action.Verdict.{Verdict}
+pub use Rattle.gt_calls.specs.declared.action.Verdict.TheVariants.{Granted, Mapped, Refused}
+pub use Rattle.gt_calls.specs.declared.held.Held.{Held}
+pub use Rattle.gt_calls.specs.declared.request.Asked.{Asked}
+pub use Rattle.gt_calls.specs.declared.request.Request.{Request}
+pub use Rattle.gt_core.specs.Acting.{answer_of, setting_of}
+pub use Rattle.gt_core.specs.GoingOn.{IsReached}
+pub use Rattle.gt_core.specs.History.{History as Items, Setting, Underway, body_at, entry_at, generation_at, known_at}
+pub use Rattle.gt_core.specs.History.{open_call, seen_by, table_at, values, word_at}
+pub use Rattle.gt_core.specs.Legal.{IsRight, Legal}
+pub use Rattle.gt_core.specs.declared.trace.Answer.{Answer}
+pub use Rattle.gt_core.specs.declared.trace.Answer.TheVariants.{Done as AnswerDone, Mapped as MappedAnswer}
+pub use Rattle.gt_core.specs.declared.trace.Element.{Element}
+pub use Rattle.gt_core.specs.declared.trace.Element.TheVariants.{Item as Did}
+pub use Rattle.gt_core.specs.declared.trace.Event.{Event}
+pub use Rattle.gt_core.specs.declared.trace.Event.TheVariants.{Begin, Tick}
+pub use Rattle.gt_core.specs.declared.trace.Happened.{Happened}
+pub use Rattle.gt_core.specs.declared.trace.Happened.TheVariants.{Began, Stepped}
+pub use Rattle.gt_core.specs.declared.trace.Item.{Item}
+pub use Rattle.gt_entry.specs.Words.{header_word}
+pub use Rattle.gt_entry.specs.declared.change.Half.{Half}
+pub use Rattle.gt_frames.specs.Receipts.{Writing}
+pub use Rattle.gt_handles.specs.Handles.{HandleMap}
+pub use Rattle.gt_handles.specs.declared.handles.Handle.{Handle}
+pub use Rattle.gt_live.specs.Accesses.{Accessed, IsWrittenBy}
+pub use Rattle.gt_live.specs.Domains.{Accesses, AllowRelation, Answered, IsDomainOf, IsOf, KeepsPinned, MapAnswered}
+pub use Rattle.gt_live.specs.Domains.{knowledge, known, verdict_of}
+pub use Rattle.gt_live.specs.Ending.{IsMap, IsOfMapping}
+pub use Rattle.gt_live.specs.Mappings.{Adds, KeepsMappings, Removes}
+pub use Rattle.gt_live.specs.Starting.{IsNewDomain}
+pub use Rattle.gt_live.specs.Walks.{Called, shown, shown_by, shown_in}
+pub use Rattle.gt_live.specs.declared.domain.Domain.{Domain}
+pub use Rattle.gt_live.specs.declared.monitor.Monitor.{Monitor}
+pub use Rattle.gt_types.specs.Config.{IsWithinLimits}
+pub use Rattle.gt_types.specs.Denial.{denial_of}
+pub use Rattle.gt_types.specs.Names.{domain_of}
+pub use Rattle.gt_types.specs.declared.DomId.{DomId}
+pub use Rattle.gt_types.specs.declared.GrantRef.{GrantRef}
+pub use Rattle.gt_types.specs.declared.config.Config.{Config}
+pub use Rattle.gt_types.specs.declared.denial.Denial.{Denial}
+pub use Rattle.gt_types.specs.declared.denial.Facts.TheVariants.{None as NoFacts}
+pub use Rattle.gt_types.specs.declared.denial.Rule.TheVariants.{N26}
+pub use Rattle.gt_types.specs.declared.limits.TheConstants.{TABLE_ENTRIES}
+pub use Rattle.gt_words.specs.Conditions.{Board, HasDomain, IsSameSeat}
+pub use Rattle.gt_words.specs.Controls.{generation_of}
+pub use Rattle.gt_words.specs.History.{History, Layout, Moment, Says, half_index, part_of, place_of, word_after}
+pub use Rattle.gt_words.specs.Rule.{Shows, header_place, id_at, layout_of, place, position_in}
+pub use Rattle.gt_words.specs.Steps.{changed, changed_word}
+pub use Rattle.gt_words.specs.Views.{entry_steps, last_record}
+pub use Rattle.gt_words.specs.declared.view.EntryRecord.{EntryRecord}
+pub use Rattle.gt_words.specs.declared.view.EntryStep.TheVariants.{ChangeMissed, Changed, Looked, PinMissed, Pinned}
+pub use Rattle.gt_words.specs.declared.view.EntryStep.TheVariants.{ReadBody, StoredBody, Unpinned}
+pub use Rattle.gt_words.specs.declared.view.SeatStep.{SeatStep}
+pub use Rattle.gt_words.specs.declared.view.SeatStep.TheVariants.{Entry, Header}
+pub use Rattle.gt_words.specs.declared.view.View.{View}
+pub use lib.ListN.{get_elem?}
+pub use mathlib.Core.Option.{some}

@@ -1,0 +1,41 @@
+-- The names of other crates, and of the code, that the definitions here speak of.
+pub use Rattle.gt_audit.specs.Lines.{line_text}
+pub use Rattle.gt_audit.specs.Telling.{Telling, Tells}
+pub use Rattle.gt_audit.specs.declared.record.Hypercall.{Hypercall}
+pub use Rattle.gt_audit.specs.declared.record.Record.{Record}
+pub use Rattle.gt_calls.specs.Asking.{asked}
+pub use Rattle.gt_calls.specs.declared.action.Step.{Step}
+pub use Rattle.gt_calls.specs.declared.action.Verdict.{Verdict}
+pub use Rattle.gt_calls.specs.declared.held.Held.{Held}
+pub use Rattle.gt_calls.specs.declared.request.Request.{Request}
+pub use Rattle.gt_core.specs.declared.trace.Answer.{Answer}
+pub use Rattle.gt_frames.specs.Receipts.{Copying, Reading, Writing}
+pub use Rattle.gt_frames.specs.Visits.{Visit}
+pub use Rattle.gt_handles.specs.declared.handles.Handle.{Handle}
+pub use Rattle.gt_host.specs.Auditing.{call_told, record_told}
+pub use Rattle.gt_host.specs.Naming.{AreNamed}
+pub use Rattle.gt_host.specs.Printing.{answer_line, call_text}
+pub use Rattle.gt_host.specs.Runs.{Asks as SaysRequest, Named, handle_given, label_given, with_name}
+pub use Rattle.gt_host.specs.declared.labels.Labels.{Labels}
+pub use Rattle.gt_lines.specs.declared.calls.ScriptCall.{ScriptCall}
+pub use Rattle.gt_live.specs.Accesses.{IsCopiedBy, IsReadBy, IsWrittenBy}
+pub use Rattle.gt_live.specs.Domains.{Accesses, AllowRelation, Answered, IsOf, KeepsPinned, MapAnswered, mapping_reply}
+pub use Rattle.gt_live.specs.Domains.{subject_of, told_copy, told_of, verdict_of, verdict_of_frames, verdict_of_size}
+pub use Rattle.gt_live.specs.Domains.{verdict_of_version}
+pub use Rattle.gt_live.specs.Mappings.{Removes}
+pub use Rattle.gt_live.specs.Starting.{IsNewDomain}
+pub use Rattle.gt_live.specs.Visiting.{HasVisited, WasCopied, WasRead, WasWritten}
+pub use Rattle.gt_live.specs.declared.domain.Domain.{Domain}
+pub use Rattle.gt_live.specs.declared.monitor.Monitor.{Monitor}
+pub use Rattle.gt_run.specs.declared.lists.Duty.{Duty}
+pub use Rattle.gt_run.specs.declared.lists.Part.{Part}
+pub use Rattle.gt_run.specs.declared.telling.Teller.{Teller}
+pub use Rattle.gt_script.specs.declared.tasks.Deed.{Deed}
+pub use Rattle.gt_script.specs.declared.tasks.Deed.TheVariants.{Await, Do, Tell}
+pub use Rattle.gt_script.specs.declared.tasks.Task.{Task}
+pub use Rattle.gt_texts.specs.Printing.{type_text}
+pub use Rattle.gt_types.specs.declared.DomId.{DomId}
+pub use Rattle.gt_types.specs.declared.Size.{Size}
+pub use Rattle.gt_types.specs.declared.denial.Denial.{Denial}
+pub use Rattle.gt_words.specs.Conditions.{IsSameSeat}
+pub use Rattle.std.specs.List.{AllZip, flat_map, sum_by}
