@@ -1,69 +1,12 @@
 //! What a run prints of an entry.
 ghost use Rattle.std.specs.Prelude.{◌≡◌, ◌++◌, OnOk, codes};
-ghost use Rattle.gt_host.specs.Showing.{mode_text, kind_text, part_text, range_text, entry_text, counts_text};
-ghost use Rattle.gt_host.specs.Showing.{status_text, shown_text, show_line};
+ghost use Rattle.gt_host.specs.Showing.{part_text, entry_text, counts_text, status_text, shown_text, show_line};
 
 use gt_core::Shown;
-use gt_entry::{Control, Entry, status_word};
-use gt_texts::{push_number, push_part, push_text};
+use gt_entry::{Control, status_word};
+use gt_texts::{push_entry, push_number, push_part, push_text};
 use gt_types::{DomId, GrantRef};
 use std::alloc::{AllocError, Global};
-
-fn mode(ro: bool) -> &'static str
-    ensures { result.now ≡ mode_text ro }
-{
-    if ro { "ro" } else { "rw" }
-}
-
-fn push_kind(out: &mut Vec<u8>, kind: &str, dom: DomId, ro: bool) -> Result<(), AllocError>
-    ensures { OnOk result (out.new.items ≡ out.old.items ++ kind_text kind.now dom ro) }
-{
-    push_text(out, kind)?;
-    push_text(out, " ")?;
-    push_number(out, dom.0)?;
-    push_text(out, " ")?;
-    push_text(out, mode(ro))
-}
-
-fn push_range(out: &mut Vec<u8>, off: u16, len: u16) -> Result<(), AllocError>
-    ensures { OnOk result (out.new.items ≡ out.old.items ++ range_text off len) }
-{
-    push_part(out, "off", off)?;
-    push_part(out, "len", len)
-}
-
-fn push_entry(out: &mut Vec<u8>, entry: Entry) -> Result<(), AllocError>
-    ensures { OnOk result (out.new.items ≡ out.old.items ++ entry_text entry) }
-{
-    match entry {
-        Entry::Invalid => push_text(out, "invalid"),
-        Entry::Page { dom, ro, frame } => {
-            push_kind(out, "page", dom, ro)?;
-            push_part(out, "frame", frame)
-        }
-        Entry::Sub {
-            dom,
-            ro,
-            frame,
-            off,
-            len,
-        } => {
-            push_kind(out, "sub", dom, ro)?;
-            push_part(out, "frame", frame)?;
-            push_range(out, off, len)
-        }
-        Entry::Via {
-            dom,
-            ro,
-            dom2,
-            gref,
-        } => {
-            push_kind(out, "via", dom, ro)?;
-            push_part(out, "to", dom2.0)?;
-            push_part(out, "ref", gref.0)
-        }
-    }
-}
 
 fn push_status(alloc: Global, out: &mut Vec<u8>, status: u16) -> Result<(), AllocError>
     ensures { OnOk result (out.new.items ≡ out.old.items ++ status_text status) }
