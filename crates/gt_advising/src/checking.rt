@@ -6,9 +6,8 @@ ghost use Rattle.gt_streams.specs.Streams.{OfInput};
 ghost use Rattle.gt_advice.specs.Check.{is_error};
 ghost use Rattle.gt_advising.specs.Checking.{Checked, CheckedText};
 
-use crate::text::policy_text;
 use gt_advice::{Finding, Kind, push_json, push_report};
-use gt_listing::ListingFault;
+use gt_listing::{ListingFault, policy_text};
 use gt_streams::{finish, read_text};
 use std::alloc::{AllocError, Global};
 use std::io::{Read, Write};

@@ -5,9 +5,8 @@ ghost use Rattle.gt_streams.specs.Streams.{OfInput};
 ghost use Rattle.gt_advising.specs.Explaining.{AskedOf, Explained, WritesLines};
 
 use crate::fault::WhyFault;
-use crate::text::policy_text;
 use gt_advice::{Answer, Explanation, Question};
-use gt_listing::ListingFault;
+use gt_listing::{ListingFault, policy_text};
 use gt_streams::{finish, read_text};
 use std::alloc::Global;
 use std::io::{Read, Write};

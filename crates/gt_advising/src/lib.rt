@@ -14,7 +14,6 @@
 mod checking;
 mod explaining;
 mod fault;
-mod text;
 
 pub use checking::check;
 pub use explaining::why;

@@ -23,3 +23,4 @@ mod text;
 pub use fault::ListingFault;
 pub use laws::one_listing;
 pub use listing::policy;
+pub use text::policy_text;
