@@ -44,6 +44,7 @@ fn spelled(bytes: &EntryBytes) -> &[u8]
 
 // Takes the domain of a handle for a call. If it has none, or one in a copy, the answer says so, and the handle stays
 // as it was.
+#[inline(always)]
 pub(crate) fn enter(alloc: Global, domain: &mut Handle) -> Result<Box<Here>, Answer>
     ensures ok { IfOk result (λ b. Enters domain.old.held.value domain.new.held.value b.value) }
     ensures turned_away { IfErr result (λ a. TurnedAway domain.old.held.value domain.new.held.value a) }
@@ -65,6 +66,7 @@ pub(crate) fn nowhere() -> Answer
     Answer::of(Outcome::NullPointer)
 }
 
+#[inline(always)]
 fn done(answer: Result<(), Denial>) -> Outcome
     ensures { result ≡ outcome answer }
 {
@@ -74,6 +76,7 @@ fn done(answer: Result<(), Denial>) -> Outcome
     }
 }
 
+#[inline(always)]
 fn mapped(answer: Result<Name, Denial>) -> Outcome
     ensures { result ≡ outcome_mapped answer }
 {
@@ -288,9 +291,9 @@ pub(crate) fn map_on(alloc: Global, domain: &mut Handle, dom: u16, gref: u32, fl
         Ok(here) => here,
         Err(turned_away) => return turned_away,
     };
-    let answer = Answer::of(mapped(here.guest.map(DomId(dom), GrantRef(gref), flags)));
+    let told = here.guest.map(DomId(dom), GrantRef(gref), flags);
     domain.put(here);
-    answer
+    Answer::of(mapped(told))
 }
 
 /// Gives a mapping up.
@@ -305,9 +308,9 @@ pub(crate) fn unmap_on(alloc: Global, domain: &mut Handle, name: MapHandle) -> A
         serial: name.serial,
         key: name.key,
     };
-    let answer = Answer::of(done(here.guest.unmap(name)));
+    let told = here.guest.unmap(name);
     domain.put(here);
-    answer
+    Answer::of(done(told))
 }
 
 /// Gives its table this version, 1 or 2.

@@ -47,8 +47,8 @@ impl Handle {
         ensures taken { option_map (λ b. b.value) result ≡ self.old.held.value }
         ensures gone { (self.new.is_live ≡ false) × (self.new.held.value ≡ None) }
     {
-        let Handle { held, is_live } = mem::replace(self, Handle::none(alloc));
-        if is_live {
+        if self.is_live {
+            let Handle { held, .. } = mem::replace(self, Handle::none(alloc));
             Some(held.into_parts().into_box())
         } else {
             None

@@ -184,6 +184,7 @@ impl Answer {
     ghost use Rattle.gt_seat.specs.Encoding.{encoded};
 
     /// The outcome, as C reads it.
+    #[inline(always)]
     pub fn of(outcome: Outcome) -> Answer
         ensures { result ≡ encoded outcome }
     {

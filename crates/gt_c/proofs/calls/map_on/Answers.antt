@@ -6,15 +6,15 @@ use Rattle.gt_c.specs.Calling.{SaysMapped, at, dom_of}
 use Rattle.gt_c.proofs.Made.{idle-there, made}
 use Rattle.gt_c.proofs.calls.map_on.Goals as goal
 
-pub map-requires : goal.map-requires
-map-requires c = record { idle = idle-there c.deref_mut.ensures.value c.in-Ok.ensures.ok.2 }
+pub map-told-requires : goal.map-told-requires
+map-told-requires c = record { idle = idle-there c.deref_mut.ensures.value c.in-Ok.ensures.ok.2 }
 
 pub returns : goal.returns
 returns c =
-    made c.of-answer.result (SaysMapped (requests.Map (dom_of c.args.dom) (at c.args.gref) c.args.flags) (hypercalls.Map (dom_of c.args.dom) (at c.args.gref) c.args.flags) c.of-answer.result) c.deref_mut.ensures.value c.in-Ok.ensures.ok.0 c.put.ensures.1 c.in-Ok.ensures.ok.2
+    made c.of.result (SaysMapped (requests.Map (dom_of c.args.dom) (at c.args.gref) c.args.flags) (hypercalls.Map (dom_of c.args.dom) (at c.args.gref) c.args.flags) c.of.result) c.deref_mut.ensures.value c.in-Ok.ensures.ok.0 c.put.ensures.1 c.in-Ok.ensures.ok.2
     (record {
-      result = c.map.result;
-      encodes = c.of-answer.ensures ∙ ap encoded c.mapped.ensures;
-      stays = c.map.ensures.stays;
-      holds = (c.map.ensures.answered, c.map.ensures.told);
+      result = c.map-told.result;
+      encodes = c.of.ensures ∙ ap encoded c.mapped.ensures;
+      stays = c.map-told.ensures.stays;
+      holds = (c.map-told.ensures.answered, c.map-told.ensures.told);
     })
