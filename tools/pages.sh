@@ -69,7 +69,7 @@ man() {
 
 # The long flags of a command, a line each: the flag, `=` where it takes a value, and what it is.
 flags() {
-  stored "$1 -h" | section Options | sed -n 's/^\(-[a-zA-Z], \)\{0,1\}--\([a-z]*\)\( <[^>]*>\)\{0,1\}  *\(.*\)$/\2\t\3\t\4/p'
+  stored "$1 -h" | section Options | sed -n 's/^\(-[a-zA-Z], \)\{0,1\}--\([a-z]*\)\( <[^>]*>\)\{0,1\}  *\(.*\)$/\2\x1f\3\x1f\4/p'
 }
 
 # The values of an option whose help names them, as `text|json`.
@@ -91,14 +91,14 @@ END
   case "${COMP_WORDS[1]} $before" in
 END
   for command in $(commands); do
-    flags "$command" | while IFS=$'\t' read -r flag value what; do
+    flags "$command" | while IFS=$'\x1f' read -r flag value what; do
       [ -n "$value" ] || continue
       printf '    "%s --%s") mapfile -t COMPREPLY < <(compgen -W "%s" -- "$word"); return ;;\n' "$command" "$flag" "$(values "$value")"
     done
   done
   printf '  esac\n  case "${COMP_WORDS[1]}" in\n'
   for command in $(commands); do
-    printf '    %s) words="%s" ;;\n' "$command" "$(flags "$command" | cut -f 1 | sed 's/^/--/' | tr '\n' ' ' | sed 's/ $//')"
+    printf '    %s) words="%s" ;;\n' "$command" "$(flags "$command" | cut -d $'\x1f' -f 1 | sed 's/^/--/' | tr '\n' ' ' | sed 's/ $//')"
   done
   cat <<'END'
   esac
@@ -126,7 +126,7 @@ zsh_completion() {
   printf '  local command=${words[2]}\n  shift words\n  (( CURRENT-- ))\n  case $command in\n'
   for command in $(commands); do
     printf '    %s) _arguments' "$command"
-    flags "$command" | while IFS=$'\t' read -r flag value what; do
+    flags "$command" | while IFS=$'\x1f' read -r flag value what; do
       if [ -n "$value" ]; then
         printf " '--%s=[%s]:value:(%s)'" "$flag" "$(zsh_text "$what")" "$(values "$value")"
       else
@@ -141,7 +141,7 @@ zsh_completion() {
 fish_text() { printf '%s' "$1" | sed -e 's/\\/\\\\/g' -e "s/'/\\\\'/g"; }
 
 fish_completion() {
-  local command what flag value
+  local command what flag value quote="'"
   printf '# Completion of gthost for fish. Made by tools/pages.sh from the texts of --help.\n'
   stored --help | section Commands | while read -r command what; do
     printf "complete -c gthost -n __fish_use_subcommand -f -a %s -d '%s'\n" "$command" "$(fish_text "$what")"
@@ -149,9 +149,9 @@ fish_completion() {
   printf "complete -c gthost -n __fish_use_subcommand -l help -d 'Print help'\n"
   printf "complete -c gthost -n __fish_use_subcommand -l version -d 'Print version'\n"
   for command in $(commands); do
-    flags "$command" | while IFS=$'\t' read -r flag value what; do
+    flags "$command" | while IFS=$'\x1f' read -r flag value what; do
       printf "complete -c gthost -n '__fish_seen_subcommand_from %s' -l %s%s -d '%s'\n" "$command" "$flag" \
-        "${value:+ -x${value:+ -a \'$(values "$value")\'}}" "$(fish_text "$what")"
+        "${value:+ -x -a $quote$(values "$value")$quote}" "$(fish_text "$what")"
     done
   done
 }

@@ -7,29 +7,22 @@ _gthost() {
     return
   fi
   case "${COMP_WORDS[1]} $before" in
-    "play --audit") mapfile -t COMPREPLY < <(compgen -W "" -- "$word"); return ;;
-    "play --help") mapfile -t COMPREPLY < <(compgen -W "" -- "$word"); return ;;
-    "run --audit") mapfile -t COMPREPLY < <(compgen -W "" -- "$word"); return ;;
-    "run --help") mapfile -t COMPREPLY < <(compgen -W "" -- "$word"); return ;;
-    "policy --help") mapfile -t COMPREPLY < <(compgen -W "" -- "$word"); return ;;
-    "rules --help") mapfile -t COMPREPLY < <(compgen -W "" -- "$word"); return ;;
+    "play --format") mapfile -t COMPREPLY < <(compgen -W "text json" -- "$word"); return ;;
+    "run --format") mapfile -t COMPREPLY < <(compgen -W "text json" -- "$word"); return ;;
+    "policy --format") mapfile -t COMPREPLY < <(compgen -W "text json" -- "$word"); return ;;
     "check --format") mapfile -t COMPREPLY < <(compgen -W "text json" -- "$word"); return ;;
-    "check --help") mapfile -t COMPREPLY < <(compgen -W "" -- "$word"); return ;;
-    "why --help") mapfile -t COMPREPLY < <(compgen -W "" -- "$word"); return ;;
-    "entries --hex") mapfile -t COMPREPLY < <(compgen -W "" -- "$word"); return ;;
-    "entries --all") mapfile -t COMPREPLY < <(compgen -W "" -- "$word"); return ;;
     "entries --version") mapfile -t COMPREPLY < <(compgen -W "1 2" -- "$word"); return ;;
     "entries --script") mapfile -t COMPREPLY < <(compgen -W "" -- "$word"); return ;;
-    "entries --help") mapfile -t COMPREPLY < <(compgen -W "" -- "$word"); return ;;
+    "entries --format") mapfile -t COMPREPLY < <(compgen -W "text json" -- "$word"); return ;;
   esac
   case "${COMP_WORDS[1]}" in
-    play) words="--audit --help" ;;
-    run) words="--audit --help" ;;
-    policy) words="--help" ;;
+    play) words="--audit --format --help" ;;
+    run) words="--audit --format --help" ;;
+    policy) words="--format --help" ;;
     rules) words="--help" ;;
-    check) words="--format --help" ;;
+    check) words="--script --format --help" ;;
     why) words="--help" ;;
-    entries) words="--hex --all --version --script --help" ;;
+    entries) words="--hex --all --version --script --format --help" ;;
   esac
   case "$word" in
     -*) mapfile -t COMPREPLY < <(compgen -W "$words" -- "$word") ;;

@@ -36,10 +36,10 @@ use Rattle.gt_streams.specs.declared.fault.ReadFault.TheVariants as reads
 
 -- ---- a text that is checked
 
-abbrev errs : List Finding → Bool
+abbrev pub errs : List Finding → Bool
 errs found = list_any (λ x. is_error x.kind) found
 
-no_error : (found : List Finding) → error_lines found ≡ [] → errs found ≡ false
+pub no_error : (found : List Finding) → error_lines found ≡ [] → errs found ≡ false
 no_error [] none = refl
 no_error (x ∷ xs) none = by (is_error x.kind) refl none (no_error xs)
   where
@@ -47,7 +47,7 @@ no_error (x ∷ xs) none = by (is_error x.kind) refl none (no_error xs)
     by true e none later = absurd (cc (rw e at none))
     by false e none later = rw e (later (rw e at none))
 
-some_error : (found : List Finding) (line : ℕ) → error_lines found ≡ line ∷ [] → errs found ≡ true
+pub some_error : (found : List Finding) (line : ℕ) → error_lines found ≡ line ∷ [] → errs found ≡ true
 some_error [] line some = absurd (cc some)
 some_error (x ∷ xs) line some = by (is_error x.kind) refl some (some_error xs line)
   where

@@ -1,3 +1,4 @@
 pub mod Checking
 pub mod Explaining
 pub mod Faults
+pub mod Scripts

@@ -12,8 +12,8 @@ use gt_streams::{finish, read_text};
 use std::alloc::{AllocError, Global};
 use std::io::{Read, Write};
 
-// Whether some finding is an error.
-fn has_error(found: &[Finding]) -> bool
+/// Whether some finding is an error.
+pub(crate) fn has_error(found: &[Finding]) -> bool
     ensures { result ≡ list_any (λ x. is_error x.kind) found.now }
 {
     found
@@ -21,8 +21,8 @@ fn has_error(found: &[Finding]) -> bool
         .any(|finding| matches!(finding.kind, Kind::Fault))
 }
 
-// The findings as they are written.
-fn report(
+/// The findings as they are written.
+pub(crate) fn report(
     alloc: Global,
     file: &str,
     json: bool,

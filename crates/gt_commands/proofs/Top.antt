@@ -39,24 +39,24 @@ abbrev rows_in : Mode → List Text → List Row
 rows_in mode words = rows_after (lookups.built_rules (usage_of mode)) [] words
 
 command_words : (mode : Mode) (words : List Text) → walks.Tells (usage_of mode) (command_name mode) (line (usage_of mode) words) (command_fault mode words) (rows_in mode words)
-command_words Play words = command_tells (usage_of Play) (command_name Play) (refl, refl, refl) tt words
-command_words Run words = command_tells (usage_of Run) (command_name Run) (refl, refl, refl) tt words
-command_words Policy words = command_tells (usage_of Policy) (command_name Policy) (refl, refl, refl) tt words
+command_words Play words = command_tells (usage_of Play) (command_name Play) (refl, refl, refl) (refl, tt) words
+command_words Run words = command_tells (usage_of Run) (command_name Run) (refl, refl, refl) (refl, tt) words
+command_words Policy words = command_tells (usage_of Policy) (command_name Policy) (refl, refl, refl) (refl, tt) words
 command_words Rules words = command_tells (usage_of Rules) (command_name Rules) (refl, refl, refl) tt words
 command_words Check words = command_tells (usage_of Check) (command_name Check) (refl, refl, refl) (refl, tt) words
 command_words Why words = command_tells (usage_of Why) (command_name Why) (refl, refl, (refl, refl, (refl, refl, (refl, refl, refl)))) tt words
-command_words Entries words = command_tells (usage_of Entries) (command_name Entries) (refl, refl, refl) (refl, (refl, tt)) words
+command_words Entries words = command_tells (usage_of Entries) (command_name Entries) (refl, refl, refl) (refl, (refl, (refl, tt))) words
 
 -- what a command asks for by the rows at the end is what it asks for by what was given
 read_rows : (mode : Mode) (given : Given) (rows : List Row) → rows ≡ end (usage_of mode) given → read mode (λ id. first_of id rows) ≡ read mode (value_of given)
 read_rows mode given rows is = ap (λ (rs : List Row). read mode (λ id. first_of id rs)) is ∙ by mode
   where
     by : (m : Mode) → read m (λ id. first_of id (end (usage_of m) given)) ≡ read m (value_of given)
-    by Play = rw (flag_at_end (usage_of Play) given (codes "audit"), value_at_end (usage_of Play) given (codes "file") refl) refl
-    by Run = rw (flag_at_end (usage_of Run) given (codes "audit"), value_at_end (usage_of Run) given (codes "file") refl) refl
-    by Policy = rw (value_at_end (usage_of Policy) given (codes "file") refl) refl
+    by Play = rw (value_at_end (usage_of Play) given (codes "format") refl, flag_at_end (usage_of Play) given (codes "audit"), value_at_end (usage_of Play) given (codes "file") refl) refl
+    by Run = rw (value_at_end (usage_of Run) given (codes "format") refl, flag_at_end (usage_of Run) given (codes "audit"), value_at_end (usage_of Run) given (codes "file") refl) refl
+    by Policy = rw (value_at_end (usage_of Policy) given (codes "format") refl, value_at_end (usage_of Policy) given (codes "file") refl) refl
     by Rules = rw (value_at_end (usage_of Rules) given (codes "file") refl) refl
-    by Check = rw (value_at_end (usage_of Check) given (codes "format") refl, value_at_end (usage_of Check) given (codes "file") refl) refl
+    by Check = rw (value_at_end (usage_of Check) given (codes "format") refl, flag_at_end (usage_of Check) given (codes "script"), value_at_end (usage_of Check) given (codes "file") refl) refl
     by Why = rw (
       value_at_end (usage_of Why) given (codes "source") refl,
       value_at_end (usage_of Why) given (codes "target") refl,
@@ -66,6 +66,7 @@ read_rows mode given rows is = ap (λ (rs : List Row). read mode (λ id. first_o
     by Entries = rw (
       value_at_end (usage_of Entries) given (codes "version") refl,
       value_at_end (usage_of Entries) given (codes "script") refl,
+      value_at_end (usage_of Entries) given (codes "format") refl,
       flag_at_end (usage_of Entries) given (codes "hex"),
       flag_at_end (usage_of Entries) given (codes "all"),
       value_at_end (usage_of Entries) given (codes "file") refl,

@@ -32,18 +32,18 @@ file_usage = record { flags = []; options = []; words = one (codes "file"); need
 
 -- what each command takes (own)
 abbrev pub usage_of : Mode → Usage
-usage_of Play = record file_usage { flags = one (codes "audit") }
-usage_of Run = record file_usage { flags = one (codes "audit") }
-usage_of Policy = file_usage
+usage_of Play = record file_usage { flags = one (codes "audit"); options = one (codes "format") }
+usage_of Run = record file_usage { flags = one (codes "audit"); options = one (codes "format") }
+usage_of Policy = record file_usage { options = one (codes "format") }
 usage_of Rules = file_usage
-usage_of Check = record file_usage { options = one (codes "format") }
+usage_of Check = record file_usage { flags = one (codes "script"); options = one (codes "format") }
 usage_of Why = record file_usage {
   words = codes "source" ∷ codes "target" ∷ codes "permission" ∷ codes "file" ∷ [];
   needed = codes "source" ∷ codes "target" ∷ codes "permission" ∷ [];
 }
 usage_of Entries = record file_usage {
   flags = codes "hex" ∷ codes "all" ∷ [];
-  options = codes "version" ∷ codes "script" ∷ [];
+  options = codes "version" ∷ codes "script" ∷ codes "format" ∷ [];
   needed = one (codes "version");
 }
 
@@ -78,17 +78,17 @@ gthost_app = with_mode (with_mode (with_mode listers_app Check) Why) Entries
 
 -- ---- what is asked for
 
--- to play a script, to run one, to list a policy, to tell the rules, to check a policy, to say why one allows
--- something, or to tell the entries of a dump: with the options and the FILE, none for standard input; help; the
+-- to play a script, to run one, to list a policy, to tell the rules, to check a policy or a script, to say why a policy
+-- allows something, or to tell the entries of a dump: with the options and the FILE, none for standard input; help; the
 -- version; or nothing that the program does (own)
 pub data Request : Type 0 where
-  to_play : Bool → Option Text → Request
-  to_run : Bool → Option Text → Request
-  to_list : Option Text → Request
+  to_play : Bool → Format → Option Text → Request
+  to_run : Bool → Format → Option Text → Request
+  to_list : Format → Option Text → Request
   to_tell_rules : Option Text → Request
-  to_check : Format → Option Text → Request
+  to_check : Bool → Format → Option Text → Request
   to_explain : Option Text → Option Text → Text → Option Text → Request
-  to_tell_entries : ℕ → Bool → Bool → Option ℕ → Option Text → Request
+  to_tell_entries : ℕ → Bool → Bool → Option ℕ → Format → Option Text → Request
   for_help : Request
   for_version : Request
   nothing : Request
@@ -119,30 +119,45 @@ abbrev pub script_of : Option Text → Option (Option ℕ)
 script_of None = Some None
 script_of (Some word) = option_map (λ n. Some n) (domain_of word)
 
-abbrev pub check_with : Option Format → Option Text → Request
-check_with None file = nothing
-check_with (Some format) file = to_check format file
+abbrev pub play_with : Option Format → Bool → Option Text → Request
+play_with None audit file = nothing
+play_with (Some format) audit file = to_play audit format file
+
+abbrev pub run_with : Option Format → Bool → Option Text → Request
+run_with None audit file = nothing
+run_with (Some format) audit file = to_run audit format file
+
+abbrev pub list_with : Option Format → Option Text → Request
+list_with None file = nothing
+list_with (Some format) file = to_list format file
+
+abbrev pub check_with : Option Format → Bool → Option Text → Request
+check_with None script file = nothing
+check_with (Some format) script file = to_check script format file
 
 abbrev pub why_with : Option Text → Option Text → Option Text → Option Text → Request
 why_with source target None file = nothing
 why_with source target (Some permission) file = to_explain source target permission file
 
-abbrev pub entries_with : Option ℕ → Option (Option ℕ) → Bool → Bool → Option Text → Request
-entries_with None script hex every file = nothing
-entries_with (Some version) None hex every file = nothing
-entries_with (Some version) (Some script) hex every file = to_tell_entries version hex every script file
+abbrev pub entries_with : Option ℕ → Option (Option ℕ) → Option Format → Bool → Bool → Option Text → Request
+entries_with None script format hex every file = nothing
+entries_with (Some version) None format hex every file = nothing
+entries_with (Some version) (Some script) None hex every file = nothing
+entries_with (Some version) (Some script) (Some format) hex every file =
+    to_tell_entries version hex every script format file
 
 -- what a command asks for, by the values that were given: nothing where one of them is none that it takes (own)
 abbrev pub read : Mode → (Text → Option Text) → Request
-read Play value = to_play (is_true (value (codes "audit"))) (value (codes "file"))
-read Run value = to_run (is_true (value (codes "audit"))) (value (codes "file"))
-read Policy value = to_list (value (codes "file"))
+read Play value = play_with (format_of (value (codes "format"))) (is_true (value (codes "audit"))) (value (codes "file"))
+read Run value = run_with (format_of (value (codes "format"))) (is_true (value (codes "audit"))) (value (codes "file"))
+read Policy value = list_with (format_of (value (codes "format"))) (value (codes "file"))
 read Rules value = to_tell_rules (value (codes "file"))
-read Check value = check_with (format_of (value (codes "format"))) (value (codes "file"))
+read Check value = check_with (format_of (value (codes "format"))) (is_true (value (codes "script")))
+    (value (codes "file"))
 read Why value = why_with (type_of (value (codes "source"))) (type_of (value (codes "target")))
     (value (codes "permission")) (value (codes "file"))
 read Entries value = entries_with (version_of (value (codes "version"))) (script_of (value (codes "script")))
-    (is_true (value (codes "hex"))) (is_true (value (codes "all"))) (value (codes "file"))
+    (format_of (value (codes "format"))) (is_true (value (codes "hex"))) (is_true (value (codes "all"))) (value (codes "file"))
 
 abbrev pub asked_of : Mode → Line → Request
 asked_of mode (gives given) = read mode (value_of given)
@@ -187,15 +202,15 @@ refusals _ = []
 
 -- what a plan asks for (own)
 abbrev pub asked_by_plan : Invocation → Request
-asked_by_plan (plans.Play audit file) = to_play audit (option_map (λ f. f.now) file)
-asked_by_plan (plans.Run audit file) = to_run audit (option_map (λ f. f.now) file)
-asked_by_plan (plans.Policy file) = to_list (option_map (λ f. f.now) file)
+asked_by_plan (plans.Play audit format file) = to_play audit format (option_map (λ f. f.now) file)
+asked_by_plan (plans.Run audit format file) = to_run audit format (option_map (λ f. f.now) file)
+asked_by_plan (plans.Policy format file) = to_list format (option_map (λ f. f.now) file)
 asked_by_plan (plans.Rules rule) = to_tell_rules (option_map (λ f. f.now) rule)
-asked_by_plan (plans.Check format file) = to_check format (option_map (λ f. f.now) file)
+asked_by_plan (plans.Check script format file) = to_check script format (option_map (λ f. f.now) file)
 asked_by_plan (plans.Why source target permission file) = to_explain (option_map (λ f. f.now) source)
     (option_map (λ f. f.now) target) permission.now (option_map (λ f. f.now) file)
-asked_by_plan (plans.Entries version hex every script file) =
-    to_tell_entries version hex every script (option_map (λ f. f.now) file)
+asked_by_plan (plans.Entries version hex every script format file) =
+    to_tell_entries version hex every script format (option_map (λ f. f.now) file)
 
 -- what a plan asks for, and nothing where there is none (own)
 abbrev pub asked_by_some : Option Invocation → Request

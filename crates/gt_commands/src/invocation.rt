@@ -11,7 +11,7 @@ pub enum Mode {
     Policy,
     /// List the rules by which calls are refused.
     Rules,
-    /// Tell what is wrong or useless in a policy.
+    /// Tell what is wrong or useless in a policy or a script.
     Check,
     /// Tell by which statements a policy allows something.
     Why,
@@ -19,10 +19,10 @@ pub enum Mode {
     Entries,
 }
 
-/// How findings are written.
+/// How what a command tells is written.
 #[derive(Clone, Copy, Debug, PartialEq, Eq)]
 pub enum Format {
-    /// As compilers print them.
+    /// As lines to read; findings as compilers print them.
     Text,
     /// An object a line.
     Json,
@@ -34,20 +34,25 @@ pub enum Invocation<'a> {
     /// `audit`: the audit lines are wanted too.
     Play {
         audit: bool,
+        format: Format,
         file: Option<&'a str>,
     },
     Run {
         audit: bool,
+        format: Format,
         file: Option<&'a str>,
     },
     Policy {
+        format: Format,
         file: Option<&'a str>,
     },
     /// The rule of this name, and all rules if there is none.
     Rules {
         rule: Option<&'a str>,
     },
+    /// `script`: the text is a script, not a policy.
     Check {
+        script: bool,
         format: Format,
         file: Option<&'a str>,
     },
@@ -65,6 +70,7 @@ pub enum Invocation<'a> {
         hex: bool,
         all: bool,
         script: Option<u16>,
+        format: Format,
         file: Option<&'a str>,
     },
 }

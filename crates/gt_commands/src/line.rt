@@ -21,6 +21,8 @@ What a script may say:
   bytes of a script         at most 1048576
 A policy has at most 1048576 bytes, 256 types, 256 attributes and 65536 allow statements.";
 
+const ANSWERS_AS: &str = "How answers are written: as text, or as JSON, an object a line";
+
 const MORE: &str =
     "A script says what the policy allows, which domains there are and what they call.
 An answer such as `N19 -1` names the rule that refused the call, and its status: see `gthost rules`.
@@ -79,13 +81,21 @@ fn audit_flag<'a>(alloc: Global) -> Arg<'a>
     )
 }
 
+fn format_option<'a>(alloc: Global, help: &'a str) -> Arg<'a>
+    ensures rule { rule_of result ≡ free_option (codes "format") }
+    ensures local { result.global ≡ false }
+{
+    free_option(alloc, "format", "text|json", help)
+}
+
 fn play_command<'a>(alloc: Global) -> Result<Command<'a>, AllocError>
     ensures { IfOk result (λ c. (app_of c ≡ mode_app modes.Play) × ((fields_of c).has_globals ≡ false)) }
 {
     Command::new(alloc, "play")
         .about("Runs a script line by line, and prints a line for each answer")
         .arg(file_word(alloc, "The script; standard input if it is left out"))?
-        .arg(audit_flag(alloc))
+        .arg(audit_flag(alloc))?
+        .arg(format_option(alloc, ANSWERS_AS))
 }
 
 fn run_command<'a>(alloc: Global) -> Result<Command<'a>, AllocError>
@@ -100,7 +110,8 @@ fn run_command<'a>(alloc: Global) -> Result<Command<'a>, AllocError>
             "Runs each domain of a script in a thread of its own, and prints its answers in its order",
         )
         .arg(file)?
-        .arg(audit_flag(alloc))
+        .arg(audit_flag(alloc))?
+        .arg(format_option(alloc, ANSWERS_AS))
 }
 
 fn policy_command<'a>(alloc: Global) -> Result<Command<'a>, AllocError>
@@ -110,7 +121,11 @@ fn policy_command<'a>(alloc: Global) -> Result<Command<'a>, AllocError>
         .about(
             "Lists what a policy allows: a line SOURCE TARGET PERMISSION for each allowed triple",
         )
-        .arg(file_word(alloc, "The policy; standard input if it is left out"))
+        .arg(file_word(alloc, "The policy; standard input if it is left out"))?
+        .arg(format_option(
+            alloc,
+            "How triples are written: as text, or as JSON, an object a line",
+        ))
 }
 
 fn rules_command<'a>(alloc: Global) -> Result<Command<'a>, AllocError>
@@ -129,15 +144,14 @@ fn rules_command<'a>(alloc: Global) -> Result<Command<'a>, AllocError>
 fn check_command<'a>(alloc: Global) -> Result<Command<'a>, AllocError>
     ensures { IfOk result (λ c. (app_of c ≡ mode_app modes.Check) × ((fields_of c).has_globals ≡ false)) }
 {
-    let format = free_option(
+    let format = format_option(
         alloc,
-        "format",
-        "text|json",
         "How findings are written: as compilers print them, or an object a line",
     );
     Command::new(alloc, "check")
         .about("Tells what is wrong or useless in a policy, with the line and the column")
         .arg(file_word(alloc, "The policy; standard input if it is left out"))?
+        .arg(flag(alloc, "script", "FILE is a script, with its policy block"))?
         .arg(format)
 }
 
@@ -211,7 +225,14 @@ fn entries_command<'a>(alloc: Global) -> Result<Command<'a>, AllocError>
         "DOM",
         "Prints calls by which this domain grants the same, for play",
     );
-    entries_of_dump(alloc)?.arg(version)?.arg(script)
+    let format = format_option(
+        alloc,
+        "How entries are written: as text, or as JSON, an object a line",
+    );
+    entries_of_dump(alloc)?
+        .arg(version)?
+        .arg(script)?
+        .arg(format)
 }
 
 // The program without its commands.

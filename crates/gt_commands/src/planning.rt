@@ -4,8 +4,9 @@ ghost use Rattle.std.specs.Option.{option_map};
 ghost use Rattle.clap.specs.Words.{subcommand_of, rows_of, found_of, first_of, kind_of};
 ghost use Rattle.clap.specs.declared.error.kind.ErrorKind.TheVariants.{InvalidValue, OutOfMemory};
 ghost use Rattle.gt_commands.specs.Usage.{is_true};
-ghost use Rattle.gt_commands.specs.Commands.{asked, asked_by_some, asked_named, check_with, entries_with, mode_of};
-ghost use Rattle.gt_commands.specs.Commands.{IsAnswerTo, IsPlanOf, gthost_app, read, why_with};
+ghost use Rattle.gt_commands.specs.Commands.{asked, asked_by_some, asked_named, check_with, entries_with, list_with};
+ghost use Rattle.gt_commands.specs.Commands.{IsAnswerTo, IsPlanOf, gthost_app, mode_of, play_with, read, run_with};
+ghost use Rattle.gt_commands.specs.Commands.{why_with};
 
 use crate::invocation::{Format, Invocation, Mode};
 use crate::line::gthost_command;
@@ -54,11 +55,62 @@ fn is_set(matches: &ArgMatches<'_>, id: &str) -> bool
     }
 }
 
-fn check_with<'a>(format: Option<Format>, file: Option<&'a str>) -> Option<Invocation<'a>>
-    ensures { asked_by_some result ≡ check_with format (option_map (λ v. v.now) file.entry) }
+fn play_with<'a>(
+    format: Option<Format>,
+    audit: bool,
+    file: Option<&'a str>,
+) -> Option<Invocation<'a>>
+    ensures { asked_by_some result ≡ play_with format audit (option_map (λ v. v.now) file.entry) }
 {
     match format {
-        Some(format) => Some(Invocation::Check { format, file }),
+        Some(format) => Some(Invocation::Play {
+            audit,
+            format,
+            file,
+        }),
+        None => None,
+    }
+}
+
+fn run_with<'a>(
+    format: Option<Format>,
+    audit: bool,
+    file: Option<&'a str>,
+) -> Option<Invocation<'a>>
+    ensures { asked_by_some result ≡ run_with format audit (option_map (λ v. v.now) file.entry) }
+{
+    match format {
+        Some(format) => Some(Invocation::Run {
+            audit,
+            format,
+            file,
+        }),
+        None => None,
+    }
+}
+
+fn list_with<'a>(format: Option<Format>, file: Option<&'a str>) -> Option<Invocation<'a>>
+    ensures { asked_by_some result ≡ list_with format (option_map (λ v. v.now) file.entry) }
+{
+    match format {
+        Some(format) => Some(Invocation::Policy { format, file }),
+        None => None,
+    }
+}
+
+fn check_with<'a>(
+    format: Option<Format>,
+    script: bool,
+    file: Option<&'a str>,
+) -> Option<Invocation<'a>>
+    ensures { asked_by_some result ≡ check_with format script (option_map (λ v. v.now) file.entry) }
+{
+    match format {
+        Some(format) => Some(Invocation::Check {
+            script,
+            format,
+            file,
+        }),
         None => None,
     }
 }
@@ -87,19 +139,21 @@ fn why_with<'a>(
 fn entries_with<'a>(
     version: Option<u8>,
     script: Option<Option<u16>>,
+    format: Option<Format>,
     hex: bool,
     all: bool,
     file: Option<&'a str>,
 ) -> Option<Invocation<'a>>
-    ensures { asked_by_some result ≡ entries_with version script hex all
+    ensures { asked_by_some result ≡ entries_with version script format hex all
         (option_map (λ v. v.now) file.entry) }
 {
-    match (version, script) {
-        (Some(version), Some(script)) => Some(Invocation::Entries {
+    match (version, script, format) {
+        (Some(version), Some(script), Some(format)) => Some(Invocation::Entries {
             version,
             hex,
             all,
             script,
+            format,
             file,
         }),
         _ => None,
@@ -111,18 +165,13 @@ fn read<'a>(mode: Mode, matches: &ArgMatches<'a>) -> Option<Invocation<'a>>
     ensures { asked_by_some result ≡ read mode (λ id. first_of id (rows_of (found_of matches.now))) }
 {
     let file = value_of(matches, "file");
+    let format = format_of(value_of(matches, "format"));
     match mode {
-        Mode::Play => Some(Invocation::Play {
-            audit: is_set(matches, "audit"),
-            file,
-        }),
-        Mode::Run => Some(Invocation::Run {
-            audit: is_set(matches, "audit"),
-            file,
-        }),
-        Mode::Policy => Some(Invocation::Policy { file }),
+        Mode::Play => play_with(format, is_set(matches, "audit"), file),
+        Mode::Run => run_with(format, is_set(matches, "audit"), file),
+        Mode::Policy => list_with(format, file),
         Mode::Rules => Some(Invocation::Rules { rule: file }),
-        Mode::Check => check_with(format_of(value_of(matches, "format")), file),
+        Mode::Check => check_with(format, is_set(matches, "script"), file),
         Mode::Why => why_with(
             type_of(value_of(matches, "source")),
             type_of(value_of(matches, "target")),
@@ -132,6 +181,7 @@ fn read<'a>(mode: Mode, matches: &ArgMatches<'a>) -> Option<Invocation<'a>>
         Mode::Entries => entries_with(
             version_of(value_of(matches, "version")),
             script_of(value_of(matches, "script")),
+            format,
             is_set(matches, "hex"),
             is_set(matches, "all"),
             file,
@@ -161,10 +211,10 @@ fn value_error(alloc: Global, message: &str) -> Result<Error, Error>
 
 // What the options take of the command whose value is not taken.
 fn value_message(name: &str) -> &'static str {
-    if name == "check" {
-        "the value of --format is text or json"
+    if name == "entries" {
+        "the value of --version is 1 or 2, that of --script a number below 65536, and that of --format text or json"
     } else {
-        "the value of --version is 1 or 2, and that of --script a number below 65536"
+        "the value of --format is text or json"
     }
 }
 

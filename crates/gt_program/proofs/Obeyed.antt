@@ -17,8 +17,10 @@ use Rattle.gt_commands.specs.Commands.{Request, to_play, to_run, to_list, to_tel
 use Rattle.gt_commands.specs.Commands.{to_tell_entries, for_help, for_version, nothing, asked_by_plan, refusals}
 use Rattle.gt_commands.specs.declared.invocation.Invocation.{Invocation}
 use Rattle.gt_dump.specs.declared.asked.Asked.{Asked}
-use Rattle.gt_script.specs.RunScripts.{RunTells}
-use Rattle.gt_run.specs.Runs.{Ran}
+use Rattle.gt_commands.specs.declared.invocation.Format.{Format}
+use Rattle.gt_listing.specs.declared.fault.ListingFault.{ListingFault}
+use Rattle.gt_as_json.specs.AsJson.{Promise}
+use Rattle.gt_program.specs.Formats.{CheckedAs, RanAs}
 use Rattle.gt_run.specs.declared.fault.RunFault.{RunFault}
 use Rattle.gt_program.specs.Obeying.{Answers, Checks, Does, Doing, Ending, Explains, FitsKind, IsAsked, IsQuestion}
 use Rattle.gt_program.specs.Obeying.{Lists, Obeys, Performs, Plays, RunsDomains, TellsDump, TellsEntries, Works}
@@ -41,13 +43,23 @@ pub as_planned : (p same : Invocation) (file : List ℕ → Option (List ℕ)) (
 as_planned p same file input old new status is obeys = subst (λ (q : Invocation). Obeys (asked_by_plan q) file input old new status) (sym is) obeys
 
 -- a run with a log or without, as was asked for
-pub ran_as_asked : (logged audited : Bool) (known old new : Option (List ℕ)) (r : Result (Unit {0}) RunFault) → audited ≡ logged → OfInput known (λ input. Ran logged (RunTells input) old new r)
-    → OfInput known (λ input. Ran audited (RunTells input) old new r)
-ran_as_asked logged audited known old new r is ran = subst (λ (b : Bool). OfInput known (λ input. Ran b (RunTells input) old new r)) (sym is) ran
+pub ran_as_asked : (format : Format) (logged audited : Bool) (known old new : Option (List ℕ)) (r : Result (Unit {0}) RunFault) → audited ≡ logged → OfInput known (λ input. RanAs format logged input old new r)
+    → OfInput known (λ input. RanAs format audited input old new r)
+ran_as_asked format logged audited known old new r is ran = subst (λ (b : Bool). OfInput known (λ input. RanAs format b input old new r)) (sym is) ran
+
+-- what was written in the format that was asked for
+pub in_format : {F : Type 0} (Wrote : Format → List ℕ → Promise F) (format other : Format) (known old new : Option (List ℕ)) (r : Result (Unit {0}) F) → format ≡ other → OfInput known (λ input. Wrote other input old new r)
+    → OfInput known (λ input. Wrote format input old new r)
+in_format Wrote format other known old new r is wrote = subst (λ (f : Format). OfInput known (λ input. Wrote f input old new r)) (sym is) wrote
+
+-- a policy was checked or a script, as was asked for
+pub checked_as_asked : (checked script : Bool) (known old new : Option (List ℕ)) (r : Result Bool ListingFault) → script ≡ checked → OfInput known (λ input. CheckedAs checked input old new r)
+    → OfInput known (λ input. CheckedAs script input old new r)
+checked_as_asked checked script known old new r is does = subst (λ (b : Bool). OfInput known (λ input. CheckedAs b input old new r)) (sym is) does
 
 -- no memory was there before the text was read
-pub unread_run : (audited : Bool) (known old : Option (List ℕ)) → OfInput known (λ input. RunsDomains audited input old old (Err failures.Memory))
-unread_run audited known old = of_any_input known (λ (input : List ℕ). RunsDomains audited input old old (Err failures.Memory)) (λ (input : List ℕ). keeps_same old)
+pub unread_run : (format : Format) (audited : Bool) (known old : Option (List ℕ)) → OfInput known (λ input. RunsDomains format audited input old old (Err failures.Memory))
+unread_run format audited known old = of_any_input known (λ (input : List ℕ). RunsDomains format audited input old old (Err failures.Memory)) (λ (input : List ℕ). keeps_same old)
 
 -- what was asked for was done
 pub done : (request : Request) (file : List ℕ → Option (List ℕ)) (input old new : Option (List ℕ)) (p : Invocation) (status : ℕ) → asked_by_plan p ≡ request
@@ -63,15 +75,15 @@ wrong kind other old new status fits is memory help version =
 
 -- memory was refused
 out_of_memory : (request : Request) (file : List ℕ → Option (List ℕ)) (input old new : Option (List ℕ)) (status : ℕ) → status ≡ 1 → Keeps old new → Obeys request file input old new status
-out_of_memory (to_play audited name) file input old new status is kept = no_memory (Plays audited) (known_text file input name) old new status is kept
-out_of_memory (to_run audited name) file input old new status is kept = no_memory (RunsDomains audited) (known_text file input name) old new status is kept
-out_of_memory (to_list name) file input old new status is kept = no_memory Lists (known_text file input name) old new status is kept
+out_of_memory (to_play audited format name) file input old new status is kept = no_memory (Plays format audited) (known_text file input name) old new status is kept
+out_of_memory (to_run audited format name) file input old new status is kept = no_memory (RunsDomains format audited) (known_text file input name) old new status is kept
+out_of_memory (to_list format name) file input old new status is kept = no_memory (Lists format) (known_text file input name) old new status is kept
 out_of_memory (to_tell_rules name) file input old new status is kept = omega arith
-out_of_memory (to_check format name) file input old new status is kept = no_memory Checks (known_text file input name) old new status is kept
+out_of_memory (to_check script format name) file input old new status is kept = no_memory (Checks script) (known_text file input name) old new status is kept
 out_of_memory (to_explain source target permission name) file input old new status is kept =
     no_memory (Answers (shown_name name) source target permission) (known_text file input name) old new status is kept
-out_of_memory (to_tell_entries version hex every script name) file input old new status is kept =
-    no_memory (TellsDump version hex every script) (known_text file input name) old new status is kept
+out_of_memory (to_tell_entries version hex every script format name) file input old new status is kept =
+    no_memory (TellsDump version hex every script format) (known_text file input name) old new status is kept
 out_of_memory for_help file input old new status is kept = omega arith
 out_of_memory for_version file input old new status is kept = omega arith
 out_of_memory nothing file input old new status is kept = (inr is, kept)
@@ -90,20 +102,20 @@ wrong_line other file input old new error status is memory help version fits =
 -- it was refused
 pub refused : (request : Request) (file : List ℕ → Option (List ℕ)) (input old new : Option (List ℕ)) (error : Error) (status : ℕ) → HasKind (refusals request) error → FitsKind (kind_of error) old new status
     → Obeys request file input old new status
-refused (to_play audited name) file input old new error status (inl memory) fits = by_memory (to_play audited name) file input old new error status memory fits
-refused (to_play audited name) file input old new error status (inr none) fits = absurd none
-refused (to_run audited name) file input old new error status (inl memory) fits = by_memory (to_run audited name) file input old new error status memory fits
-refused (to_run audited name) file input old new error status (inr none) fits = absurd none
-refused (to_list name) file input old new error status (inl memory) fits = by_memory (to_list name) file input old new error status memory fits
-refused (to_list name) file input old new error status (inr none) fits = absurd none
+refused (to_play audited format name) file input old new error status (inl memory) fits = by_memory (to_play audited format name) file input old new error status memory fits
+refused (to_play audited format name) file input old new error status (inr none) fits = absurd none
+refused (to_run audited format name) file input old new error status (inl memory) fits = by_memory (to_run audited format name) file input old new error status memory fits
+refused (to_run audited format name) file input old new error status (inr none) fits = absurd none
+refused (to_list format name) file input old new error status (inl memory) fits = by_memory (to_list format name) file input old new error status memory fits
+refused (to_list format name) file input old new error status (inr none) fits = absurd none
 refused (to_tell_rules name) file input old new error status (inl memory) fits = by_memory (to_tell_rules name) file input old new error status memory fits
 refused (to_tell_rules name) file input old new error status (inr none) fits = absurd none
-refused (to_check format name) file input old new error status (inl memory) fits = by_memory (to_check format name) file input old new error status memory fits
-refused (to_check format name) file input old new error status (inr none) fits = absurd none
+refused (to_check script format name) file input old new error status (inl memory) fits = by_memory (to_check script format name) file input old new error status memory fits
+refused (to_check script format name) file input old new error status (inr none) fits = absurd none
 refused (to_explain source target permission name) file input old new error status (inl memory) fits = by_memory (to_explain source target permission name) file input old new error status memory fits
 refused (to_explain source target permission name) file input old new error status (inr none) fits = absurd none
-refused (to_tell_entries version hex every script name) file input old new error status (inl memory) fits = by_memory (to_tell_entries version hex every script name) file input old new error status memory fits
-refused (to_tell_entries version hex every script name) file input old new error status (inr none) fits = absurd none
+refused (to_tell_entries version hex every script format name) file input old new error status (inl memory) fits = by_memory (to_tell_entries version hex every script format name) file input old new error status memory fits
+refused (to_tell_entries version hex every script format name) file input old new error status (inr none) fits = absurd none
 refused for_help file input old new error status (inl memory) fits = let e = fits.memory memory in omega arith
 refused for_help file input old new error status (inr (inl help)) fits = fits.help help
 refused for_help file input old new error status (inr (inr none)) fits = absurd none
@@ -137,15 +149,15 @@ answered file same q source target permission known old new r status shown asks 
     subst (λ (f : List ℕ). Works (Answers f source target permission) known old new status) shown (answered_by file q source target permission known old new r status asks does is)
 
 -- a dump was told as it was asked
-tells_asked : (asked : Asked) (version : ℕ) (hex every : Bool) (script : Option ℕ) (input : List ℕ) (old new : Option (List ℕ)) (r : Ending) → IsAsked version hex every script asked
-    → Does (TellsEntries asked) input old new r → Does (TellsDump version hex every script) input old new r
-tells_asked asked version hex every script input old new r is (inl does) = inl (asked, is, does)
-tells_asked asked version hex every script input old new r is (inr unopened) = inr unopened
+tells_asked : (asked : Asked) (version : ℕ) (hex every : Bool) (script : Option ℕ) (format : Format) (input : List ℕ) (old new : Option (List ℕ)) (r : Ending) → IsAsked version hex every script asked
+    → Does (TellsEntries format asked) input old new r → Does (TellsDump version hex every script format) input old new r
+tells_asked asked version hex every script format input old new r is (inl does) = inl (asked, is, does)
+tells_asked asked version hex every script format input old new r is (inr unopened) = inr unopened
 
-pub told : (asked : Asked) (version : ℕ) (hex every : Bool) (script : Option ℕ) (known old new : Option (List ℕ)) (r : Ending) (status : ℕ) → IsAsked version hex every script asked
-    → IfSome known (λ bytes. Does (TellsEntries asked) bytes old new r) → status ≡ status_of r → Works (TellsDump version hex every script) known old new status
-told asked version hex every script None old new r status asks does is = tt
-told asked version hex every script (Some bytes) old new r status asks does is = (r, is, inl (tells_asked asked version hex every script bytes old new r asks does))
+pub told : (asked : Asked) (version : ℕ) (hex every : Bool) (script : Option ℕ) (format : Format) (known old new : Option (List ℕ)) (r : Ending) (status : ℕ) → IsAsked version hex every script asked
+    → IfSome known (λ bytes. Does (TellsEntries format asked) bytes old new r) → status ≡ status_of r → Works (TellsDump version hex every script format) known old new status
+told asked version hex every script format None old new r status asks does is = tt
+told asked version hex every script format (Some bytes) old new r status asks does is = (r, is, inl (tells_asked asked version hex every script format bytes old new r asks does))
 
 -- the work is the one that was asked for
 pub for_work : (known old new : Option (List ℕ)) (work other : Work) (r : Ending) → work ≡ other → OfInput known (λ input. Performs other input old new r) → OfInput known (λ input. Performs work input old new r)

@@ -2,11 +2,11 @@
 use Rattle.std.specs.Prelude.{◌≡◌, ◌⊎◌, ℕ, ◌≤◌, ◌++◌, Bool, true, false, List, Option, Some, None, Result, Ok, Err}
 use Rattle.std.specs.Prelude.{IfSome, codes}
 use Rattle.gt_program.specs.Prelude.{Keeps, option_map, ErrorKind, DisplayHelp, DisplayVersion, OutOfMemory}
-use Rattle.gt_program.specs.Prelude.{source_asked, target_asked, Question, Checked, Explained, why_fault_text, Request}
-use Rattle.gt_program.specs.Prelude.{to_play, to_run, to_list, to_tell_rules, to_check, to_explain, to_tell_entries}
-use Rattle.gt_program.specs.Prelude.{for_help, for_version, nothing, Told, dump_fault_text, Asked, RunTells, Tells}
-use Rattle.gt_program.specs.Prelude.{read_word, play_fault_text, Played, run_fault_text, Ran, listing_fault_text}
-use Rattle.gt_program.specs.Prelude.{Listed, Failure, Work}
+use Rattle.gt_program.specs.Prelude.{source_asked, target_asked, Question, Explained, why_fault_text, Request, to_play}
+use Rattle.gt_program.specs.Prelude.{to_run, to_list, to_tell_rules, to_check, to_explain, to_tell_entries, for_help}
+use Rattle.gt_program.specs.Prelude.{for_version, nothing, dump_fault_text, Asked, read_word, play_fault_text}
+use Rattle.gt_program.specs.Prelude.{run_fault_text, listing_fault_text, Format, Failure, Work}
+use Rattle.gt_program.specs.Formats.{CheckedAs, ListedAs, PlayedAs, RanAs, ToldAs}
 use Rattle.gt_program.specs.declared.failure.Failure.TheVariants as failures
 use Rattle.gt_program.specs.declared.obeying.Work.TheVariants as works
 
@@ -35,31 +35,31 @@ status_of (Err failure) = 1
 abbrev pub Doing : Type 1
 Doing = List ℕ → Option (List ℕ) → Option (List ℕ) → Ending → Type 0
 
-abbrev pub Plays : Bool → Doing
-Plays audited input old new (Ok true) = Played (Tells input) audited old new (Ok tt)
-Plays audited input old new (Ok false) = ⊥
-Plays audited input old new (Err (failures.Play fault)) = Played (Tells input) audited old new (Err fault)
-Plays audited input old new (Err failure) = ⊥
+abbrev pub Plays : Format → Bool → Doing
+Plays format audited input old new (Ok true) = PlayedAs format audited input old new (Ok tt)
+Plays format audited input old new (Ok false) = ⊥
+Plays format audited input old new (Err (failures.Play fault)) = PlayedAs format audited input old new (Err fault)
+Plays format audited input old new (Err failure) = ⊥
 
 -- nothing was written where memory was refused before the text was read (own)
-abbrev pub RunsDomains : Bool → Doing
-RunsDomains audited input old new (Ok true) = Ran audited (RunTells input) old new (Ok tt)
-RunsDomains audited input old new (Ok false) = ⊥
-RunsDomains audited input old new (Err (failures.Run fault)) = Ran audited (RunTells input) old new (Err fault)
-RunsDomains audited input old new (Err failures.Memory) = Keeps old new
-RunsDomains audited input old new (Err failure) = ⊥
+abbrev pub RunsDomains : Format → Bool → Doing
+RunsDomains format audited input old new (Ok true) = RanAs format audited input old new (Ok tt)
+RunsDomains format audited input old new (Ok false) = ⊥
+RunsDomains format audited input old new (Err (failures.Run fault)) = RanAs format audited input old new (Err fault)
+RunsDomains format audited input old new (Err failures.Memory) = Keeps old new
+RunsDomains format audited input old new (Err failure) = ⊥
 
-abbrev pub Lists : Doing
-Lists input old new (Ok true) = Listed input old new (Ok tt)
-Lists input old new (Ok false) = ⊥
-Lists input old new (Err (failures.List fault)) = Listed input old new (Err fault)
-Lists input old new (Err failure) = ⊥
+abbrev pub Lists : Format → Doing
+Lists format input old new (Ok true) = ListedAs format input old new (Ok tt)
+Lists format input old new (Ok false) = ⊥
+Lists format input old new (Err (failures.List fault)) = ListedAs format input old new (Err fault)
+Lists format input old new (Err failure) = ⊥
 
--- a good answer is that the text is a policy (own)
-abbrev pub Checks : Doing
-Checks input old new (Ok answer) = Checked input old new (Ok answer)
-Checks input old new (Err (failures.List fault)) = Checked input old new (Err fault)
-Checks input old new (Err failure) = ⊥
+-- a good answer is that the text is a policy, or a script (own)
+abbrev pub Checks : Bool → Doing
+Checks script input old new (Ok answer) = CheckedAs script input old new (Ok answer)
+Checks script input old new (Err (failures.List fault)) = CheckedAs script input old new (Err fault)
+Checks script input old new (Err failure) = ⊥
 
 -- a good answer is that it is allowed (own)
 abbrev pub Explains : List ℕ → Question → Doing
@@ -67,19 +67,19 @@ Explains file q input old new (Ok answer) = Explained file q input old new (Ok a
 Explains file q input old new (Err (failures.Why fault)) = Explained file q input old new (Err fault)
 Explains file q input old new (Err failure) = ⊥
 
-abbrev pub TellsEntries : Asked → Doing
-TellsEntries asked input old new (Ok true) = Told asked input old new (Ok tt)
-TellsEntries asked input old new (Ok false) = ⊥
-TellsEntries asked input old new (Err (failures.Dump fault)) = Told asked input old new (Err fault)
-TellsEntries asked input old new (Err failure) = ⊥
+abbrev pub TellsEntries : Format → Asked → Doing
+TellsEntries format asked input old new (Ok true) = ToldAs format asked input old new (Ok tt)
+TellsEntries format asked input old new (Ok false) = ⊥
+TellsEntries format asked input old new (Err (failures.Dump fault)) = ToldAs format asked input old new (Err fault)
+TellsEntries format asked input old new (Err failure) = ⊥
 
 -- what is done with a text (own)
 abbrev pub Performs : Work → Doing
-Performs (works.Play audited) = Plays audited
-Performs works.List = Lists
-Performs (works.Check file json) = Checks
+Performs (works.Play audited format) = Plays format audited
+Performs (works.List format) = Lists format
+Performs (works.Check script file json) = Checks script
 Performs (works.Why file question) = Explains file.now question
-Performs (works.Entries asked) = TellsEntries asked
+Performs (works.Entries asked format) = TellsEntries format asked
 
 -- a file that was not opened: nothing was written (own)
 abbrev pub IsUnopened : Option (List ℕ) → Option (List ℕ) → Ending → Type 0
@@ -134,27 +134,30 @@ Answers file source target permission input old new r =
     (q : Question) × IsQuestion source target permission q × Explains file q input old new r
 
 -- a dump is told as it is asked (own)
-abbrev pub TellsDump : ℕ → Bool → Bool → Option ℕ → Doing
-TellsDump version hex every script input old new r =
-    (asked : Asked) × IsAsked version hex every script asked × TellsEntries asked input old new r
+abbrev pub TellsDump : ℕ → Bool → Bool → Option ℕ → Format → Doing
+TellsDump version hex every script format input old new r =
+    (asked : Asked) × IsAsked version hex every script asked × TellsEntries format asked input old new r
 
 -- The exit status fits what was asked for, and what was written does: a script that was played or run, a policy that
--- was listed or checked, a question that was answered, a dump that was told, the rules, where the status is 2
+-- was listed, a policy or a script that was checked, a question that was answered, a dump that was told, the rules, where the status is 2
 -- for the name of none, help, the version, or nothing for words that ask for nothing,
 -- whose status is 2 and for which nothing is written. Where memory is
 -- refused, the status is 1 for all of them. (own)
 abbrev pub Obeys : Request → (List ℕ → Option (List ℕ)) → Option (List ℕ) → Option (List ℕ) → Option (List ℕ) → ℕ
     → Type 0
-Obeys (to_play audited name) file input old new status = Works (Plays audited) (known_text file input name) old new status
-Obeys (to_run audited name) file input old new status =
-    Works (RunsDomains audited) (known_text file input name) old new status
-Obeys (to_list name) file input old new status = Works Lists (known_text file input name) old new status
+Obeys (to_play audited format name) file input old new status =
+    Works (Plays format audited) (known_text file input name) old new status
+Obeys (to_run audited format name) file input old new status =
+    Works (RunsDomains format audited) (known_text file input name) old new status
+Obeys (to_list format name) file input old new status =
+    Works (Lists format) (known_text file input name) old new status
 Obeys (to_tell_rules name) file input old new status = status ≤ 2
-Obeys (to_check format name) file input old new status = Works Checks (known_text file input name) old new status
+Obeys (to_check script format name) file input old new status =
+    Works (Checks script) (known_text file input name) old new status
 Obeys (to_explain source target permission name) file input old new status =
     Works (Answers (shown_name name) source target permission) (known_text file input name) old new status
-Obeys (to_tell_entries version hex every script name) file input old new status =
-    Works (TellsDump version hex every script) (known_text file input name) old new status
+Obeys (to_tell_entries version hex every script format name) file input old new status =
+    Works (TellsDump version hex every script format) (known_text file input name) old new status
 Obeys for_help file input old new status = status ≤ 1
 Obeys for_version file input old new status = status ≤ 1
 Obeys nothing file input old new status = ((status ≡ 2) ⊎ (status ≡ 1)) × Keeps old new

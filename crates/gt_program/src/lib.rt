@@ -13,6 +13,7 @@
 #![tactic(auto)]
 
 mod failure;
+mod formats;
 mod obeying;
 mod rules;
 mod system;

@@ -4,24 +4,23 @@ ghost use Rattle.std.specs.Option.{option_map};
 ghost use Rattle.clap.specs.Kinds.{HasKind};
 ghost use Rattle.clap.specs.Words.{kind_of};
 ghost use Rattle.gt_commands.specs.Commands.{asked, asked_by_plan};
-ghost use Rattle.gt_script.specs.RunScripts.{RunTells};
 ghost use Rattle.gt_streams.specs.Streams.{OfInput};
-ghost use Rattle.gt_run.specs.Runs.{Ran};
 ghost use Rattle.gt_program.specs.Obeying.{status_of, known_text, shown_name, Does, FitsKind, Obeys, Performs};
 ghost use Rattle.gt_program.specs.Obeying.{RunsDomains};
+ghost use Rattle.gt_program.specs.Formats.{RanAs};
 
 use crate::failure::{Failure, exit_status};
+use crate::formats::{check_as, entries_as, list_as, play_as, run_as};
 use crate::rules::tell_rules;
 use crate::texts::Texts;
 use clap::Error;
 use clap::error::ErrorKind;
 use gt_advice::Question;
-use gt_advising::{check, why};
+use gt_advising::why;
 use gt_audit::SharedLog;
 use gt_commands::{Format, Invocation, plan};
-use gt_dump::{Asked, entries};
-use gt_listing::policy;
-use gt_run::{Flags, Gate, RunFault, run};
+use gt_dump::Asked;
+use gt_run::{Flags, Gate, RunFault};
 use gt_streams::WriteFault;
 use gt_types::DomId;
 use std::alloc::Global;
@@ -35,11 +34,15 @@ pub enum Work<'w> {
     /// The script is run on the core, with its audit lines or without.
     Play {
         audit: bool,
+        format: Format,
     },
     /// What the policy allows is listed.
-    List,
-    /// What is wrong or useless in the policy is told. The lines begin with the name.
+    List {
+        format: Format,
+    },
+    /// What is wrong or useless in the policy, or in the script, is told. The lines begin with the name.
     Check {
+        script: bool,
         file: &'w str,
         json: bool,
     },
@@ -51,6 +54,7 @@ pub enum Work<'w> {
     /// The entries of the dump are told.
     Entries {
         asked: Asked,
+        format: Format,
     },
 }
 
@@ -65,15 +69,17 @@ fn perform<R: Read, W: Write>(
         Performs work.entry input (W.contents out.old) (W.contents out.new) result) }
 {
     match work {
-        Work::Play { audit } => match gt_host::play(alloc, reader, out, audit) {
+        Work::Play { audit, format } => match play_as(alloc, format, audit, reader, out) {
             Ok(()) => Ok(true),
             Err(fault) => Err(Failure::Play(fault)),
         },
-        Work::List => match policy(alloc, reader, out) {
+        Work::List { format } => match list_as(alloc, format, reader, out) {
             Ok(()) => Ok(true),
             Err(fault) => Err(Failure::List(fault)),
         },
-        Work::Check { file, json } => match check(alloc, file, json, reader, out) {
+        Work::Check { script, file, json } => match check_as(
+            alloc, script, file, json, reader, out,
+        ) {
             Ok(clean) => Ok(clean),
             Err(fault) => Err(Failure::List(fault)),
         },
@@ -81,7 +87,7 @@ fn perform<R: Read, W: Write>(
             Ok(allowed) => Ok(allowed),
             Err(fault) => Err(Failure::Why(fault)),
         },
-        Work::Entries { asked } => match entries(alloc, asked, reader, out) {
+        Work::Entries { asked, format } => match entries_as(alloc, format, asked, reader, out) {
             Ok(()) => Ok(true),
             Err(fault) => Err(Failure::Dump(fault)),
         },
@@ -150,6 +156,7 @@ fn refuse<W: Write, E: Eprint>(out: &mut W, err: &E, error: &Error) -> u8
 fn run_logged<R: Threads + Wait + Sync, I: Read, W: Write, G: Gate + Sync>(
     rt: &R,
     alloc: Global,
+    format: Format,
     audit: bool,
     reader: &mut I,
     out: &mut W,
@@ -157,12 +164,12 @@ fn run_logged<R: Threads + Wait + Sync, I: Read, W: Write, G: Gate + Sync>(
     gate: &G,
 ) -> Result<(), RunFault>
     ensures { OfInput (I.remaining reader.old) (λ input.
-        Ran audit (RunTells input) (W.contents out.old) (W.contents out.new) result) }
+        RanAs format audit input (W.contents out.old) (W.contents out.new) result) }
 {
     if audit {
-        run(rt, alloc, reader, out, Some(log), gate)
+        run_as(rt, alloc, format, reader, out, Some(log), gate)
     } else {
-        run(rt, alloc, reader, out, None, gate)
+        run_as(rt, alloc, format, reader, out, None, gate)
     }
 }
 
@@ -171,12 +178,13 @@ fn run_logged<R: Threads + Wait + Sync, I: Read, W: Write, G: Gate + Sync>(
 fn run_script<R: Threads + Wait + Sync, I: Read, W: Write>(
     rt: &R,
     alloc: Global,
+    format: Format,
     audit: bool,
     reader: &mut I,
     out: &mut W,
 ) -> Result<bool, Failure>
     ensures { OfInput (I.remaining reader.old) (λ input.
-        RunsDomains audit input (W.contents out.old) (W.contents out.new) result) }
+        RunsDomains format audit input (W.contents out.old) (W.contents out.new) result) }
 {
     let Ok(gate) = Flags::new(rt, alloc) else {
         return Err(Failure::Memory);
@@ -184,7 +192,7 @@ fn run_script<R: Threads + Wait + Sync, I: Read, W: Write>(
     let Ok(log) = SharedLog::new(alloc) else {
         return Err(Failure::Memory);
     };
-    match run_logged(rt, alloc, audit, reader, out, &log, &gate) {
+    match run_logged(rt, alloc, format, audit, reader, out, &log, &gate) {
         Ok(()) => Ok(true),
         Err(fault) => Err(Failure::Run(fault)),
     }
@@ -195,18 +203,19 @@ fn run_on<R: Threads + Wait + Sync, T: Texts, W: Write>(
     rt: &R,
     alloc: Global,
     texts: &T,
+    format: Format,
     audit: bool,
     name: Option<&str>,
     out: &mut W,
 ) -> Result<bool, Failure>
     ensures { IfSome (known_text (T.file texts.now) (T.input texts.now) (option_map (λ f. f.now) name.entry))
-        (λ input. Does (RunsDomains audit) input (W.contents out.old) (W.contents out.new) result) }
+        (λ input. Does (RunsDomains format audit) input (W.contents out.old) (W.contents out.new) result) }
 {
     let Some(name) = name else {
-        return run_script(rt, alloc, audit, &mut texts.input(), out);
+        return run_script(rt, alloc, format, audit, &mut texts.input(), out);
     };
     match texts.open(name) {
-        Ok(mut file) => run_script(rt, alloc, audit, &mut file, out),
+        Ok(mut file) => run_script(rt, alloc, format, audit, &mut file, out),
         Err(fault) => Err(Failure::File(fault)),
     }
 }
@@ -244,18 +253,36 @@ fn follow<R: Threads + Wait + Sync, T: Texts, W: Write, E: Eprint>(
         (W.contents out.old) (W.contents out.new) result }
 {
     match invocation {
-        Invocation::Play { audit, file } => {
+        Invocation::Play {
+            audit,
+            format,
+            file,
+        } => {
             report(
                 err,
-                perform_on(alloc, texts, Work::Play { audit }, file, out),
+                perform_on(alloc, texts, Work::Play { audit, format }, file, out),
             )
         }
-        Invocation::Run { audit, file } => report(err, run_on(rt, alloc, texts, audit, file, out)),
-        Invocation::Policy { file } => report(err, perform_on(alloc, texts, Work::List, file, out)),
+        Invocation::Run {
+            audit,
+            format,
+            file,
+        } => report(err, run_on(rt, alloc, texts, format, audit, file, out)),
+        Invocation::Policy { format, file } => {
+            report(
+                err,
+                perform_on(alloc, texts, Work::List { format }, file, out),
+            )
+        }
         Invocation::Rules { rule } => tell_rules(out, err, rule),
-        Invocation::Check { format, file } => {
+        Invocation::Check {
+            script,
+            format,
+            file,
+        } => {
             let json = matches!(format, Format::Json);
             let work = Work::Check {
+                script,
                 file: shown_name(file),
                 json,
             };
@@ -283,6 +310,7 @@ fn follow<R: Threads + Wait + Sync, T: Texts, W: Write, E: Eprint>(
             hex,
             all,
             script,
+            format,
             file,
         } => {
             let asked = Asked {
@@ -293,7 +321,7 @@ fn follow<R: Threads + Wait + Sync, T: Texts, W: Write, E: Eprint>(
             };
             report(
                 err,
-                perform_on(alloc, texts, Work::Entries { asked }, file, out),
+                perform_on(alloc, texts, Work::Entries { asked, format }, file, out),
             )
         }
     }

@@ -12,11 +12,12 @@ fn words_of(alloc: Global, line: &str) -> Result<Vec<String>, AllocError> {
     Ok(words)
 }
 
-const PLANS: [(&str, Invocation<'static>); 23] = [
+const PLANS: [(&str, Invocation<'static>); 28] = [
     (
         "gthost play",
         Invocation::Play {
             audit: false,
+            format: Format::Text,
             file: None,
         },
     ),
@@ -24,6 +25,7 @@ const PLANS: [(&str, Invocation<'static>); 23] = [
         "gthost play first.gt",
         Invocation::Play {
             audit: false,
+            format: Format::Text,
             file: Some("first.gt"),
         },
     ),
@@ -31,6 +33,7 @@ const PLANS: [(&str, Invocation<'static>); 23] = [
         "gthost play -",
         Invocation::Play {
             audit: false,
+            format: Format::Text,
             file: Some("-"),
         },
     ),
@@ -38,6 +41,7 @@ const PLANS: [(&str, Invocation<'static>); 23] = [
         "gthost play -- --help",
         Invocation::Play {
             audit: false,
+            format: Format::Text,
             file: Some("--help"),
         },
     ),
@@ -45,18 +49,29 @@ const PLANS: [(&str, Invocation<'static>); 23] = [
         "gthost play first.gt --",
         Invocation::Play {
             audit: false,
+            format: Format::Text,
             file: Some("first.gt"),
         },
     ),
-    ("gthost policy", Invocation::Policy { file: None }),
+    (
+        "gthost policy",
+        Invocation::Policy {
+            format: Format::Text,
+            file: None,
+        },
+    ),
     (
         "gthost policy play",
-        Invocation::Policy { file: Some("play") },
+        Invocation::Policy {
+            format: Format::Text,
+            file: Some("play"),
+        },
     ),
     (
         "gthost play policy",
         Invocation::Play {
             audit: false,
+            format: Format::Text,
             file: Some("policy"),
         },
     ),
@@ -64,6 +79,7 @@ const PLANS: [(&str, Invocation<'static>); 23] = [
         "gthost play --audit",
         Invocation::Play {
             audit: true,
+            format: Format::Text,
             file: None,
         },
     ),
@@ -71,6 +87,7 @@ const PLANS: [(&str, Invocation<'static>); 23] = [
         "gthost play --audit a.gt",
         Invocation::Play {
             audit: true,
+            format: Format::Text,
             file: Some("a.gt"),
         },
     ),
@@ -78,6 +95,7 @@ const PLANS: [(&str, Invocation<'static>); 23] = [
         "gthost play a.gt --audit",
         Invocation::Play {
             audit: true,
+            format: Format::Text,
             file: Some("a.gt"),
         },
     ),
@@ -85,6 +103,7 @@ const PLANS: [(&str, Invocation<'static>); 23] = [
         "gthost run a.gt",
         Invocation::Run {
             audit: false,
+            format: Format::Text,
             file: Some("a.gt"),
         },
     ),
@@ -92,6 +111,7 @@ const PLANS: [(&str, Invocation<'static>); 23] = [
     (
         "gthost check",
         Invocation::Check {
+            script: false,
             format: Format::Text,
             file: None,
         },
@@ -99,6 +119,7 @@ const PLANS: [(&str, Invocation<'static>); 23] = [
     (
         "gthost check --format json a.te",
         Invocation::Check {
+            script: false,
             format: Format::Json,
             file: Some("a.te"),
         },
@@ -106,6 +127,7 @@ const PLANS: [(&str, Invocation<'static>); 23] = [
     (
         "gthost check a.te --format=text",
         Invocation::Check {
+            script: false,
             format: Format::Text,
             file: Some("a.te"),
         },
@@ -135,6 +157,7 @@ const PLANS: [(&str, Invocation<'static>); 23] = [
             hex: false,
             all: false,
             script: None,
+            format: Format::Text,
             file: None,
         },
     ),
@@ -145,6 +168,7 @@ const PLANS: [(&str, Invocation<'static>); 23] = [
             hex: true,
             all: true,
             script: None,
+            format: Format::Text,
             file: Some("a.hex"),
         },
     ),
@@ -155,6 +179,7 @@ const PLANS: [(&str, Invocation<'static>); 23] = [
             hex: false,
             all: false,
             script: Some(7),
+            format: Format::Text,
             file: Some("--all"),
         },
     ),
@@ -165,6 +190,7 @@ const PLANS: [(&str, Invocation<'static>); 23] = [
             hex: false,
             all: false,
             script: Some(65_535),
+            format: Format::Text,
             file: None,
         },
     ),
@@ -175,7 +201,50 @@ const PLANS: [(&str, Invocation<'static>); 23] = [
             hex: false,
             all: false,
             script: Some(0),
+            format: Format::Text,
             file: Some("-"),
+        },
+    ),
+    (
+        "gthost play --format json --audit a.gt",
+        Invocation::Play {
+            audit: true,
+            format: Format::Json,
+            file: Some("a.gt"),
+        },
+    ),
+    (
+        "gthost run a.gt --format=json",
+        Invocation::Run {
+            audit: false,
+            format: Format::Json,
+            file: Some("a.gt"),
+        },
+    ),
+    (
+        "gthost policy --format json",
+        Invocation::Policy {
+            format: Format::Json,
+            file: None,
+        },
+    ),
+    (
+        "gthost check --script a.gt",
+        Invocation::Check {
+            script: true,
+            format: Format::Text,
+            file: Some("a.gt"),
+        },
+    ),
+    (
+        "gthost entries --version 2 --format json",
+        Invocation::Entries {
+            version: 2,
+            hex: false,
+            all: false,
+            script: None,
+            format: Format::Json,
+            file: None,
         },
     ),
 ];
@@ -194,7 +263,7 @@ fn a_line_is_planned_as_it_asks(rt: HostRuntime) -> Result<(), Fail> {
 }
 
 // Lines that are no plan, and whether they are faults.
-const REFUSED: [(&str, bool); 35] = [
+const REFUSED: [(&str, bool); 40] = [
     ("gthost --help", false),
     ("gthost --version", false),
     ("gthost -h", false),
@@ -216,6 +285,11 @@ const REFUSED: [(&str, bool); 35] = [
     ("gthost check --format xml --help", false),
     ("gthost check --format --help", true),
     ("gthost check --format -- a.te", true),
+    ("gthost play --format yaml", true),
+    ("gthost policy --format json --format json", true),
+    ("gthost rules --format json", true),
+    ("gthost why --format json driver_t - copy", true),
+    ("gthost check --script --script", true),
     ("gthost why driver_t guest_t", true),
     ("gthost why driver_t guest_t copy a.te b.te", true),
     ("gthost why --help", false),

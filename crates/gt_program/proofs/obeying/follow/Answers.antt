@@ -10,4 +10,4 @@ returns-in-Why g c =
 pub returns-in-Entries : goal.returns-in-Entries
 returns-in-Entries g c =
     as_planned _ _ _ _ _ _ _ c.in-Entries.is
-    (told _ _ _ _ _ _ _ _ c.perform_on-in-Entries.result _ (refl, refl, refl, c.domain.ensures) c.perform_on-in-Entries.ensures c.report-in-Entries.ensures)
+    (told _ _ _ _ _ _ _ _ _ c.perform_on-in-Entries.result _ (refl, refl, refl, c.domain.ensures) c.perform_on-in-Entries.ensures c.report-in-Entries.ensures)

@@ -1,0 +1,40 @@
+-- What is written for a script that is checked.
+use Rattle.std.specs.Prelude.{◌≡◌, ◌⊎◌, ℕ, Bool, true, false, not, List, Option, Result, Ok, Err}
+use Rattle.std.specs.List.{list_any}
+use Rattle.std.specs.Io.KnownBytes.{Appends, Keeps}
+use Rattle.gt_advice.specs.Check.{is_error}
+use Rattle.gt_advice.specs.declared.findings.Finding.{Finding}
+use Rattle.gt_listing.specs.declared.fault.ListingFault.{ListingFault}
+use Rattle.gt_listing.specs.declared.fault.ListingFault.TheVariants.{Utf8, Policy, Memory, Read, Write}
+use Rattle.gt_script.specs.Contents.{Contents}
+use Rattle.gt_script.specs.RunContents.{RunContents}
+use Rattle.gt_script.specs.RunScripts.{RunTells}
+use Rattle.gt_script.specs.Script.{Tells, Wrong}
+use Rattle.gt_script_advice.specs.Judging.{Judges}
+use Rattle.gt_streams.specs.Streams.{AppendsBeginning}
+
+-- the bytes are a script for `play` or for `run`, or for neither (own)
+abbrev pub IsScript : List ℕ → Bool → Type 0
+IsScript bytes true = ((c : Contents) × Tells bytes (Ok c)) ⊎ ((c : RunContents) × RunTells bytes (Ok c))
+IsScript bytes false = (play : Wrong) × (run : Wrong) × Tells bytes (Err play) × RunTells bytes (Err run)
+
+-- findings went out, or a beginning of them; the answer is that none is an error (own)
+abbrev pub TellsFindings : List Finding → Option (List ℕ) → Option (List ℕ) → Result Bool ListingFault → Type 0
+TellsFindings found old new (Ok clean) =
+    (clean ≡ not (list_any (λ x. is_error x.kind) found)) × ((report : List ℕ) × Appends old new report)
+TellsFindings found old new (Err Write) = (report : List ℕ) × AppendsBeginning old new report
+TellsFindings found old new (Err Memory) = Keeps old new
+TellsFindings found old new (Err Read) = ⊥
+TellsFindings found old new (Err (Utf8 line)) = ⊥
+TellsFindings found old new (Err (Policy shown)) = ⊥
+
+-- what was written for a script: at Ok what was found in it, and whether it is one; after a failed write a beginning;
+-- nothing where memory is refused or the text is not read (own)
+abbrev pub CheckedScript : List ℕ → Option (List ℕ) → Option (List ℕ) → Result Bool ListingFault → Type 0
+CheckedScript bytes old new (Ok clean) =
+    (found : List Finding) × (report : List ℕ) × Judges bytes found × IsScript bytes clean × Appends old new report
+CheckedScript bytes old new (Err Write) = (report : List ℕ) × AppendsBeginning old new report
+CheckedScript bytes old new (Err Memory) = Keeps old new
+CheckedScript bytes old new (Err Read) = Keeps old new
+CheckedScript bytes old new (Err (Utf8 line)) = ⊥
+CheckedScript bytes old new (Err (Policy shown)) = ⊥

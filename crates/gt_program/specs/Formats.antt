@@ -1,0 +1,44 @@
+-- What a command writes in a format.
+use Rattle.std.specs.Prelude.{ℕ, Bool, true, false, List, Result}
+use Rattle.gt_advising.specs.Checking.{Checked}
+use Rattle.gt_advising.specs.Scripts.{CheckedScript}
+use Rattle.gt_as_json.specs.AsJson.{Promise, ListedAsJson, PlayedAsJson, RanAsJson, ToldAsJson}
+use Rattle.gt_commands.specs.declared.invocation.Format.{Format}
+use Rattle.gt_commands.specs.declared.invocation.Format.TheVariants.{Text, Json}
+use Rattle.gt_dump.specs.Dumps.{Told}
+use Rattle.gt_dump.specs.declared.asked.Asked.{Asked}
+use Rattle.gt_dump.specs.declared.fault.DumpFault.{DumpFault}
+use Rattle.gt_host.specs.Playing.{Played}
+use Rattle.gt_host.specs.declared.fault.PlayFault.{PlayFault}
+use Rattle.gt_listing.specs.Writing.{Listed}
+use Rattle.gt_listing.specs.declared.fault.ListingFault.{ListingFault}
+use Rattle.gt_run.specs.Runs.{Ran}
+use Rattle.gt_run.specs.declared.fault.RunFault.{RunFault}
+use Rattle.gt_script.specs.RunScripts.{RunTells}
+use Rattle.gt_script.specs.Script.{Tells}
+use Rattle.std.specs.Prelude.{Option}
+
+-- what `play` writes (own)
+abbrev pub PlayedAs : Format → Bool → List ℕ → Promise PlayFault
+PlayedAs Text audited input = Played (Tells input) audited
+PlayedAs Json audited input = PlayedAsJson input audited
+
+-- what `run` writes (own)
+abbrev pub RanAs : Format → Bool → List ℕ → Promise RunFault
+RanAs Text audited input = Ran audited (RunTells input)
+RanAs Json audited input = RanAsJson input audited
+
+-- what `policy` writes (own)
+abbrev pub ListedAs : Format → List ℕ → Promise ListingFault
+ListedAs Text input = Listed input
+ListedAs Json input = ListedAsJson input
+
+-- what `entries` writes (own)
+abbrev pub ToldAs : Format → Asked → List ℕ → Promise DumpFault
+ToldAs Text asked input = Told asked input
+ToldAs Json asked input = ToldAsJson asked input
+
+-- what `check` writes of a policy, or of a script (own)
+abbrev pub CheckedAs : Bool → List ℕ → Option (List ℕ) → Option (List ℕ) → Result Bool ListingFault → Type 0
+CheckedAs false input = Checked input
+CheckedAs true input = CheckedScript input
