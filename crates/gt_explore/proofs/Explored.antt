@@ -1,0 +1,61 @@
+-- From what was read to what was written.
+use Rattle.std.proofs.Common.{◌≡◌, ℕ, Bool, List, All, IfOk, map, Option, None, Result, Ok, Err, sym, subst}
+use Rattle.std.proofs.lemmas.List.Elements.{All-map}
+use Rattle.gt_host.specs.Faults.{fault_of, read_fault}
+use Rattle.gt_host.specs.declared.fault.PlayFault.{PlayFault}
+use Rattle.gt_host.specs.declared.fault.PlayFault.TheVariants as plays
+use Rattle.gt_script.specs.RunContents.{RunContents}
+use Rattle.gt_script.specs.RunScripts.{RunAnswers, RunTells}
+use Rattle.gt_script.specs.Script.{Wrong}
+use Rattle.gt_script.specs.declared.faults.ScriptError.{ScriptError}
+use Rattle.gt_script.specs.declared.faults.ScriptError.TheVariants as errors
+use Rattle.gt_streams.specs.Laws.{keeps_same, of_any_input}
+use Rattle.gt_streams.specs.Streams.{OfInput}
+use Rattle.gt_streams.specs.declared.fault.ReadFault.{ReadFault}
+use Rattle.gt_streams.specs.declared.fault.ReadFault.TheVariants as reads
+use Rattle.gt_replay.specs.Orders.{MayGive}
+use Rattle.gt_explore.specs.Exploring.{Explored, Explores, IsMadeBy}
+use Rattle.gt_explore.specs.Telling.{told as told_of}
+use Rattle.gt_explore.specs.declared.exploring.Made.{Made}
+use Rattle.gt_explore.specs.declared.fault.TextsFault.{TextsFault}
+use Rattle.gt_explore.specs.declared.texts.Given.{Given}
+use Rattle.gt_explore.specs.declared.exploring.Asked.{Asked}
+use Rattle.gt_explore.specs.declared.fault.ExploreFault.{ExploreFault}
+use Rattle.gt_explore.specs.declared.fault.ExploreFault.TheVariants.{Play, Texts}
+
+-- the texts of a script are told
+pub made_texts : (c : RunContents) (witness : Option ℕ) (find : Option (List ℕ)) (texts : List Given) (states : ℕ) (r : Result Made TextsFault) → witness ≡ None
+    → All (λ given. MayGive c given.text.items) texts → IfOk r (λ made. made.text.items ≡ told_of find states (map (λ given. given.text.items) texts))
+    → IfOk r (λ made. IsMadeBy c witness find made.text.items)
+made_texts c witness find texts states (Ok made) is may told =
+    subst (λ (w : Option ℕ). IsMadeBy c w find made.text.items) (sym is) (map (λ given. given.text.items) texts, states, All-map (MayGive c) (λ given. given.text.items) texts may, told)
+made_texts c witness find texts states (Err fault) is may told = tt
+
+-- a script was explored
+pub explored_script : (asked : Asked) (Told : Result RunContents Wrong → Type 0) (c : RunContents) (r : Result Bool ExploreFault) (old new : Option (List ℕ)) → Told (Ok c)
+    → Explores c asked old new r → Explored asked Told old new r
+explored_script asked Told c (Ok is_any) old new told wrote = (c, told, wrote)
+explored_script asked Told c (Err (Texts fault)) old new told wrote = wrote
+explored_script asked Told c (Err (Play plays.Write)) old new told wrote = (c, told, wrote)
+explored_script asked Told c (Err (Play plays.Memory)) old new told wrote = absurd wrote
+explored_script asked Told c (Err (Play plays.Read)) old new told wrote = absurd wrote
+explored_script asked Told c (Err (Play (plays.Script fault))) old new told wrote = absurd wrote
+explored_script asked Told c (Err (Play (plays.Policy fault))) old new told wrote = absurd wrote
+
+-- there is no script, and nothing went out
+no_script : (asked : Asked) (Told : Result RunContents Wrong → Type 0) (error : ScriptError) (old : Option (List ℕ)) → RunAnswers (Err error) Told → Explored asked Told old old (Err (Play (fault_of error)))
+no_script asked Told errors.Memory old told = keeps_same old
+no_script asked Told (errors.Fault f) old told = (told, keeps_same old)
+no_script asked Told (errors.Policy f) old (g, shown, told) = (g, shown, told, keeps_same old)
+
+pub explored_nothing : (asked : Asked) (Told : Result RunContents Wrong → Type 0) (error : ScriptError) (fault : PlayFault) (old : Option (List ℕ)) → RunAnswers (Err error) Told → fault ≡ fault_of error → Explored asked Told old old (Err (Play fault))
+explored_nothing asked Told error fault old told is = subst (λ (f : PlayFault). Explored asked Told old old (Err (Play f))) (sym is) (no_script asked Told error old told)
+
+-- nothing could be read
+unread : (asked : Asked) (Told : Result RunContents Wrong → Type 0) (old : Option (List ℕ)) (error : ReadFault) → Explored asked Told old old (Err (Play (read_fault error)))
+unread asked Told old reads.Memory = keeps_same old
+unread asked Told old reads.Read = keeps_same old
+
+pub explored_unread : (asked : Asked) (known old : Option (List ℕ)) (error : ReadFault) (fault : PlayFault) → fault ≡ read_fault error → OfInput known (λ input. Explored asked (RunTells input) old old (Err (Play fault)))
+explored_unread asked known old error fault is =
+    of_any_input known (λ (input : List ℕ). Explored asked (RunTells input) old old (Err (Play fault))) (λ (input : List ℕ). subst (λ (f : PlayFault). Explored asked (RunTells input) old old (Err (Play f))) (sym is) (unread asked (RunTells input) old error))

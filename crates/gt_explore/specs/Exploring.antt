@@ -1,0 +1,51 @@
+-- What is written for a script that is explored.
+use Rattle.std.specs.Prelude.{◌≡◌, ℕ, Bool, List, All, Option, Some, None, Result, Ok, Err, option_map}
+use Rattle.std.specs.Io.KnownBytes.{Appends, Keeps}
+use Rattle.gt_policy.specs.declared.fault.TokenFault as policy
+use Rattle.gt_script.specs.Blocks.{block_fault_shown}
+use Rattle.gt_script.specs.RunContents.{RunContents}
+use Rattle.gt_script.specs.Script.{Wrong, in_script, in_policy}
+use Rattle.gt_streams.specs.Streams.{AppendsBeginning}
+use Rattle.gt_host.specs.declared.fault.PlayFault.TheVariants.{Memory, Read, Write, Script, Policy}
+use Rattle.gt_replay.specs.Orders.{MayGive}
+use Rattle.gt_explore.specs.Telling.{told}
+use Rattle.gt_explore.specs.declared.exploring.Asked.{Asked}
+use Rattle.gt_explore.specs.declared.fault.ExploreFault.{ExploreFault}
+use Rattle.gt_explore.specs.declared.fault.ExploreFault.TheVariants.{Play, Texts}
+
+-- the word that is asked for
+abbrev pub word_asked : Asked → Option (List ℕ)
+word_asked asked = option_map (λ word. word.now) asked.find
+
+-- what is to be written of a script: texts that it may give, each under its number. Of a witness nothing is claimed
+abbrev pub IsMadeBy : RunContents → Option ℕ → Option (List ℕ) → List ℕ → Type 0
+IsMadeBy c None find text =
+    (texts : List (List ℕ)) × (states : ℕ) × All (MayGive c) texts × (text ≡ told find states texts)
+IsMadeBy c (Some number) find text = Unit {0}
+
+abbrev pub IsMade : RunContents → Asked → List ℕ → Type 0
+IsMade c asked text = IsMadeBy c asked.witness (word_asked asked) text
+
+-- what was written of a script
+abbrev pub Explores : RunContents → Asked → Option (List ℕ) → Option (List ℕ) → Result Bool ExploreFault → Type 0
+Explores c asked old new (Ok is_any) = (text : List ℕ) × IsMade c asked text × Appends old new text
+Explores c asked old new (Err (Texts fault)) = Keeps old new
+Explores c asked old new (Err (Play Write)) = (text : List ℕ) × IsMade c asked text × AppendsBeginning old new text
+Explores c asked old new (Err (Play Memory)) = ⊥
+Explores c asked old new (Err (Play Read)) = ⊥
+Explores c asked old new (Err (Play (Script fault))) = ⊥
+Explores c asked old new (Err (Play (Policy fault))) = ⊥
+
+-- what was written for bytes of which this is told: at Ok a whole text of the script, after a failed write a beginning
+-- of one, and else nothing; a fault of the script is its first
+abbrev pub Explored : Asked → (Result RunContents Wrong → Type 0) → Option (List ℕ) → Option (List ℕ)
+    → Result Bool ExploreFault → Type 0
+Explored asked Told old new (Ok is_any) = (c : RunContents) × Told (Ok c) × Explores c asked old new (Ok is_any)
+Explored asked Told old new (Err (Texts fault)) = Keeps old new
+Explored asked Told old new (Err (Play Write)) =
+    (c : RunContents) × Told (Ok c) × Explores c asked old new (Err (Play Write))
+Explored asked Told old new (Err (Play Memory)) = Keeps old new
+Explored asked Told old new (Err (Play Read)) = Keeps old new
+Explored asked Told old new (Err (Play (Script fault))) = Told (Err (in_script fault)) × Keeps old new
+Explored asked Told old new (Err (Play (Policy fault))) =
+    (g : policy.TokenFault) × (block_fault_shown fault ≡ Some g) × Told (Err (in_policy g)) × Keeps old new

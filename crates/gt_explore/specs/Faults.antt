@@ -1,0 +1,19 @@
+-- Why a script was not explored, as one line.
+use Rattle.std.specs.Prelude.{ℕ, List, ◌++◌, codes, decimal}
+use Rattle.gt_host.specs.Faults.{play_fault_text}
+use Rattle.gt_explore.specs.declared.fault.ExploreFault.{ExploreFault}
+use Rattle.gt_explore.specs.declared.fault.ExploreFault.TheVariants.{Play, Texts}
+use Rattle.gt_explore.specs.declared.fault.TextsFault.{TextsFault}
+use Rattle.gt_explore.specs.declared.fault.TextsFault.TheVariants.{Memory, States, Keeps, Astray, Witness, Ends}
+
+abbrev pub texts_fault_text : TextsFault → List ℕ
+texts_fault_text Memory = codes "memory"
+texts_fault_text States = codes "states"
+texts_fault_text (Keeps dom) = codes "domain " ++ decimal dom.0 ++ codes " keeps a mapping"
+texts_fault_text Astray = codes "astray"
+texts_fault_text Witness = codes "no such text"
+texts_fault_text Ends = codes "the text ends with mappings"
+
+abbrev pub explore_fault_text : ExploreFault → List ℕ
+explore_fault_text (Play fault) = play_fault_text fault
+explore_fault_text (Texts fault) = texts_fault_text fault

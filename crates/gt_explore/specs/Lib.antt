@@ -1,0 +1,4 @@
+pub mod Adding
+pub mod Exploring
+pub mod Faults
+pub mod Telling

@@ -1,0 +1,40 @@
+-- What is written of the texts that a script may give.
+use Rattle.std.specs.Prelude.{◌≡◌, ◌+◌, ◌++◌, ◌==◌, ◌||◌, ℕ, Bool, true, if◌then◌else◌, List, [], ◌∷◌, All, map, length}
+use Rattle.std.specs.Prelude.{Option, Some, None, Result, Ok, Err, codes, decimal}
+use Rattle.std.specs.Io.KnownBytes.{Appends, Keeps}
+use Rattle.std.specs.List.{list_any, slice_split}
+use Rattle.std.specs.Str.{bytes_eq}
+
+-- a space or the end of a line
+abbrev pub is_between : ℕ → Bool
+is_between b = (b == 32) || (b == 10)
+
+-- a text has this word
+abbrev pub has_word : List ℕ → List ℕ → Bool
+has_word word text = list_any (λ part. bytes_eq part word) (slice_split is_between text)
+
+-- the text is asked for: it has the word, if one is given
+abbrev pub is_wanted : Option (List ℕ) → List ℕ → Bool
+is_wanted None text = true
+is_wanted (Some word) text = has_word word text
+
+-- the line over a text
+abbrev pub heading : ℕ → ℕ → List ℕ
+heading number count = codes "text " ++ decimal number ++ codes " of " ++ decimal count ++ codes "\n"
+
+-- a text under its number, if it is asked for
+abbrev pub shown : Option (List ℕ) → ℕ → ℕ → List ℕ → List ℕ
+shown find count number text = if is_wanted find text then heading number count ++ text else []
+
+-- those of these texts that are asked for, the first of them under the number after this one
+abbrev pub listed : Option (List ℕ) → ℕ → ℕ → List (List ℕ) → List ℕ
+listed find count before [] = []
+listed find count before (text ∷ texts) = shown find count (before + 1) text ++ listed find count (before + 1) texts
+
+-- the last line
+abbrev pub states_line : ℕ → List ℕ
+states_line states = codes "states " ++ decimal states ++ codes "\n"
+
+-- all that is written of these texts
+abbrev pub told : Option (List ℕ) → ℕ → List (List ℕ) → List ℕ
+told find states texts = listed find (length texts) 0 texts ++ states_line states

@@ -1,0 +1,102 @@
+//! Why a script was not explored.
+use gt_host::PlayFault;
+use gt_replay::ReplayFault;
+use gt_search::SearchFault;
+use gt_types::DomId;
+use std::alloc::{AllocError, AllocFailed};
+use std::error::Error;
+use std::fmt;
+
+/// Why the texts of a script were not found. It prints as one line, without its end.
+#[derive(Clone, Copy, Debug, PartialEq, Eq)]
+pub enum TextsFault {
+    /// Memory was refused.
+    Memory,
+    /// There are more states than the limit.
+    States,
+    /// In some order this domain comes to its end with a mapping that the policy does not let it unmap.
+    Keeps(DomId),
+    /// The search found an order that the core does not follow.
+    Astray,
+    /// No text has the number of the witness.
+    Witness,
+    /// The witness ends with mappings, which no line of a script for `play` gives back.
+    Ends,
+}
+
+impl fmt::Display for TextsFault {
+    ghost use Rattle.std.specs.Prelude.{Some};
+    ghost use Rattle.gt_explore.specs.Faults.{texts_fault_text};
+
+    ghost output = { λ fault. Some (texts_fault_text fault) };
+
+    fn fmt<W: fmt::Write>(&self, f: &mut fmt::Formatter<W>) -> fmt::Result {
+        match self {
+            TextsFault::Memory => f.write_str("memory"),
+            TextsFault::States => f.write_str("states"),
+            TextsFault::Keeps(dom) => write!(f, "domain {} keeps a mapping", dom.0),
+            TextsFault::Astray => f.write_str("astray"),
+            TextsFault::Witness => f.write_str("no such text"),
+            TextsFault::Ends => f.write_str("the text ends with mappings"),
+        }
+    }
+}
+
+impl Error for TextsFault {}
+
+impl From<AllocError> for TextsFault {
+    fn from(_error: AllocError) -> TextsFault {
+        TextsFault::Memory
+    }
+}
+
+impl<T: Drop> From<AllocFailed<T>> for TextsFault {
+    fn from(_error: AllocFailed<T>) -> TextsFault {
+        TextsFault::Memory
+    }
+}
+
+impl From<SearchFault> for TextsFault {
+    fn from(error: SearchFault) -> TextsFault {
+        match error {
+            SearchFault::Memory => TextsFault::Memory,
+            SearchFault::States => TextsFault::States,
+            SearchFault::Keeps(dom) => TextsFault::Keeps(dom),
+        }
+    }
+}
+
+impl From<ReplayFault> for TextsFault {
+    fn from(error: ReplayFault) -> TextsFault {
+        match error {
+            ReplayFault::Memory => TextsFault::Memory,
+            ReplayFault::Keeps(dom) => TextsFault::Keeps(dom),
+        }
+    }
+}
+
+/// Why a script was not explored. It prints as one line, without its end.
+#[derive(Debug, Drop)]
+pub enum ExploreFault {
+    /// A fault that a play can have too: of the script, of memory, or of a read or a write. Only after a failed write a
+    /// beginning of the text was written.
+    Play(PlayFault),
+    /// The texts of the script were not found. Nothing was written.
+    Texts(TextsFault),
+}
+
+impl fmt::Display for ExploreFault {
+    ghost use Rattle.std.specs.Prelude.{Some};
+    ghost use Rattle.gt_explore.specs.Faults.{explore_fault_text};
+
+    ghost output = { λ fault. Some (explore_fault_text fault) };
+
+    fn fmt<W: fmt::Write>(&self, f: &mut fmt::Formatter<W>) -> fmt::Result {
+        match self {
+            ExploreFault::Play(fault) => write!(f, "{fault}"),
+            ExploreFault::Texts(fault) => write!(f, "{fault}"),
+        }
+    }
+}
+
+impl Error for ExploreFault {}

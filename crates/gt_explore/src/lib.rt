@@ -1,0 +1,19 @@
+//! The texts that a script for `run` may give, over all orders of its domains' moves.
+//!
+//! `texts_of` searches for orders (`gt_search`) and replays each of them on the core (`gt_replay`). `explore` reads a
+//! script and writes these texts, each with its number, or the lines of a script for `play` that gives one of them.
+//!
+//! What holds: each text that is answered or written is one that the script may give (`MayGive` of `gt_replay`). That
+//! all such texts are found is tested, and not proved.
+#![tactic(auto)]
+
+mod exploring;
+mod fault;
+mod telling;
+mod texts;
+mod witness;
+
+pub use exploring::{Asked, explore};
+pub use fault::{ExploreFault, TextsFault};
+pub use texts::{Given, Texts, texts_of};
+pub use witness::push_witness;

@@ -1,0 +1,95 @@
+//! What is written of the texts that a script may give.
+ghost use Rattle.std.specs.Prelude.{◌≡◌, ◌++◌, OnOk, IfOk, map};
+ghost use Rattle.std.specs.Option.{option_map};
+ghost use Rattle.gt_explore.specs.Telling.{has_word, heading, is_between, is_wanted, shown, states_line, told};
+
+use crate::texts::Given;
+use gt_lines::is;
+use gt_streams::push_text;
+use gt_texts::push_number;
+use std::alloc::AllocError;
+
+fn is_between(byte: u8) -> bool
+    ensures { result ≡ is_between byte }
+{
+    byte == b' ' || byte == b'\n'
+}
+
+// Whether a text has this word.
+fn has_word(text: &[u8], word: &str) -> bool
+    ensures { result ≡ has_word word.now text.now }
+{
+    text.split(|b| is_between(*b)).any(|part| is(part, word))
+}
+
+// Whether a text is asked for.
+fn is_wanted(text: &[u8], find: Option<&str>) -> bool
+    ensures { result ≡ is_wanted (option_map (λ word. word.now) find.entry) text.now }
+{
+    match find {
+        Some(word) => has_word(text, word),
+        None => true,
+    }
+}
+
+// Appends the line over a text.
+fn push_heading(out: &mut Vec<u8>, number: usize, count: usize) -> Result<(), AllocError>
+    ensures { OnOk result (out.new.items ≡ out.old.items ++ heading number count) }
+{
+    push_text(out, "text ")?;
+    push_number(out, number)?;
+    push_text(out, " of ")?;
+    push_number(out, count)?;
+    push_text(out, "\n")
+}
+
+// Appends a text under its number, if it is asked for. Answers whether it is.
+fn push_shown(
+    out: &mut Vec<u8>,
+    find: Option<&str>,
+    count: usize,
+    number: usize,
+    text: &[u8],
+) -> Result<bool, AllocError>
+    ensures text { OnOk result (out.new.items
+        ≡ out.old.items ++ shown (option_map (λ word. word.now) find.entry) count number text.now) }
+    ensures wanted { IfOk result (λ b. b ≡ is_wanted (option_map (λ word. word.now) find.entry) text.now) }
+{
+    if !is_wanted(text, find) {
+        return Ok(false);
+    }
+    push_heading(out, number, count)?;
+    out.extend_from_slice(text)?;
+    Ok(true)
+}
+
+// Appends the last line.
+fn push_states(out: &mut Vec<u8>, states: usize) -> Result<(), AllocError>
+    ensures { OnOk result (out.new.items ≡ out.old.items ++ states_line states) }
+{
+    push_text(out, "states ")?;
+    push_number(out, states)?;
+    push_text(out, "\n")
+}
+
+/// Appends all that is written of these texts. Answers whether one is asked for.
+pub fn push_told(
+    out: &mut Vec<u8>,
+    find: Option<&str>,
+    states: usize,
+    texts: &[Given],
+) -> Result<bool, AllocError>
+    ensures text { OnOk result (out.new.items ≡ out.old.items
+        ++ told (option_map (λ word. word.now) find.entry) states (map (λ given. given.text.items) texts.now)) }
+{
+    let mut is_any = false;
+    let mut number = 0;
+    'texts: for given in texts {
+        number += 1;
+        if push_shown(out, find, texts.len(), number, given.text.as_slice())? {
+            is_any = true;
+        }
+    }
+    push_states(out, states)?;
+    Ok(is_any)
+}

@@ -1,0 +1,118 @@
+//! The bytes that tell a state from all others.
+use crate::actor::{Actor, Mapping, Open};
+use crate::pages::Page;
+use crate::phases::{push, push_held, push_phase};
+use crate::scene::{Scene, World};
+use gt_calls::Holder;
+use gt_types::GrantRef;
+use std::alloc::AllocError;
+
+// The entries that are not as they were at the start.
+fn push_entries(key: &mut Vec<u8>, first_gen: u32, actor: &Actor) -> Result<(), AllocError> {
+    let untouched = actor.word(first_gen, GrantRef(u32::MAX));
+    let count = actor.counts.len().max(actor.own.len());
+    for at in 0..count {
+        let gref = GrantRef((at % 4_294_967_296) as u32);
+        let word = actor.word(first_gen, gref);
+        let counts = actor.counts_at(gref);
+        if word != untouched || counts.first != 0 || counts.second != 0 {
+            push(key, 1)?;
+            push(key, at as u64)?;
+            push(key, word)?;
+            push(key, counts.first)?;
+            push(key, counts.second)?;
+        }
+    }
+    push(key, 0)
+}
+
+fn push_mapping(key: &mut Vec<u8>, mapping: &Mapping) -> Result<(), AllocError> {
+    if let Some(label) = mapping.label {
+        push(key, 1)?;
+        push(key, label.len() as u64)?;
+        key.extend_from_slice(label)?;
+    } else {
+        push(key, 0)?;
+    }
+    push_held(key, &mapping.held)
+}
+
+fn push_mappings(key: &mut Vec<u8>, mappings: &[Mapping]) -> Result<(), AllocError> {
+    push(key, mappings.len() as u64)?;
+    for mapping in mappings {
+        push_mapping(key, mapping)?;
+    }
+    Ok(())
+}
+
+// The place of the mapping that a call gives back.
+fn place_given(open: &Open) -> u64 {
+    match open.step {
+        gt_calls::Step::Unpin {
+            holder: Holder::Mapping(handle),
+            ..
+        } => handle.serial,
+        _ => 0,
+    }
+}
+
+fn push_open(key: &mut Vec<u8>, open: Option<&Open>) -> Result<(), AllocError> {
+    let Some(open) = open else {
+        return push(key, 0);
+    };
+    match open.task {
+        Some(_) => push(key, 1)?,
+        None => push(key, 2)?,
+    }
+    push(key, place_given(open))?;
+    match open.call.phase.as_ref() {
+        Some(phase) => push_phase(key, phase),
+        None => push(key, 0),
+    }
+}
+
+fn push_actor(key: &mut Vec<u8>, first_gen: u32, actor: &Actor) -> Result<(), AllocError> {
+    push(key, actor.next as u64)?;
+    let header = actor.header;
+    key.extend_from_slice(&[header.version, header.frames])?;
+    push_entries(key, first_gen, actor)?;
+    push_mappings(key, actor.mappings.as_slice())?;
+    push_open(key, actor.open.as_ref())
+}
+
+// The bytes of a page that are not zero, with their places.
+fn push_page(key: &mut Vec<u8>, page: &Page) -> Result<(), AllocError> {
+    push(key, u64::from(page.owner.0))?;
+    push(key, page.frame)?;
+    for (at, byte) in page.bytes.as_slice().iter().enumerate() {
+        if *byte != 0 {
+            let place = (at % 65_536) as u16;
+            let [low, high] = place.to_le_bytes();
+            key.extend_from_slice(&[low, high, *byte])?;
+        }
+    }
+    push(key, u64::MAX)
+}
+
+// For each flag whether it was raised.
+fn push_told(key: &mut Vec<u8>, told: &[bool]) -> Result<(), AllocError> {
+    for flag in told {
+        key.push(u8::from(*flag))?;
+    }
+    Ok(())
+}
+
+impl<'s, 'a> Scene<'s, 'a> {
+    /// The bytes that tell a state from all others.
+    pub fn key(&self, world: &World<'a>) -> Result<Vec<u8>, AllocError> {
+        let mut key = Vec::new(self.alloc);
+        push_told(&mut key, world.told.as_slice())?;
+        for actor in world.actors.as_slice() {
+            push_actor(&mut key, self.first_gen, actor)?;
+        }
+        for page in world.pages.as_slice() {
+            push_page(&mut key, page)?;
+        }
+        Ok(key)
+    }
+}
