@@ -9,9 +9,11 @@
 # timed alone. Below the table are the instructions of a round on one thread, as valgrind counts them, and those of
 # whole calls in a run of 64 domains.
 #
-# A second table has the loads of bytes (below it is the resident size after a million stores): thousands of loads, stores and copies a second, beside a program in C with a
-# mutex for each frame (`live_bytes.c`), without a journal and with one, and the ratio to each. What C loses by its
-# journal is what a journal costs there. `bench/live.sh [RUNS] calls` or `bytes` prints the one table alone.
+# A second table has the loads of bytes: thousands of loads, stores and copies a second, beside a program in C with a
+# mutex for each frame (`live_bytes.c`), without a journal and with one, and the ratio to each. A forwarded copy goes by
+# a transitive entry at each end. What C loses by its journal is what a journal costs there. Below the table are the
+# instructions of a round on one thread, and the most memory that a million stores or copies were seen to have.
+# `bench/live.sh [RUNS] calls` or `bytes` prints the one table alone.
 #
 # `bench/live.sh [RUNS] [TABLE]` makes so many runs of each program by turns (11), and takes from their time that of
 # no rounds. `PRIORITY='chrt -f 1' bench/live.sh` runs the programs before other work; `bench/live.sh 0` counts
@@ -45,6 +47,8 @@ rounds_of() {
   case "$1 $2" in
     *" load-"* | plain*) echo 500000 ;;
     *" grants" | *" withdrawals") echo 200000 ;; # generations end them soon after a million
+    "bench_live "*-64) echo 200000 ;;
+    "bench_live "*-4096) echo 100000 ;;
     *" "*-64) echo 100000 ;;
     *" "*-4096) echo 10000 ;;
     bench_live-on* | bench_live-ahead* | bench_live-taken*) echo 200000 ;; # 400,000 records, for which `bench_live` makes room ahead
@@ -102,7 +106,7 @@ compare() {
 compare_bytes() {
   least_times "$1" "$2" "${movers[@]}" | awk -v load="$1" -v threads="$2" '{
     for (i = 1; i <= 3; i++) speed[i] = 1000000 * threads / $i
-    printf "%-10s %7d %9.0f %9.0f %9.0f %8.2f %9.2f\n", load, threads, speed[1], speed[2], speed[3],
+    printf "%-12s %7d %9.0f %9.0f %9.0f %8.2f %9.2f\n", load, threads, speed[1], speed[2], speed[3],
       speed[1] / speed[2], speed[1] / speed[3]
   }'
 }
@@ -133,7 +137,7 @@ counted() {
   sed -n 's/.*I *refs: *//p' "$work/log" | tr -d ,
 }
 
-moves=(load-64 load-4096 store-64 store-4096 copy-64 copy-4096)
+moves=(load-64 load-4096 store-64 store-4096 copy-64 copy-4096 forward-64 forward-4096)
 if [ "$table" != bytes ]; then
   if [ "$runs" -gt 0 ]; then
     printf '%-11s %7s %7s %7s %7s %7s %7s %7s %7s %7s %7s %7s %7s %7s %7s %7s %7s\n' load threads on ahead taken off words \
@@ -156,7 +160,7 @@ if [ "$table" != bytes ]; then
 fi
 if [ "$table" != calls ]; then
   if [ "$runs" -gt 0 ]; then
-    printf '%-10s %7s %9s %9s %9s %8s %9s\n' load threads calls C 'C,journal' /C /journal
+    printf '%-12s %7s %9s %9s %9s %8s %9s\n' load threads calls C 'C,journal' /C /journal
     for load in "${moves[@]}"; do
       for threads in 1 4; do
         compare_bytes "$load" "$threads"

@@ -3,9 +3,10 @@
 // for each write, a record of its writer, its entry, its place and its bytes, as the frames of `gt_frames` do.
 //
 // `PROGRAM LOAD THREADS ROUNDS` prints the load, the threads and the rounds done in all, as `bench_live` does. LOAD
-// is `load-64`, `load-4096`, `store-64`, `store-4096`, `copy-64` or `copy-4096`. Each thread has a page of its own
-// that the owner granted to it. A load answers fresh memory with the bytes read, a copy takes a pin and gives it
-// back.
+// is `load-64`, `load-4096`, `store-64`, `store-4096`, `copy-64`, `copy-4096`, `forward-64` or `forward-4096`. Each
+// thread has a page of its own that the owner granted to it. A load answers fresh memory with the bytes read, a copy
+// takes a pin and gives it back. A forwarded copy goes from one page of the owner's to another, by way of a transitive
+// entry at each end, and takes four pins.
 #include <pthread.h>
 #include <stdatomic.h>
 #include <stdbool.h>
@@ -17,9 +18,9 @@
 enum { DOMAINS = 6, ENTRIES = 8192, FRAMES = 8, FRAME_SIZE = 4096, HANDLES = 8192, MOST_PINS = 4095, MOST_THREADS = 4 };
 
 // Numbers of domains, and the domain that stands for the caller.
-enum { OWNER = 1, FIRST_MAPPER = 3, SELF = 32752 };
+enum { OWNER = 1, MIDDLE = 2, FIRST_MAPPER = 3, SELF = 32752 };
 
-enum kind { INVALID, PAGE };
+enum kind { INVALID, PAGE, VIA };
 
 struct entry {
     atomic_uint next;
@@ -27,7 +28,8 @@ struct entry {
     uint32_t domain;
     uint32_t reads;
     uint32_t writes;
-    uint64_t frame;
+    uint64_t frame; // the reference that it leads to, for a transitive entry
+    uint32_t leads_to;
     uint8_t kind;
     bool read_only;
 } __attribute__((aligned(64)));
@@ -212,6 +214,94 @@ static bool copy(const struct caller *caller, struct end from, struct end to, ui
     return done;
 }
 
+// What an entry was when its pin was taken: its frame, or where it leads on.
+struct pinned {
+    struct frame *frame;
+    uint32_t leads_to;
+    uint32_t reference;
+};
+
+// Takes a pin of an entry that names this grantee, transitive ones too unless one was gone through already.
+static bool pin_entry(uint32_t grantee, struct domain *owner, uint32_t reference, bool writes, bool beyond, struct pinned *got) {
+    if (reference >= ENTRIES) return false;
+    struct entry *entry = &owner->entries[reference];
+    bool taken = false;
+    atomic_fetch_add_explicit(&owner->readers, 1, memory_order_acquire);
+    lock_entry(entry);
+    bool fits = entry->kind == PAGE ? entry->frame < FRAMES : entry->kind == VIA && !beyond;
+    if (fits && entry->domain == grantee && !(writes && entry->read_only)) {
+        uint32_t *pins = writes ? &entry->writes : &entry->reads;
+        if (*pins < MOST_PINS) {
+            (*pins)++;
+            taken = true;
+            got->frame = entry->kind == PAGE ? &owner->frames[entry->frame] : NULL;
+            got->leads_to = entry->leads_to;
+            got->reference = (uint32_t)entry->frame;
+        }
+    }
+    unlock_entry(entry);
+    atomic_fetch_sub_explicit(&owner->readers, 1, memory_order_release);
+    return taken;
+}
+
+// The pins that lead to an end of a copy, and its frame.
+struct route {
+    struct domain *owners[2];
+    uint32_t references[2];
+    unsigned pins;
+    struct frame *frame;
+};
+
+static void leave(const struct route *route, bool writes) {
+    for (unsigned pin = route->pins; pin > 0; pin--) unpin(route->owners[pin - 1], route->references[pin - 1], writes);
+}
+
+static bool reach(const struct caller *caller, struct end end, bool writes, struct route *route) {
+    uint32_t grantee = caller->number, number = end.domain, reference = (uint32_t)end.pointer;
+    route->pins = 0;
+    for (;;) {
+        struct domain *owner = domain_named(number);
+        struct pinned got;
+        bool may = owner != NULL && (route->pins == 0 || (allowed[0][0] & 4) != 0);
+        if (!may || !pin_entry(grantee, owner, reference, writes, route->pins > 0, &got)) {
+            leave(route, writes);
+            return false;
+        }
+        route->owners[route->pins] = owner;
+        route->references[route->pins++] = reference;
+        if (got.frame != NULL) {
+            route->frame = got.frame;
+            return true;
+        }
+        grantee = number;
+        number = got.leads_to;
+        reference = got.reference;
+    }
+}
+
+// Copies between the frames that two references lead to.
+static bool forward(const struct caller *caller, struct end from, struct end to, uint16_t length) {
+    if (domain_named(from.domain) == NULL || domain_named(to.domain) == NULL) return false;
+    if ((uint32_t)from.offset + length > FRAME_SIZE || (uint32_t)to.offset + length > FRAME_SIZE) return false;
+    if ((allowed[0][0] & 4) == 0) return false;
+    struct route source, dest;
+    if (!reach(caller, from, false, &source)) return false;
+    if (!reach(caller, to, true, &dest)) {
+        leave(&source, false);
+        return false;
+    }
+    struct frame *low = source.frame < dest.frame ? source.frame : dest.frame;
+    struct frame *high = source.frame < dest.frame ? dest.frame : source.frame;
+    pthread_mutex_lock(&low->mutex);
+    if (high != low) pthread_mutex_lock(&high->mutex);
+    bool done = lay(caller, dest.frame, to.offset, source.frame->bytes + from.offset, length);
+    if (high != low) pthread_mutex_unlock(&high->mutex);
+    pthread_mutex_unlock(&low->mutex);
+    leave(&dest, true);
+    leave(&source, false);
+    return done;
+}
+
 static bool make_domains(void) {
     domains = aligned_alloc(64, DOMAINS * sizeof *domains);
     if (domains == NULL) return false;
@@ -260,6 +350,7 @@ struct job {
 static uint32_t work(struct caller *caller, const char *name, uint32_t reference, uint16_t length, uint32_t rounds) {
     static uint8_t bytes[FRAME_SIZE];
     struct end from = {reference, OWNER, 0}, to = {0, SELF, 0};
+    struct end first = {reference, MIDDLE, 0}, last = {reference + MOST_THREADS, MIDDLE, 0};
     uint32_t done = 0;
     for (uint32_t round = 0; round < rounds; round++) {
         if (*name == 'l') {
@@ -270,6 +361,8 @@ static uint32_t work(struct caller *caller, const char *name, uint32_t reference
             free(read);
         } else if (*name == 's') {
             done += store(caller, 0, 0, bytes, length);
+        } else if (*name == 'f') {
+            done += forward(caller, first, last, length);
         } else {
             done += copy(caller, from, to, length);
         }
@@ -281,7 +374,7 @@ static void *run_job(void *argument) {
     struct job *job = argument;
     struct caller caller = {FIRST_MAPPER + job->place, calloc(HANDLES, sizeof(struct mapping))};
     uint16_t length = (uint16_t)strtoul(strchr(job->load, '-') + 1, NULL, 10);
-    if (caller.mappings != NULL && (*job->load == 'c' || map(&caller, job->place)))
+    if (caller.mappings != NULL && (*job->load == 'c' || *job->load == 'f' || map(&caller, job->place)))
         job->done = work(&caller, job->load, job->place, length, job->rounds);
     free(caller.mappings);
     return NULL;
@@ -296,6 +389,20 @@ static bool had_two_threads(void) {
     return pthread_create(&second, NULL, do_nothing, NULL) == 0 && pthread_join(second, NULL) == 0;
 }
 
+// Grants the owner's page with this number under the reference with this number: to the domain, or if it is forwarded
+// to the domain between, whose entry leads this one to it.
+static void grant(uint32_t number, uint32_t domain, bool forwarded) {
+    struct entry *page = &domains[OWNER - 1].entries[number], *via = &domains[MIDDLE - 1].entries[number];
+    page->domain = forwarded ? MIDDLE : domain;
+    page->frame = number;
+    page->kind = PAGE;
+    if (!forwarded) return;
+    via->domain = domain;
+    via->leads_to = OWNER;
+    via->frame = number;
+    via->kind = VIA;
+}
+
 int main(int count, char **words) {
     if (count != 4 || strchr(words[1], '-') == NULL || !had_two_threads() || !make_domains()) return 2;
     uint32_t threads = (uint32_t)strtoul(words[2], NULL, 10);
@@ -304,10 +411,9 @@ int main(int count, char **words) {
     pthread_t running[MOST_THREADS];
     if (threads < 1 || threads > MOST_THREADS) return 2;
     for (uint32_t i = 0; i < threads; i++) {
-        struct entry *entry = &domains[0].entries[i];
-        entry->domain = FIRST_MAPPER + i;
-        entry->frame = i;
-        entry->kind = PAGE;
+        bool forwarded = *words[1] == 'f';
+        grant(i, FIRST_MAPPER + i, forwarded);
+        if (forwarded) grant(i + MOST_THREADS, FIRST_MAPPER + i, true);
         jobs[i] = (struct job){words[1], i, rounds, 0};
     }
     for (uint32_t i = 1; i < threads; i++)

@@ -1,5 +1,5 @@
-//! The loads of bytes: loads and stores through mappings, and copies by reference.
-use crate::loads::{FEWEST, FIRST_MAPPER, MOST, OWNER, POLICY, run_domains};
+//! The loads of bytes: loads and stores through mappings, and copies by reference, through transitive entries too.
+use crate::loads::{FEWEST, FIRST_MAPPER, MIDDLE, MOST, OWNER, POLICY, run_domains};
 use crate::running::{Audit, Running, all_running};
 use anyhow::{Result, bail};
 use gt_allow::AllowTable;
@@ -18,6 +18,8 @@ pub(crate) enum Moves {
     Loads,
     Stores,
     Copies,
+    /// Copies by way of a transitive entry at each end.
+    Forwards,
 }
 
 #[derive(Drop)]
@@ -60,31 +62,37 @@ fn store_often<R: Wait, P: Allows>(
     done
 }
 
-// Copies so many bytes of the owner's page to a frame of its own, so often. Answers how often that was done.
-fn copy_often<R: Wait, P: Allows>(
-    rt: &R,
-    domain: &mut Running<'_, P>,
-    gref: GrantRef,
-    len: u16,
-    rounds: u32,
-) -> u32 {
-    let copy = CopyArgs {
+// The copy that a thread makes: of so many bytes of the owner's page to a frame of its own, or from one page of the
+// owner's to another, each by way of an entry of the domain between.
+fn copy_of(moves: Moves, gref: GrantRef, len: u16) -> CopyArgs {
+    let forwards = moves == Moves::Forwards;
+    let dest = gref.0.saturating_add(MOST as u32);
+    CopyArgs {
         source: End {
             ptr: u64::from(gref.0),
-            domid: OWNER,
+            domid: if forwards { MIDDLE } else { OWNER },
             offset: 0,
         },
         dest: End {
-            ptr: 0,
-            domid: DomId(DOMID_SELF),
+            ptr: if forwards { u64::from(dest) } else { 0 },
+            domid: if forwards { MIDDLE } else { DomId(DOMID_SELF) },
             offset: 0,
         },
         len,
-        flags: 1,
-    };
+        flags: if forwards { 3 } else { 1 },
+    }
+}
+
+// Makes this copy so often. Answers how often that was done.
+fn copy_often<R: Wait, P: Allows>(
+    rt: &R,
+    domain: &mut Running<'_, P>,
+    copy: &CopyArgs,
+    rounds: u32,
+) -> u32 {
     let mut done = 0u32;
     'rounds: for _ in 0..rounds {
-        if domain.copy(rt, &copy) {
+        if domain.copy(rt, copy) {
             done = done.saturating_add(1);
         }
     }
@@ -104,8 +112,9 @@ fn work<R: Wait, P: Allows>(
     if !domain.record_calls(audit) {
         return 0;
     }
-    if moves == Moves::Copies {
-        return copy_often(rt, &mut domain, gref, len, rounds);
+    if moves == Moves::Copies || moves == Moves::Forwards {
+        let copy = copy_of(moves, gref, len);
+        return copy_often(rt, &mut domain, &copy, rounds);
     }
     match domain.map(OWNER, gref) {
         Some(handle) if moves == Moves::Loads => {
@@ -116,10 +125,37 @@ fn work<R: Wait, P: Allows>(
     }
 }
 
-// The workers, each with the reference of a page that the owner granted to it.
+// Grants the owner's page with this number to a domain, under the reference with this number.
+fn grant_page<P: Allows>(owner: &mut Running<'_, P>, number: u32, dom: DomId) -> bool {
+    let page = Entry::Page {
+        dom,
+        ro: false,
+        frame: u64::from(number),
+    };
+    owner.grant(GrantRef(number), &page)
+}
+
+// Grants a page of the owner's to the domain between, which lets this domain go on to it.
+fn grant_way<P: Allows>(
+    owner: &mut Running<'_, P>,
+    middle: &mut Running<'_, P>,
+    number: u32,
+    dom: DomId,
+) -> bool {
+    let way = Entry::Via {
+        dom,
+        ro: false,
+        dom2: OWNER,
+        gref: GrantRef(number),
+    };
+    grant_page(owner, number, MIDDLE) && middle.grant(GrantRef(number), &way)
+}
+
+// The workers, each with the reference of a page that the owner granted to it, or of an entry that leads to one.
 fn workers<'m, P: Allows>(
     alloc: Global,
     domains: Vec<Running<'m, P>>,
+    moves: Moves,
     threads: u16,
 ) -> Result<Vec<Worker<'m, P>>> {
     let mut domains = domains;
@@ -127,19 +163,24 @@ fn workers<'m, P: Allows>(
         bail!("not six domains");
     }
     let mut owner = domains.remove(0);
+    let mut middle = domains.remove(0);
     let mut workers = Vec::new(alloc);
     'threads: for place in 0..threads {
-        let gref = GrantRef(u32::from(place));
-        let page = Entry::Page {
-            dom: DomId(FIRST_MAPPER.saturating_add(place)),
-            ro: false,
-            frame: u64::from(place),
+        let dom = DomId(FIRST_MAPPER.saturating_add(place));
+        let number = u32::from(place);
+        let granted = if moves == Moves::Forwards {
+            let dest = number.saturating_add(MOST as u32);
+            grant_way(&mut owner, &mut middle, number, dom)
+                && grant_way(&mut owner, &mut middle, dest, dom)
+        } else {
+            grant_page(&mut owner, number, dom)
         };
-        if !owner.grant(gref, &page) {
+        if !granted {
             bail!("an entry can't be granted");
         }
-        if domains.len() > 1 {
-            let domain = domains.remove(1);
+        if !domains.is_empty() {
+            let domain = domains.remove(0);
+            let gref = GrantRef(number);
             workers.push(Worker { domain, gref })?;
         }
     }
@@ -160,9 +201,9 @@ pub(crate) fn run_moves<R: Threads + Wait + Sync>(
         bail!("threads: 1 to {MOST}");
     }
     let rights = AllowTable::compile(alloc, &Policy::parse(alloc, POLICY)?)?;
-    let (monitor, domains) = Monitor::new(alloc, run_domains(alloc, FEWEST)?, rights)?;
+    let (monitor, domains) = Monitor::new(alloc, run_domains(alloc, FEWEST, 2)?, rights)?;
     let domains = all_running(alloc, &monitor, domains)?;
-    let workers = workers(alloc, domains, threads as u16)?;
+    let workers = workers(alloc, domains, moves, threads as u16)?;
     let bytes = vec![in alloc; 0x5au8; usize::from(len)]?;
     let done = thread::map_vec(
         rt,

@@ -27,11 +27,14 @@ pub enum Load {
 /// The most threads of a load.
 pub(crate) const MOST: usize = 4;
 
-/// The fewest domains of a run: the owner, one that does nothing and one for each thread.
+/// The fewest domains of a run: the owner, one between and one for each thread.
 pub(crate) const FEWEST: u16 = 6;
 
 /// The domain that grants.
 pub(crate) const OWNER: DomId = DomId(1);
+
+/// The domain whose transitive entries lead to the owner's pages.
+pub(crate) const MIDDLE: DomId = DomId(2);
 
 /// The domains that map are this one and those after it.
 pub(crate) const FIRST_MAPPER: u16 = 3;
@@ -66,22 +69,22 @@ struct Worker<'m, P: Allows> {
     part: Part,
 }
 
-fn domain(id: u16) -> DomainConfig {
+fn domain(id: u16, version: u32) -> DomainConfig {
     DomainConfig {
         id: DomId(id),
         label: TypeId(0),
         frames: 8,
         table_frames: MAX_TABLE_FRAMES,
-        version: 1,
+        version,
     }
 }
 
-/// So many domains with the numbers from 1 on: the owner, one that does nothing, those of the threads, and others that do
-/// nothing.
-pub(crate) fn run_domains(alloc: Global, count: u16) -> Result<Config, AllocError> {
+/// So many domains with the numbers from 1 on, with tables of this version: the owner, one between, those of the
+/// threads, and others that do nothing.
+pub(crate) fn run_domains(alloc: Global, count: u16, version: u32) -> Result<Config, AllocError> {
     let mut domains = Vec::new(alloc);
     'domains: for before in 0..count {
-        domains.push(domain(before + 1))?;
+        domains.push(domain(before + 1, version))?;
     }
     Ok(Config {
         domains,
@@ -280,7 +283,7 @@ pub(crate) fn run<R: Threads + Sync>(
         bail!("threads: 1 to {MOST}");
     }
     let rights = AllowTable::compile(alloc, &Policy::parse(alloc, POLICY)?)?;
-    let (monitor, domains) = Monitor::new(alloc, run_domains(alloc, count)?, rights)?;
+    let (monitor, domains) = Monitor::new(alloc, run_domains(alloc, count, 1)?, rights)?;
     let domains = all_running(alloc, &monitor, domains)?;
     let workers = workers(alloc, domains, load, threads as u32)?;
     let done = thread::map_vec(rt, workers, &|worker| work(alloc, worker, audit, rounds))?;

@@ -8,7 +8,8 @@
 //!
 //! The loads of bytes are `load-64`, `load-4096`, `store-64`, `store-4096`, `copy-64` and `copy-4096`: each thread has
 //! a page of its own that the owner granted to it, and a round is one access of so many bytes, through its mapping or
-//! as a copy by reference to a frame of its own.
+//! as a copy by reference to a frame of its own. A round of `forward-64` or `forward-4096` is a copy from one page of
+//! the owner's to another, by way of a transitive entry at each end.
 //!
 //! The calls are recorded; with a fourth word `off` they are not, with `ahead` each domain makes room for its records
 //! before its first call, and with `taken` each mapper's records are taken while it runs. A fifth word is the number of domains of a load of calls, from 6 to 64 (6).
@@ -46,6 +47,8 @@ fn work_of(name: &str) -> Option<Work> {
         "store-4096" => Some(Work::Bytes(Moves::Stores, 4096)),
         "copy-64" => Some(Work::Bytes(Moves::Copies, 64)),
         "copy-4096" => Some(Work::Bytes(Moves::Copies, 4096)),
+        "forward-64" => Some(Work::Bytes(Moves::Forwards, 64)),
+        "forward-4096" => Some(Work::Bytes(Moves::Forwards, 4096)),
         _ => None,
     }
 }

@@ -1,6 +1,6 @@
 -- A record that is covered by later ones shows no byte.
 use Rattle.std.proofs.Common.{◌≡◌, ℕ, ◌+◌, ◌-◌, ◌<◌, ◌≤◌, ◌⊎◌, inl, inr, Bool, true, false, ◌||◌, List, [], ◌∷◌, ◌++◌}
-use Rattle.std.proofs.Common.{length, get_or, replicate, refl, sym, ◌∙◌, ap, arith}
+use Rattle.std.proofs.Common.{length, get_or, refl, sym, ◌∙◌, ap, arith}
 use Rattle.std.proofs.lemmas.Bool.{cases_lt}
 use Rattle.std.proofs.lemmas.List.{ext_get_or, length-replicate}
 use Rattle.gt_types.specs.declared.limits.TheConstants.{FRAME_SIZE}
@@ -77,13 +77,17 @@ covered-same r later xs size fits covered =
       ];
     }
 
-left-out-of : (before later : List WriteRecord) (r : WriteRecord) (xs : List ℕ) → length xs ≡ FRAME_SIZE → LieInside (before ++ r ∷ later) → IsCovered r later
+-- an overlay has as many bytes as a frame
+pub size-overlay : (xs : List ℕ) (r : WriteRecord) → length xs ≡ FRAME_SIZE → r.off + length r.bytes ≤ FRAME_SIZE → length (overlay xs r.off r.bytes) ≡ FRAME_SIZE
+size-overlay xs r size fits = (over xs r size fits).len ∙ size
+
+pub left-out-of : (before later : List WriteRecord) (r : WriteRecord) (xs : List ℕ) → length xs ≡ FRAME_SIZE → LieInside (before ++ r ∷ later) → IsCovered r later
     → replay xs (patches (before ++ r ∷ later)) ≡ replay xs (patches (before ++ later))
 left-out-of [] later r xs size inside covered = same-replay later _ _ inside.1 (covered-same r later xs size inside.0 covered)
 left-out-of (q ∷ before) later r xs size inside covered =
     left-out-of before later r (overlay xs q.off q.bytes) ((over xs q size inside.0).len ∙ size) inside.1 covered
 
-zeros-size : length zeros ≡ FRAME_SIZE
+pub zeros-size : length zeros ≡ FRAME_SIZE
 zeros-size = ap (λ (l : List ℕ). length l) (sym zeros_are) ∙ length-replicate {A = ℕ} FRAME_SIZE 0
 
 pub left-out : (before later : List WriteRecord) (r : WriteRecord) → LieInside (before ++ r ∷ later) → IsCovered r later

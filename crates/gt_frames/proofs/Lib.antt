@@ -1,4 +1,5 @@
 pub mod Covered
+pub mod Enough
 pub mod Laying
 pub mod Overlay
 pub mod Placing

@@ -1,10 +1,10 @@
 -- Who wrote each byte last: the numbers of bytes, and the writs that they are of.
-use Rattle.std.proofs.Common.{◌≡◌, ℕ, zero, suc, ◌+◌, ◌-◌, ◌<◌, ◌≤◌, ◌⊎◌, inl, inr, Bool, true, false, if◌then◌else◌}
-use Rattle.std.proofs.Common.{◌&&◌, nat_le, nat_lt, Option, Some, None, ◌++◌, slice_range, List, [], ◌∷◌, length}
+use Rattle.std.proofs.Common.{◌≡◌, ◌≢◌, ℕ, zero, suc, ◌+◌, ◌-◌, ◌<◌, ◌≤◌, ◌⊎◌, inl, inr, Bool, true, false}
+use Rattle.std.proofs.Common.{if◌then◌else◌, ◌&&◌, nat_le, nat_lt, Option, Some, None, ◌++◌, List, [], ◌∷◌, length}
 use Rattle.std.proofs.Common.{replicate, get_or, set, refl, sym, ◌∙◌, ap, subst, arith}
 use Rattle.std.proofs.lemmas.Bool.{cases_lt}
 use Rattle.std.proofs.lemmas.Bool.Decides.{nat_tests}
-use Rattle.std.proofs.lemmas.List.{length-replicate}
+use Rattle.std.proofs.lemmas.List.{ext_get_or, get_or-set_other, get_or-set_same, length-replicate}
 use Rattle.gt_types.specs.declared.limits.TheConstants.{FRAME_SIZE}
 use Rattle.gt_frames.specs.Bytes.{overlay, IsLaidOver}
 use Rattle.gt_frames.specs.declared.writ.Writ.{Writ}
@@ -47,6 +47,19 @@ same-read : (n v at : ℕ) → at < n → get_or (replicate n v) at 0 ≡ v
 same-read zero v at lt = absurd (omega arith)
 same-read (suc n) v zero lt = refl
 same-read (suc n) v (suc at) lt = same-read n v at (omega (arith, lt))
+
+-- one more of the numbers is this one
+pub one-more-set : (xs : List ℕ) (n at : ℕ) → at < length xs → ((k : ℕ) → k < at → get_or xs k 0 ≡ n) → (k : ℕ) → k < at + 1 → get_or (set xs at n) k 0 ≡ n
+one-more-set xs n at inside all k lt = elim (cases_lt k at) [
+  | inl below ↦ let other : k ≢ at = omega (arith, below) in get_or-set_other xs at k n 0 other ∙ all k below
+  | inr le ↦ let same : k ≡ at = omega (arith, lt, le) in ap (λ (j : ℕ). get_or (set xs at n) j 0) same ∙ get_or-set_same xs at n 0 inside
+]
+
+-- all of them are
+pub all-set : (xs : List ℕ) (n len at : ℕ) → length xs ≡ len → len ≤ at → ((k : ℕ) → k < at → get_or xs k 0 ≡ n) → xs ≡ replicate len n
+all-set xs n len at size le all =
+    ext_get_or 0 xs (replicate len n) (size ∙ sym (length-replicate {A = ℕ} len n))
+    (λ k lt. all k (omega (arith, size, lt, le)) ∙ sym (same-read len n k (omega (arith, size, lt))))
 
 -- what a byte's number is after a range was given one
 pub range-read :

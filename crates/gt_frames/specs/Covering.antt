@@ -1,8 +1,11 @@
 -- Records all of whose bytes were written over later.
-use Rattle.std.specs.Prelude.{◌≡◌, ℕ, ◌+◌, ◌≤◌, Bool, true, false, ◌||◌, List, [], ◌∷◌, length}
+use Rattle.std.specs.Prelude.{◌≡◌, ℕ, ◌+◌, ◌≤◌, ◌⊎◌, Bool, true, false, ◌||◌, IsTrue, None, List, [], ◌∷◌, length}
+use Rattle.gt_types.specs.declared.DomId.{DomId}
 use Rattle.gt_types.specs.declared.limits.TheConstants.{FRAME_SIZE}
 use Rattle.gt_frames.specs.declared.writ.WriteRecord.{WriteRecord}
-use Rattle.gt_frames.specs.Writers.{has_byte}
+use Rattle.gt_frames.specs.Bytes.{written}
+use Rattle.gt_frames.specs.Frames.{all_rightful, patches}
+use Rattle.gt_frames.specs.Writers.{has_byte, last_writ}
 
 -- some of these records has this byte in its range
 abbrev pub some_has : List WriteRecord → ℕ → Bool
@@ -17,3 +20,17 @@ IsCovered r later = (at : ℕ) → has_byte r at ≡ true → some_has later at 
 abbrev pub LieInside : List WriteRecord → Type 0
 LieInside [] = Unit {0}
 LieInside (r ∷ rs) = (r.off + length r.bytes ≤ FRAME_SIZE) × LieInside rs
+
+-- the first records are some of the others, in their order
+abbrev pub AreSomeOf : List WriteRecord → List WriteRecord → Type 0
+AreSomeOf ks [] = ks ≡ []
+AreSomeOf ks (r ∷ rs) = AreSomeOf ks rs ⊎ ((ls : List WriteRecord) × (ks ≡ r ∷ ls) × AreSomeOf ls rs)
+
+-- these are some of the journal's records, no more than a frame has bytes, and all that can be read of it: their replay
+-- is the same, each byte was last written by the same writ, and they were by right if all were
+pub record StandFor (journal ks : List WriteRecord) : Type 0 where
+  pub some : AreSomeOf ks journal
+  pub most : length ks ≤ FRAME_SIZE
+  pub bytes : written (patches ks) ≡ written (patches journal)
+  pub writs : (at : ℕ) → last_writ ks at None ≡ last_writ journal at None
+  pub rightful : (owner : DomId) (number : ℕ) → IsTrue (all_rightful owner number journal) → IsTrue (all_rightful owner number ks)

@@ -32,7 +32,7 @@ mod writers;
 pub use bytes::FrameBytes;
 pub use frame::Frame;
 pub use frames::Frames;
-pub use laws::a_covered_record_shows_no_byte;
+pub use laws::{a_covered_record_shows_no_byte, as_many_records_as_bytes_are_enough};
 pub use places::{FrameCount, FrameName, Spot};
 pub use pool::{Ends, Pool};
 pub use receipts::{Copied, Read, Written};

@@ -84,6 +84,13 @@ fn is_named(frame: &Frame, name: FrameName) -> bool
     frame.owner() == name.owner && frame.number() == name.number
 }
 
+// Waits for a frame that another thread has. Few locks are, so this stands apart from the call that takes one.
+#[cold]
+#[inline(never)]
+fn wait_for<'p>(rt: &impl Wait, frame: &'p Mutex<Frame>) -> MutexGuard<'p, Frame> {
+    frame.lock(rt)
+}
+
 impl Pool {
     /// The frames of all domains, in their order, each of zeros and under a lock, and for each domain the visits
     /// without which no frame is freed.
@@ -111,6 +118,7 @@ impl Pool {
 
     // Locks the frame at this place, which is above each place that was locked for this access: two copies between
     // the same frames then never wait for one another.
+    #[inline(always)]
     fn lock_at(
         &self,
         rt: &impl Wait,
@@ -122,10 +130,14 @@ impl Pool {
     {
         let frame = self.frames.get(place)?;
         order.lowest = place + 1;
-        Some(frame.lock(rt))
+        match frame.try_lock() {
+            Some(guard) => Some(guard),
+            None => Some(wait_for(rt, frame)),
+        }
     }
 
     /// Locks a frame. `None` if there is no such frame, or another one is in its place.
+    #[inline(always)]
     pub fn lock(&self, rt: &impl Wait, name: FrameName) -> Option<Lent<'_>>
         ensures frame { IfSome result (λ l. name_of l.after ≡ name) }
         ensures fresh { IfSome result IsFresh }
@@ -185,6 +197,7 @@ impl<'p> Ends<'p> {
     }
 
     // The ends are these frames, if they have these names.
+    #[inline(always)]
     fn apart(
         from: MutexGuard<'p, Frame>,
         to: MutexGuard<'p, Frame>,

@@ -85,8 +85,9 @@ fn is_flag(a: bool, b: bool) -> bool
 }
 
 // Whether both are one entry.
-fn is_entry(a: Entry, b: Entry) -> bool
-    ensures { IsTrue result → a ≡ b }
+#[inline(always)]
+fn is_entry(a: &Entry, b: &Entry) -> bool
+    ensures { IsTrue result → a.now ≡ b.now }
 {
     match (a, b) {
         (
@@ -96,7 +97,7 @@ fn is_entry(a: Entry, b: Entry) -> bool
                 ro: ro_b,
                 frame: frame_b,
             },
-        ) => is_domain(dom, dom_b) && is_flag(ro, ro_b) && frame == frame_b,
+        ) => is_domain(*dom, *dom_b) && is_flag(*ro, *ro_b) && *frame == *frame_b,
         (
             Entry::Sub {
                 dom,
@@ -113,11 +114,11 @@ fn is_entry(a: Entry, b: Entry) -> bool
                 len: len_b,
             },
         ) => {
-            is_domain(dom, dom_b)
-                && is_flag(ro, ro_b)
-                && frame == frame_b
-                && off == off_b
-                && len == len_b
+            is_domain(*dom, *dom_b)
+                && is_flag(*ro, *ro_b)
+                && *frame == *frame_b
+                && *off == *off_b
+                && *len == *len_b
         }
         (
             Entry::Via {
@@ -133,18 +134,19 @@ fn is_entry(a: Entry, b: Entry) -> bool
                 gref: gref_b,
             },
         ) => {
-            is_domain(dom, dom_b)
-                && is_flag(ro, ro_b)
-                && is_domain(dom2, dom2_b)
-                && is_reference(gref, gref_b)
+            is_domain(*dom, *dom_b)
+                && is_flag(*ro, *ro_b)
+                && is_domain(*dom2, *dom2_b)
+                && is_reference(*gref, *gref_b)
         }
         _ => false,
     }
 }
 
 // Whether both are one basis.
-fn is_ground(a: Ground, b: Ground) -> bool
-    ensures { IsTrue result → a ≡ b }
+#[inline(always)]
+fn is_ground(a: &Ground, b: &Ground) -> bool
+    ensures { IsTrue result → a.now ≡ b.now }
 {
     match (a, b) {
         (Ground::Owned, Ground::Owned) => true,
@@ -156,17 +158,18 @@ fn is_ground(a: Ground, b: Ground) -> bool
                 middle: middle_b,
                 entry: entry_b,
             },
-        ) => is_entry(via, via_b) && is_domain(middle, middle_b) && is_entry(entry, entry_b),
+        ) => is_entry(via, via_b) && is_domain(*middle, *middle_b) && is_entry(entry, entry_b),
         _ => false,
     }
 }
 
 impl Writ {
     /// Whether both are one writ. False says nothing.
+    #[inline(always)]
     pub(crate) fn is(&self, other: &Writ) -> bool
         ensures { IsTrue result → self.now ≡ other.now }
     {
-        is_domain(self.writer, other.writer) && is_ground(self.basis, other.basis)
+        is_domain(self.writer, other.writer) && is_ground(&self.basis, &other.basis)
     }
 
     /// Whether it is for this range of this frame of the owner's.

@@ -11,6 +11,7 @@ ghost use Rattle.gt_live.specs.Domains.{reply_of, told_by, version_told, size_to
 ghost use Rattle.gt_live.specs.Walks.{Called};
 ghost use Rattle.gt_live.specs.Driving.{Leaves};
 ghost use Rattle.gt_live.specs.Effects.{Answers};
+ghost use Rattle.gt_audit.specs.Telling.{Tells};
 
 mod bytes;
 mod copies;
@@ -154,6 +155,25 @@ fn outcome_reply<T>(answer: &Result<T, Denial>) -> Reply
         Ok(_) => Reply::Done,
         Err(denial) => Reply::Denied(*denial),
     }
+}
+
+// Keeps the record of a call that was answered Ok.
+#[inline(always)]
+fn tell_done(trail: &mut Trail, dom: DomId, call: Hypercall)
+    ensures { Tells trail.old (record { dom = dom; call = call; reply = Reply.Done }) trail.new }
+{
+    let reply = Reply::Done;
+    trail.push(Record { dom, call, reply });
+}
+
+// Keeps the record of a call that was refused. Few are, so this stands apart.
+#[cold]
+#[inline(never)]
+fn tell_refusal(trail: &mut Trail, dom: DomId, call: Hypercall, denial: Denial)
+    ensures { Tells trail.old (record { dom = dom; call = call; reply = Reply.Denied denial }) trail.new }
+{
+    let reply = Reply::Denied(denial);
+    trail.push(Record { dom, call, reply });
 }
 
 impl Domain {

@@ -116,6 +116,7 @@ fn reach_source<P: Allows>(
 }
 
 // The same of its destination, once its source is reached.
+#[inline(never)]
 fn reach_dest<P: Allows>(
     words: &Words,
     known: &Known<'_, P>,
@@ -158,6 +159,7 @@ fn reach_dest<P: Allows>(
 }
 
 // Walks a copy whose source is reached to its access, or to its refusal, whose pins are given back by then.
+#[inline(always)]
 fn walk_to_dest<P: Allows>(
     words: &Words,
     known: &Known<'_, P>,

@@ -21,7 +21,7 @@ ghost use Rattle.gt_live.specs.Underway.{AreOfRun, GivesBack, HasTaken};
 ghost use Rattle.gt_live.specs.Visiting.{HasVisited, WasCopied};
 
 use super::bytes::not_made;
-use super::{Domain, outcome_reply, refusal_of};
+use super::{Domain, refusal_of, tell_done, tell_refusal};
 use crate::monitor::Monitor;
 use crate::routes::{drive_copy, give_back};
 use gt_access::{Run, copy_by};
@@ -249,12 +249,17 @@ impl Domain {
         ensures told { Tells self.old.trail (told_copy self.old copy.now result) self.new.trail }
         ensures visited { HasVisited WasCopied result self.old.visits self.new.visits }
     {
-        let result = self.make_copy(rt, monitor, copy);
-        let call = copy_told(*copy);
-        let dom = self.seat.dom();
-        let reply = outcome_reply(&result);
-        self.trail.push(Record { dom, call, reply });
-        result
+        let caller = self.seat.dom();
+        match self.make_copy(rt, monitor, copy) {
+            Ok(copied) => {
+                tell_done(&mut self.trail, caller, copy_told(*copy));
+                Ok(copied)
+            }
+            Err(denial) => {
+                tell_refusal(&mut self.trail, caller, copy_told(*copy), denial);
+                Err(denial)
+            }
+        }
     }
 
     // Comes to the access of a copy, without a record.

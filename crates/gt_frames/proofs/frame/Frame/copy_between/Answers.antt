@@ -1,4 +1,4 @@
-use Rattle.std.proofs.Common.{◌≡◌, ◌+◌, ◌∙◌, List, ℕ, ap, slice_range}
+use Rattle.std.proofs.Common.{◌+◌, ◌∙◌, List, ℕ, ap, slice_range}
 use Rattle.gt_frames.proofs.Writes.{kept_after, sound_after, is_write, same_bytes}
 use Rattle.gt_frames.proofs.frame.Frame.copy_between.Goals as goal
 
