@@ -1,8 +1,7 @@
 //! What scripts are read as, in words.
 use gt_policy::Policy;
 use gt_script::{
-    AccessCall, RunScript, Script, ScriptAction, ScriptCall, ScriptStep, TableCall, Text,
-    hex_bytes, parse, parse_run,
+    RunScript, Script, ScriptAction, ScriptCall, ScriptStep, Text, hex_bytes, parse, parse_run,
 };
 use gt_types::{Allows, DomId, DomainConfig, Perms, Triple, TypeId};
 use std::alloc::{AllocError, Global};
@@ -93,10 +92,9 @@ fn hex_in<'b, 'a>(action: &'b ScriptAction<'a>) -> Option<&'b Text<'a>> {
         return None;
     };
     match call {
-        ScriptCall::Table(TableCall::GrantBytes { hex, .. })
-        | ScriptCall::Access(AccessCall::Store { hex, .. } | AccessCall::Poke { hex, .. }) => Some(
-            hex,
-        ),
+        ScriptCall::GrantBytes { hex, .. }
+        | ScriptCall::Store { hex, .. }
+        | ScriptCall::Poke { hex, .. } => Some(hex),
         _ => None,
     }
 }

@@ -8,10 +8,6 @@ use Rattle.std.specs.Borrow.{Bor}
 use Rattle.std.proofs.lemmas.Bool.{eqb-true}
 use Rattle.std.proofs.lemmas.Option.{none-some, same_Some}
 use Rattle.gt_types.specs.declared.DomId.{DomId}
-use Rattle.gt_lines.specs.declared.calls.TableCall.{TableCall}
-use Rattle.gt_lines.specs.declared.calls.TableCall.TheVariants as tables
-use Rattle.gt_lines.specs.declared.calls.AccessCall.{AccessCall}
-use Rattle.gt_lines.specs.declared.calls.AccessCall.TheVariants as accesses
 use Rattle.gt_lines.specs.declared.calls.ScriptCall.{ScriptCall}
 use Rattle.gt_lines.specs.declared.calls.ScriptCall.TheVariants as calls
 use Rattle.gt_script.specs.declared.script.ScriptStep.{ScriptStep}
@@ -32,7 +28,7 @@ use Rattle.gt_core.specs.Alike.{bare_handle, bare_bytes, bare_request, told, Tol
 use Rattle.gt_core.specs.Alike.{AsksKnown}
 use Rattle.gt_host.specs.Printing.{answer_text, bytes_text}
 use Rattle.gt_host.specs.Runs.{Named, handle_named, handle_of, never_given, with_name, named_after, handle_given}
-use Rattle.gt_host.specs.Runs.{label_in, request_of, table_request, access_request, Asks, answer_in}
+use Rattle.gt_host.specs.Runs.{label_in, request_of, Asks, answer_in}
 
 -- names
 
@@ -79,49 +75,28 @@ found-given h (n ∷ more) d label g = by (n.dom.0 == d) (bytes_eq n.label label
 bytes-same : (a b : Bor (List ℕ)) → a.now ≡ b.now → bare_bytes a ≡ bare_bytes b
 bytes-same a b e = ap (λ (l : List ℕ). record { ref_ptr = (0, 0); now = l }) e
 
-table-same : (a b : Bor (List ℕ)) (call : TableCall) → a.now ≡ b.now → bare_request (table_request a call) ≡ bare_request (table_request b call)
-unfolding table_request
-table-same a b (tables.GrantBytes gref hex) e = ap (λ (l : Bor (List ℕ)). requests.GrantBytes gref l) (bytes-same a b e)
-table-same a b call e = refl
-
-access-same : (f g : List ℕ → Handle) (a b : Bor (List ℕ)) (call : AccessCall) → ((label : List ℕ) → bare_handle (f label) ≡ bare_handle (g label)) → a.now ≡ b.now
-    → bare_request (access_request f a call) ≡ bare_request (access_request g b call)
-unfolding access_request
-access-same f g a b (accesses.Unmap label) same e = ap (λ (x : Handle). requests.Unmap x) (same label)
-access-same f g a b (accesses.Load label off len) same e = ap (λ (x : Handle). requests.Load x off len) (same label)
-access-same f g a b (accesses.Store label off hex) same e =
-    ap (λ (x : Handle). requests.Store x off (bare_bytes a)) (same label) ∙ ap (λ (l : Bor (List ℕ)). requests.Store (bare_handle (g label)) off l) (bytes-same a b e)
-access-same f g a b (accesses.Peek frame off len) same e = refl
-access-same f g a b (accesses.Copy source dest len) same e = refl
-access-same f g a b (accesses.Poke frame off hex) same e = ap (λ (l : Bor (List ℕ)). requests.Poke frame off l) (bytes-same a b e)
-
 request-same : (one other : List Named) (dom : DomId) (a b : Bor (List ℕ)) (call : ScriptCall) → bare_names one ≡ bare_names other → a.now ≡ b.now → bare_request (request_of one dom a call) ≡ bare_request (request_of other dom b call)
-request-same one other dom a b (calls.Table call) same e = table-same a b call e
-request-same one other dom a b (calls.Map label to gref flags) same e = refl
-request-same one other dom a b (calls.Access call) same e = access-same (handle_of one dom) (handle_of other dom) a b call (λ label. handle-same one other dom label same) e
+unfolding request_of
+request-same one other dom a b (calls.GrantBytes gref hex) same e = ap (λ (l : Bor (List ℕ)). requests.GrantBytes gref l) (bytes-same a b e)
+request-same one other dom a b (calls.Unmap label) same e = ap (λ (x : Handle). requests.Unmap x) (handle-same one other dom label same)
+request-same one other dom a b (calls.Load label off len) same e = ap (λ (x : Handle). requests.Load x off len) (handle-same one other dom label same)
+request-same one other dom a b (calls.Store label off hex) same e =
+    ap (λ (x : Handle). requests.Store x off (bare_bytes a)) (handle-same one other dom label same)
+    ∙ ap (λ (l : Bor (List ℕ)). requests.Store (bare_handle (handle_of other dom label)) off l) (bytes-same a b e)
+request-same one other dom a b (calls.Poke frame off hex) same e = ap (λ (l : Bor (List ℕ)). requests.Poke frame off l) (bytes-same a b e)
+request-same one other dom a b call same e = refl
 
 pub asks-same : (one other : List Named) (dom : DomId) (call : ScriptCall) (q r : Request) → bare_names one ≡ bare_names other → Asks one dom call q → Asks other dom call r → bare_request q ≡ bare_request r
 asks-same one other dom call q r same x y =
     ap bare_request x.2 ∙ request-same one other dom x.0 y.0 call same (x.1 ∙ sym y.1) ∙ ap bare_request (sym y.2)
 
-table-known : (h : History) (d : ℕ) (a : Bor (List ℕ)) (call : TableCall) → AsksKnown h d (asked (table_request a call))
-unfolding table_request
-table-known h d a (tables.GrantBytes gref hex) = tt
-table-known h d a call = tt
-
-access-known : (h : History) (d : ℕ) (f : List ℕ → Handle) (a : Bor (List ℕ)) (call : AccessCall) → ((label : List ℕ) → IsKnown h d (f label)) → AsksKnown h d (asked (access_request f a call))
-unfolding access_request
-access-known h d f a (accesses.Unmap label) k = k label
-access-known h d f a (accesses.Load label off len) k = k label
-access-known h d f a (accesses.Store label off hex) k = k label
-access-known h d f a (accesses.Peek frame off len) k = tt
-access-known h d f a (accesses.Poke frame off hex) k = tt
-access-known h d f a (accesses.Copy source dest len) k = tt
-
 request-known : (h : History) (named : List Named) (dom : DomId) (a : Bor (List ℕ)) (call : ScriptCall) → NamesGiven h named → AsksKnown h dom.0 (asked (request_of named dom a call))
-request-known h named dom a (calls.Table call) g = table-known h dom.0 a call
-request-known h named dom a (calls.Map label to gref flags) g = tt
-request-known h named dom a (calls.Access call) g = access-known h dom.0 (handle_of named dom) a call (λ label. found-given h named dom.0 label g)
+unfolding request_of
+request-known h named dom a (calls.GrantBytes gref hex) g = tt
+request-known h named dom a (calls.Unmap label) g = found-given h named dom.0 label g
+request-known h named dom a (calls.Load label off len) g = found-given h named dom.0 label g
+request-known h named dom a (calls.Store label off hex) g = found-given h named dom.0 label g
+request-known h named dom a call g = tt
 
 pub asks-known : (h : History) (named : List Named) (dom : DomId) (call : ScriptCall) (q : Request) → NamesGiven h named → Asks named dom call q → AsksKnown h dom.0 (asked q)
 asks-known h named dom call q g x = subst (λ (z : Request). AsksKnown h dom.0 (asked z)) (sym x.2) (request-known h named dom x.0 call g)

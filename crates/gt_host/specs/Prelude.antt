@@ -22,7 +22,6 @@ pub use Rattle.gt_core.specs.declared.trace.Event.TheVariants.{Begin, Tick}
 pub use Rattle.gt_core.specs.declared.trace.Happened.{Happened}
 pub use Rattle.gt_core.specs.declared.trace.Happened.TheVariants.{Began, Stepped}
 pub use Rattle.gt_core.specs.declared.trace.Item.{Item}
-pub use Rattle.gt_entry.specs.declared.entry.Entry.{Entry}
 pub use Rattle.gt_handles.specs.declared.handles.Handle.{Handle}
 pub use Rattle.gt_host.specs.declared.fault.PlayFault.{PlayFault}
 pub use Rattle.gt_host.specs.declared.fault.PlayFault.TheVariants.{Memory, Policy, Read, Script, Write}
@@ -30,11 +29,8 @@ pub use Rattle.gt_host.specs.declared.outcome.Outcome.{Outcome}
 pub use Rattle.gt_host.specs.declared.outcome.Outcome.TheVariants.{Answered, Busy}
 pub use Rattle.gt_host.specs.declared.rights.Rights.{Rights}
 pub use Rattle.gt_lines.specs.Hexadecimal.{hex_bytes}
-pub use Rattle.gt_lines.specs.declared.calls.AccessCall.{AccessCall}
-pub use Rattle.gt_lines.specs.declared.calls.Grant.{Grant}
 pub use Rattle.gt_lines.specs.declared.calls.ScriptAction.{ScriptAction}
 pub use Rattle.gt_lines.specs.declared.calls.ScriptCall.{ScriptCall}
-pub use Rattle.gt_lines.specs.declared.calls.TableCall.{TableCall}
 pub use Rattle.gt_script.specs.Blocks.{block_fault_shown}
 pub use Rattle.gt_script.specs.Contents.{Contents, first_gen, type_names}
 pub use Rattle.gt_script.specs.Script.{Wrong, in_policy, in_script}

@@ -1,14 +1,9 @@
 -- What a run of a script does and prints.
 use Rattle.std.specs.Prelude.{◌≡◌, ◌≤◌, ℕ, ◌+◌, ◌-◌, ◌^◌, ◌==◌, ◌&&◌, List, [], ◌∷◌, ◌++◌, length, replicate, Option}
 use Rattle.std.specs.Prelude.{Some, None, unwrap_or, is_some, if◌then◌else◌}
-use Rattle.gt_host.specs.Prelude.{Bor, bytes_eq, DomId, GrantRef, DomainConfig, Entry, hex_bytes, Grant, TableCall}
-use Rattle.gt_host.specs.Prelude.{AccessCall, ScriptCall, ScriptAction, ScriptStep, Handle, Request, Answer, Mapped}
-use Rattle.gt_host.specs.Prelude.{Event, Begin, Tick, Item, Element, History, Setting, open_call, history_after}
-use Rattle.gt_host.specs.Prelude.{shown_at, Outcome, Answered, Busy}
-use Rattle.gt_entry.specs.declared.entry.Entry.TheVariants as entries
-use Rattle.gt_lines.specs.declared.calls.Grant.TheVariants as grants
-use Rattle.gt_lines.specs.declared.calls.TableCall.TheVariants as tables
-use Rattle.gt_lines.specs.declared.calls.AccessCall.TheVariants as accesses
+use Rattle.gt_host.specs.Prelude.{Bor, bytes_eq, DomId, GrantRef, DomainConfig, hex_bytes, ScriptCall, ScriptAction}
+use Rattle.gt_host.specs.Prelude.{ScriptStep, Handle, Request, Answer, Mapped, Event, Begin, Tick, Item, Element}
+use Rattle.gt_host.specs.Prelude.{History, Setting, open_call, history_after, shown_at, Outcome, Answered, Busy}
 use Rattle.gt_lines.specs.declared.calls.ScriptCall.TheVariants as calls
 use Rattle.gt_lines.specs.declared.calls.ScriptAction.TheVariants as actions
 use Rattle.gt_calls.specs.declared.request.Request.TheVariants as requests
@@ -41,39 +36,25 @@ handle_of named dom label = unwrap_or (handle_named named dom.0 label) never_giv
 
 -- calls
 
--- the entry that a grant publishes
-unfoldable pub entry_of : Grant → Entry
-entry_of (grants.Page dom ro frame) = entries.Page dom ro frame
-entry_of (grants.Sub dom ro frame off len) = entries.Sub dom ro frame off len
-entry_of (grants.Via dom ro to gref) = entries.Via dom ro to gref
-
--- the hexadecimal text of a call on a table: that of an entry
-abbrev pub table_text : TableCall → Option (List ℕ)
-table_text (tables.Grant gref grant) = None
-table_text (tables.GrantBytes gref hex) = Some hex
-table_text (tables.Revoke gref) = None
-table_text (tables.Withdraw gref) = None
-table_text (tables.Demote gref) = None
-table_text (tables.Promote gref) = None
-table_text (tables.SetVersion version) = None
-table_text (tables.SetupTable frames) = None
-table_text (tables.QuerySize to) = None
-table_text (tables.GetVersion to) = None
-
--- the hexadecimal text of a call that ends a mapping or reaches bytes: that of the bytes that it writes
-abbrev pub access_text : AccessCall → Option (List ℕ)
-access_text (accesses.Unmap label) = None
-access_text (accesses.Load label off len) = None
-access_text (accesses.Store label off hex) = Some hex
-access_text (accesses.Peek frame off len) = None
-access_text (accesses.Poke frame off hex) = Some hex
-access_text (accesses.Copy source dest len) = None
-
--- the hexadecimal text of a call
+-- the hexadecimal text of a call: that of an entry, or of the bytes that it writes
 abbrev pub text_said : ScriptCall → Option (List ℕ)
-text_said (calls.Table call) = table_text call
+text_said (calls.Grant gref entry) = None
+text_said (calls.GrantBytes gref hex) = Some hex
+text_said (calls.Revoke gref) = None
+text_said (calls.Withdraw gref) = None
+text_said (calls.Demote gref) = None
+text_said (calls.Promote gref) = None
 text_said (calls.Map label to gref flags) = None
-text_said (calls.Access call) = access_text call
+text_said (calls.Unmap label) = None
+text_said (calls.Load label off len) = None
+text_said (calls.Store label off hex) = Some hex
+text_said (calls.Peek frame off len) = None
+text_said (calls.Poke frame off hex) = Some hex
+text_said (calls.Copy source dest len) = None
+text_said (calls.SetVersion version) = None
+text_said (calls.SetupTable frames) = None
+text_said (calls.QuerySize to) = None
+text_said (calls.GetVersion to) = None
 
 -- the bytes of such a text, none if there is none
 abbrev pub bytes_of : Option (List ℕ) → List ℕ
@@ -84,34 +65,25 @@ bytes_of (Some hex) = hex_bytes hex
 abbrev pub bytes_said : ScriptCall → List ℕ
 bytes_said call = bytes_of (text_said call)
 
--- what a call on a table asks of the core, if these are its bytes
-unfoldable pub table_request : Bor (List ℕ) → TableCall → Request
-table_request bytes (tables.Grant gref grant) = requests.Grant gref (entry_of grant)
-table_request bytes (tables.GrantBytes gref hex) = requests.GrantBytes gref bytes
-table_request bytes (tables.Revoke gref) = requests.Revoke gref
-table_request bytes (tables.Withdraw gref) = requests.Withdraw gref
-table_request bytes (tables.Demote gref) = requests.Demote gref
-table_request bytes (tables.Promote gref) = requests.Promote gref
-table_request bytes (tables.SetVersion version) = requests.SetVersion version
-table_request bytes (tables.SetupTable frames) = requests.SetupTable frames
-table_request bytes (tables.QuerySize to) = requests.QuerySize to
-table_request bytes (tables.GetVersion to) = requests.GetVersion to
-
--- what a call asks of the core that ends a mapping or reaches bytes, if its
--- label names this handle and these are its bytes
-unfoldable pub access_request : (List ℕ → Handle) → Bor (List ℕ) → AccessCall → Request
-access_request handle bytes (accesses.Unmap label) = requests.Unmap (handle label)
-access_request handle bytes (accesses.Load label off len) = requests.Load (handle label) off len
-access_request handle bytes (accesses.Store label off hex) = requests.Store (handle label) off bytes
-access_request handle bytes (accesses.Peek frame off len) = requests.Peek frame off len
-access_request handle bytes (accesses.Poke frame off hex) = requests.Poke frame off bytes
-access_request handle bytes (accesses.Copy source dest len) = requests.Copy (copy_asked source dest len)
-
 -- what a call of a script asks of the core, if its labels name these handles and these are its bytes
-abbrev pub request_of : List Named → DomId → Bor (List ℕ) → ScriptCall → Request
-request_of named dom bytes (calls.Table call) = table_request bytes call
+unfoldable pub request_of : List Named → DomId → Bor (List ℕ) → ScriptCall → Request
+request_of named dom bytes (calls.Grant gref entry) = requests.Grant gref entry
+request_of named dom bytes (calls.GrantBytes gref hex) = requests.GrantBytes gref bytes
+request_of named dom bytes (calls.Revoke gref) = requests.Revoke gref
+request_of named dom bytes (calls.Withdraw gref) = requests.Withdraw gref
+request_of named dom bytes (calls.Demote gref) = requests.Demote gref
+request_of named dom bytes (calls.Promote gref) = requests.Promote gref
 request_of named dom bytes (calls.Map label to gref flags) = requests.Map to gref flags
-request_of named dom bytes (calls.Access call) = access_request (handle_of named dom) bytes call
+request_of named dom bytes (calls.Unmap label) = requests.Unmap (handle_of named dom label)
+request_of named dom bytes (calls.Load label off len) = requests.Load (handle_of named dom label) off len
+request_of named dom bytes (calls.Store label off hex) = requests.Store (handle_of named dom label) off bytes
+request_of named dom bytes (calls.Peek frame off len) = requests.Peek frame off len
+request_of named dom bytes (calls.Poke frame off hex) = requests.Poke frame off bytes
+request_of named dom bytes (calls.Copy source dest len) = requests.Copy (copy_asked source dest len)
+request_of named dom bytes (calls.SetVersion version) = requests.SetVersion version
+request_of named dom bytes (calls.SetupTable frames) = requests.SetupTable frames
+request_of named dom bytes (calls.QuerySize to) = requests.QuerySize to
+request_of named dom bytes (calls.GetVersion to) = requests.GetVersion to
 
 -- a call of a script asks this of the core, if its labels name these handles
 abbrev pub Asks : List Named → DomId → ScriptCall → Request → Type 0
@@ -120,9 +92,23 @@ Asks named dom call request =
 
 -- the label to which a call gives its handle: that of a map
 abbrev pub label_given : ScriptCall → Option (List ℕ)
-label_given (calls.Table call) = None
+label_given (calls.Grant gref entry) = None
+label_given (calls.GrantBytes gref hex) = None
+label_given (calls.Revoke gref) = None
+label_given (calls.Withdraw gref) = None
+label_given (calls.Demote gref) = None
+label_given (calls.Promote gref) = None
 label_given (calls.Map label to gref flags) = Some label
-label_given (calls.Access call) = None
+label_given (calls.Unmap label) = None
+label_given (calls.Load label off len) = None
+label_given (calls.Store label off hex) = None
+label_given (calls.Peek frame off len) = None
+label_given (calls.Poke frame off hex) = None
+label_given (calls.Copy source dest len) = None
+label_given (calls.SetVersion version) = None
+label_given (calls.SetupTable frames) = None
+label_given (calls.QuerySize to) = None
+label_given (calls.GetVersion to) = None
 
 -- the label to which the call of a line gives its handle
 abbrev pub label_in : ScriptAction → Option (List ℕ)

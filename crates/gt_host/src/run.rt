@@ -6,9 +6,8 @@ ghost use Rattle.gt_types.specs.declared.DomId.{DomId};
 ghost use Rattle.gt_core.specs.History.{History};
 ghost use Rattle.gt_core.specs.Standing.{CoreStands, setting_in};
 ghost use Rattle.gt_host.specs.Printing.{answer_line};
-ghost use Rattle.gt_host.specs.Runs.{Named, entry_of, table_text, access_text, text_said};
-ghost use Rattle.gt_host.specs.Runs.{bytes_said as said_in, table_request, access_request, request_of};
-ghost use Rattle.gt_host.specs.Runs.{handle_of, label_given, label_in, DoLine, BeginLine, TickLine, RunsLine};
+ghost use Rattle.gt_host.specs.Runs.{Named, text_said, bytes_said as said_in, request_of};
+ghost use Rattle.gt_host.specs.Runs.{label_given, label_in, DoLine, BeginLine, TickLine, RunsLine};
 ghost use Rattle.gt_host.specs.Naming.{AreNamed, NamesMapping};
 ghost use Rattle.gt_host.specs.Ticking.{IsReady, Calls, TicksTo, Leads};
 ghost use Rattle.gt_host.specs.declared.fault.Fault.TheVariants as faults;
@@ -22,92 +21,33 @@ use crate::outcome::Outcome;
 use crate::showing::push_show_line;
 use gt_calls::MAX_STEPS;
 use gt_core::{Answer, Begun, Core, Request, Ticked};
-use gt_entry::Entry;
-use gt_lines::{AccessCall, Grant, ScriptAction, ScriptCall, TableCall, Text, hex_bytes};
+use gt_lines::{ScriptAction, ScriptCall, Text, hex_bytes};
 use gt_script::ScriptStep;
 use gt_types::{Allows, DomId, Memory};
 use std::alloc::{AllocError, Global};
-
-#[tactic(auto, unfolding(crate::specs::Runs::entry_of))]
-fn entry_of(grant: Grant) -> Entry
-    ensures { result ≡ entry_of grant }
-{
-    match grant {
-        Grant::Page {
-            dom,
-            read_only,
-            frame,
-        } => Entry::Page {
-            dom,
-            ro: read_only,
-            frame,
-        },
-        Grant::Sub {
-            dom,
-            read_only,
-            frame,
-            off,
-            len,
-        } => Entry::Sub {
-            dom,
-            ro: read_only,
-            frame,
-            off,
-            len,
-        },
-        Grant::Via {
-            dom,
-            read_only,
-            to,
-            gref,
-        } => Entry::Via {
-            dom,
-            ro: read_only,
-            dom2: to,
-            gref,
-        },
-    }
-}
-
-// The hexadecimal text of a call on a table, if it has one.
-fn table_text<'b, 'a>(call: &'b TableCall<'a>) -> Option<&'b Text<'a>>
-    ensures { option_map (λ text. text.now) result ≡ table_text call.entry.now }
-{
-    match call {
-        TableCall::GrantBytes { hex, .. } => Some(hex),
-        TableCall::Grant { .. }
-        | TableCall::Revoke { .. }
-        | TableCall::Withdraw { .. }
-        | TableCall::Demote { .. }
-        | TableCall::Promote { .. }
-        | TableCall::SetVersion { .. }
-        | TableCall::SetupTable { .. }
-        | TableCall::QuerySize { .. }
-        | TableCall::GetVersion { .. } => None,
-    }
-}
-
-// The hexadecimal text of a call that reaches bytes, if it has one.
-fn access_text<'b, 'a>(call: &'b AccessCall<'a>) -> Option<&'b Text<'a>>
-    ensures { option_map (λ text. text.now) result ≡ access_text call.entry.now }
-{
-    match call {
-        AccessCall::Store { hex, .. } | AccessCall::Poke { hex, .. } => Some(hex),
-        AccessCall::Unmap { .. }
-        | AccessCall::Load { .. }
-        | AccessCall::Peek { .. }
-        | AccessCall::Copy { .. } => None,
-    }
-}
 
 // The hexadecimal text of a call, if it has one.
 fn text_said<'b, 'a>(call: &'b ScriptCall<'a>) -> Option<&'b Text<'a>>
     ensures { option_map (λ text. text.now) result ≡ text_said call.entry.now }
 {
     match call {
-        ScriptCall::Table(call) => table_text(call),
-        ScriptCall::Map { .. } => None,
-        ScriptCall::Access(call) => access_text(call),
+        ScriptCall::GrantBytes { hex, .. }
+        | ScriptCall::Store { hex, .. }
+        | ScriptCall::Poke { hex, .. } => Some(hex),
+        ScriptCall::Grant { .. }
+        | ScriptCall::Revoke { .. }
+        | ScriptCall::Withdraw { .. }
+        | ScriptCall::Demote { .. }
+        | ScriptCall::Promote { .. }
+        | ScriptCall::Map { .. }
+        | ScriptCall::Unmap { .. }
+        | ScriptCall::Load { .. }
+        | ScriptCall::Peek { .. }
+        | ScriptCall::Copy { .. }
+        | ScriptCall::SetVersion { .. }
+        | ScriptCall::SetupTable { .. }
+        | ScriptCall::QuerySize { .. }
+        | ScriptCall::GetVersion { .. } => None,
     }
 }
 
@@ -121,68 +61,8 @@ pub fn bytes_said<'a>(alloc: Global, call: &ScriptCall<'a>) -> Result<Vec<u8>, A
     }
 }
 
-// What a call on a table asks of the core, if it says these bytes.
-#[tactic(auto, unfolding(crate::specs::Runs::table_request))]
-fn table_request<'a, 'c>(bytes: &'c [u8], call: &TableCall<'a>) -> Request<'c>
-    ensures { result ≡ table_request bytes.entry call.now }
-{
-    match call {
-        TableCall::Grant { gref, entry } => Request::Grant {
-            gref: *gref,
-            entry: entry_of(*entry),
-        },
-        TableCall::GrantBytes { gref, .. } => Request::GrantBytes { gref: *gref, bytes },
-        TableCall::Revoke { gref } => Request::Revoke { gref: *gref },
-        TableCall::Withdraw { gref } => Request::Withdraw { gref: *gref },
-        TableCall::Demote { gref } => Request::Demote { gref: *gref },
-        TableCall::Promote { gref } => Request::Promote { gref: *gref },
-        TableCall::SetVersion { version } => Request::SetVersion { version: *version },
-        TableCall::SetupTable { frames } => Request::SetupTable { frames: *frames },
-        TableCall::QuerySize { dom } => Request::QuerySize { dom: *dom },
-        TableCall::GetVersion { dom } => Request::GetVersion { dom: *dom },
-    }
-}
-
-// What a call asks of the core that ends a mapping or reaches bytes, if it says these bytes.
-#[tactic(auto, unfolding(crate::specs::Runs::access_request))]
-fn access_request<'a, 'c>(
-    labels: &Labels<'a>,
-    dom: DomId,
-    bytes: &'c [u8],
-    call: &AccessCall<'a>,
-) -> Request<'c>
-    ensures { (named : List Named) → AreNamed labels.now named →
-        result ≡ access_request (handle_of named dom) bytes.entry call.now }
-{
-    match call {
-        AccessCall::Unmap { label } => Request::Unmap {
-            handle: labels.handle(dom, label.as_bytes()),
-        },
-        AccessCall::Load { label, off, len } => Request::Load {
-            handle: labels.handle(dom, label.as_bytes()),
-            off: *off,
-            len: *len,
-        },
-        AccessCall::Store { label, off, .. } => Request::Store {
-            handle: labels.handle(dom, label.as_bytes()),
-            off: *off,
-            bytes,
-        },
-        AccessCall::Peek { frame, off, len } => Request::Peek {
-            frame: *frame,
-            off: *off,
-            len: *len,
-        },
-        AccessCall::Poke { frame, off, .. } => Request::Poke {
-            frame: *frame,
-            off: *off,
-            bytes,
-        },
-        AccessCall::Copy { source, dest, len } => Request::Copy(copy_asked(*source, *dest, *len)),
-    }
-}
-
 /// What a call that says these bytes asks.
+#[tactic(auto, unfolding(crate::specs::Runs::request_of))]
 pub fn request_of<'a, 'c>(
     labels: &Labels<'a>,
     dom: DomId,
@@ -193,7 +73,15 @@ pub fn request_of<'a, 'c>(
         result ≡ request_of named dom bytes.entry call.now }
 {
     match call {
-        ScriptCall::Table(call) => table_request(bytes, call),
+        ScriptCall::Grant { gref, entry } => Request::Grant {
+            gref: *gref,
+            entry: *entry,
+        },
+        ScriptCall::GrantBytes { gref, .. } => Request::GrantBytes { gref: *gref, bytes },
+        ScriptCall::Revoke { gref } => Request::Revoke { gref: *gref },
+        ScriptCall::Withdraw { gref } => Request::Withdraw { gref: *gref },
+        ScriptCall::Demote { gref } => Request::Demote { gref: *gref },
+        ScriptCall::Promote { gref } => Request::Promote { gref: *gref },
         ScriptCall::Map {
             dom,
             gref,
@@ -204,7 +92,34 @@ pub fn request_of<'a, 'c>(
             gref: *gref,
             flags: *flags,
         },
-        ScriptCall::Access(call) => access_request(labels, dom, bytes, call),
+        ScriptCall::Unmap { label } => Request::Unmap {
+            handle: labels.handle(dom, label.as_bytes()),
+        },
+        ScriptCall::Load { label, off, len } => Request::Load {
+            handle: labels.handle(dom, label.as_bytes()),
+            off: *off,
+            len: *len,
+        },
+        ScriptCall::Store { label, off, .. } => Request::Store {
+            handle: labels.handle(dom, label.as_bytes()),
+            off: *off,
+            bytes,
+        },
+        ScriptCall::Peek { frame, off, len } => Request::Peek {
+            frame: *frame,
+            off: *off,
+            len: *len,
+        },
+        ScriptCall::Poke { frame, off, .. } => Request::Poke {
+            frame: *frame,
+            off: *off,
+            bytes,
+        },
+        ScriptCall::Copy { source, dest, len } => Request::Copy(copy_asked(*source, *dest, *len)),
+        ScriptCall::SetVersion { version } => Request::SetVersion { version: *version },
+        ScriptCall::SetupTable { frames } => Request::SetupTable { frames: *frames },
+        ScriptCall::QuerySize { dom } => Request::QuerySize { dom: *dom },
+        ScriptCall::GetVersion { dom } => Request::GetVersion { dom: *dom },
     }
 }
 
@@ -214,7 +129,22 @@ pub fn label_given<'a>(call: &ScriptCall<'a>) -> Option<&'a [u8]>
 {
     match call {
         ScriptCall::Map { label, .. } => Some(label.as_bytes()),
-        ScriptCall::Table(_) | ScriptCall::Access(_) => None,
+        ScriptCall::Grant { .. }
+        | ScriptCall::GrantBytes { .. }
+        | ScriptCall::Revoke { .. }
+        | ScriptCall::Withdraw { .. }
+        | ScriptCall::Demote { .. }
+        | ScriptCall::Promote { .. }
+        | ScriptCall::Unmap { .. }
+        | ScriptCall::Load { .. }
+        | ScriptCall::Store { .. }
+        | ScriptCall::Peek { .. }
+        | ScriptCall::Poke { .. }
+        | ScriptCall::Copy { .. }
+        | ScriptCall::SetVersion { .. }
+        | ScriptCall::SetupTable { .. }
+        | ScriptCall::QuerySize { .. }
+        | ScriptCall::GetVersion { .. } => None,
     }
 }
 

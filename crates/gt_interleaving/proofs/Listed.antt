@@ -41,13 +41,9 @@ use Rattle.gt_order.specs.Leaving.{MayUnmapAll}
 use Rattle.gt_order.specs.Runs.{AreCalls, CallMade, FitsTypes, IsAtRest, IsRun, IsSeatRun, KeepsNoPin}
 use Rattle.gt_order.specs.Runs.{Outcome as CallOutcome, SeatRun, domain_after}
 use Rattle.gt_order.specs.Runs.Outcome.{Told, Kept, Starved, Wrote}
-use Rattle.gt_lines.specs.declared.calls.AccessCall.{AccessCall}
-use Rattle.gt_lines.specs.declared.calls.AccessCall.TheVariants as accesses
 use Rattle.gt_lines.specs.declared.calls.ScriptCall.{ScriptCall}
 use Rattle.gt_lines.specs.declared.calls.ScriptCall.TheVariants as calls
-use Rattle.gt_lines.specs.declared.calls.TableCall.{TableCall}
-use Rattle.gt_lines.specs.declared.calls.TableCall.TheVariants as tables
-use Rattle.gt_host.specs.Runs.{Asks as SaysRequest, Named, access_request, handle_of, request_of, table_request}
+use Rattle.gt_host.specs.Runs.{Asks as SaysRequest, Named, request_of}
 use Rattle.gt_script.specs.declared.tasks.Deed.{Deed}
 use Rattle.gt_script.specs.declared.tasks.Deed.TheVariants.{Await, Do, Tell}
 use Rattle.gt_script.specs.declared.tasks.Task.{Task}
@@ -57,7 +53,7 @@ use Rattle.gt_run.specs.Printing.{Served}
 use Rattle.gt_run.specs.Serving.{DoesDeed, DoesWhere, LeadsTo, MakesCall, Outcome, Progress, at_start}
 use Rattle.gt_run.specs.declared.lists.Duty.{Duty}
 use Rattle.gt_interleaving.specs.Texts.{AreCallsOf, AreCallsOfList, AreOfALegalOrder, HasList, IsAnswerOf, IsQuiet}
-use Rattle.gt_interleaving.specs.Texts.{IsViewOf, ReadsNoBytes, AsksNoBytes, TextsAreOfALegalOrder}
+use Rattle.gt_interleaving.specs.Texts.{IsViewOf, ReadsNoBytes, TextsAreOfALegalOrder}
 
 -- a request that reaches no bytes
 abbrev NoBytes : Request → Type 0
@@ -66,32 +62,25 @@ NoBytes (requests.Peek frame off len) = ⊥
 NoBytes (requests.Copy args) = ⊥
 NoBytes request = Unit {0}
 
-quiet-table : (bytes : Bor (List ℕ)) (call : TableCall) → NoBytes (table_request bytes call)
-unfolding table_request
-quiet-table bytes (tables.Grant gref grant) = tt
-quiet-table bytes (tables.GrantBytes gref hex) = tt
-quiet-table bytes (tables.Revoke gref) = tt
-quiet-table bytes (tables.Withdraw gref) = tt
-quiet-table bytes (tables.Demote gref) = tt
-quiet-table bytes (tables.Promote gref) = tt
-quiet-table bytes (tables.SetVersion version) = tt
-quiet-table bytes (tables.SetupTable frames) = tt
-quiet-table bytes (tables.QuerySize to) = tt
-quiet-table bytes (tables.GetVersion to) = tt
-
-quiet-access : (handle : List ℕ → Handle) (bytes : Bor (List ℕ)) (call : AccessCall) → AsksNoBytes call → NoBytes (access_request handle bytes call)
-unfolding access_request
-quiet-access handle bytes (accesses.Unmap label) q = tt
-quiet-access handle bytes (accesses.Load label off len) q = absurd q
-quiet-access handle bytes (accesses.Store label off hex) q = tt
-quiet-access handle bytes (accesses.Peek frame off len) q = absurd q
-quiet-access handle bytes (accesses.Poke frame off hex) q = tt
-quiet-access handle bytes (accesses.Copy source dest len) q = absurd q
-
 quiet-request : (named : List Named) (dom : DomId) (bytes : Bor (List ℕ)) (call : ScriptCall) → ReadsNoBytes call → NoBytes (request_of named dom bytes call)
-quiet-request named dom bytes (calls.Table call) q = quiet-table bytes call
+unfolding request_of
+quiet-request named dom bytes (calls.Grant gref entry) q = tt
+quiet-request named dom bytes (calls.GrantBytes gref hex) q = tt
+quiet-request named dom bytes (calls.Revoke gref) q = tt
+quiet-request named dom bytes (calls.Withdraw gref) q = tt
+quiet-request named dom bytes (calls.Demote gref) q = tt
+quiet-request named dom bytes (calls.Promote gref) q = tt
 quiet-request named dom bytes (calls.Map label to gref flags) q = tt
-quiet-request named dom bytes (calls.Access call) q = quiet-access (handle_of named dom) bytes call q
+quiet-request named dom bytes (calls.Unmap label) q = tt
+quiet-request named dom bytes (calls.Load label off len) q = absurd q
+quiet-request named dom bytes (calls.Store label off hex) q = tt
+quiet-request named dom bytes (calls.Peek frame off len) q = absurd q
+quiet-request named dom bytes (calls.Poke frame off hex) q = tt
+quiet-request named dom bytes (calls.Copy source dest len) q = absurd q
+quiet-request named dom bytes (calls.SetVersion version) q = tt
+quiet-request named dom bytes (calls.SetupTable frames) q = tt
+quiet-request named dom bytes (calls.QuerySize to) q = tt
+quiet-request named dom bytes (calls.GetVersion to) q = tt
 
 -- what is printed is what the call answered
 

@@ -5,7 +5,6 @@ pub use Rattle.gt_core.specs.Acting.{answer_of}
 pub use Rattle.gt_core.specs.History.{History as Items}
 pub use Rattle.gt_core.specs.declared.trace.Answer.{Answer}
 pub use Rattle.gt_host.specs.Runs.{Asks as SaysRequest, Named}
-pub use Rattle.gt_lines.specs.declared.calls.AccessCall.{AccessCall}
 pub use Rattle.gt_lines.specs.declared.calls.ScriptCall.{ScriptCall}
 pub use Rattle.gt_live.specs.Accesses.{IsOfAccess}
 pub use Rattle.gt_live.specs.Domains.{AllowRelation, HasLeft}

@@ -3,22 +3,17 @@ use Rattle.std.specs.Prelude.{◌≡◌, ◌⊎◌, ℕ, ◌<◌, ◌==◌, true
 use Rattle.gt_interleaving.specs.Prelude.{some, get_elem?, State, Config, Denial, Board, History, Shows, id_at, IsIn}
 use Rattle.gt_interleaving.specs.Prelude.{View, Request, Items, answer_of, Answer, IsOfAccess, AllowRelation, HasLeft}
 use Rattle.gt_interleaving.specs.Prelude.{Domain, Left, Monitor, AreUnmaps, MayUnmapAll, IsLegalOrder, CallMade}
-use Rattle.gt_interleaving.specs.Prelude.{FitsTypes, CallOutcome, SeatRun, Told, Kept, Starved, Wrote, AccessCall}
-use Rattle.gt_interleaving.specs.Prelude.{ScriptCall, SaysRequest, Named, Do, Task, Duty, Served, IsServed, MakesCall}
-use Rattle.gt_interleaving.specs.Prelude.{Outcome, Progress}
+use Rattle.gt_interleaving.specs.Prelude.{FitsTypes, CallOutcome, SeatRun, Told, Kept, Starved, Wrote, ScriptCall}
+use Rattle.gt_interleaving.specs.Prelude.{SaysRequest, Named, Do, Task, Duty, Served, IsServed, MakesCall, Outcome}
+use Rattle.gt_interleaving.specs.Prelude.{Progress}
 use Rattle.gt_core.specs.declared.trace.Answer.TheVariants as answers
-use Rattle.gt_lines.specs.declared.calls.AccessCall.TheVariants as accesses
 use Rattle.gt_lines.specs.declared.calls.ScriptCall.TheVariants as calls
 
 -- the line asks for no read of bytes and for no copy
-abbrev pub AsksNoBytes : AccessCall → Type 0
-AsksNoBytes (accesses.Unmap label) = Unit {0}
-AsksNoBytes (accesses.Store label off hex) = Unit {0}
-AsksNoBytes (accesses.Poke frame off hex) = Unit {0}
-AsksNoBytes call = ⊥
-
 abbrev pub ReadsNoBytes : ScriptCall → Type 0
-ReadsNoBytes (calls.Access call) = AsksNoBytes call
+ReadsNoBytes (calls.Load label off len) = ⊥
+ReadsNoBytes (calls.Peek frame off len) = ⊥
+ReadsNoBytes (calls.Copy source dest len) = ⊥
 ReadsNoBytes call = Unit {0}
 
 -- Each call of the duty's list reads no bytes and copies none, and what it asks has the numbers that its types can hold,

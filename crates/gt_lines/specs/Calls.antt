@@ -1,75 +1,71 @@
 -- What the words of a call say: REF, DOM and the others as in Fields.
-use Rattle.std.specs.Prelude.{ℕ, ◌||◌, Bool, List, [], ◌∷◌, Option, Some, None, if◌then◌else◌, codes}
-use Rattle.std.specs.Option.{option_map}
+use Rattle.std.specs.Prelude.{ℕ, List, [], ◌∷◌, Option, Some, None, if◌then◌else◌, codes}
+use Rattle.std.specs.Option.{option_map, option_or}
 use Rattle.std.specs.Str.{bytes_eq}
 use Rattle.gt_types.specs.declared.DomId.{DomId}
 use Rattle.gt_types.specs.declared.GrantRef.{GrantRef}
+use Rattle.gt_entry.specs.declared.entry.Entry.{Entry}
+use Rattle.gt_entry.specs.declared.entry.Entry.TheVariants as entries
 use Rattle.gt_lines.specs.Fields.{◌>>=◌, u16_word, u32_word, u64_word, reference_word, domain_word, mode_word}
 use Rattle.gt_lines.specs.Fields.{flags_word, tick_word, label_word, text_where}
 use Rattle.gt_lines.specs.Hexadecimal.{hex_word}
-use Rattle.gt_lines.specs.declared.calls.Grant.{Grant}
-use Rattle.gt_lines.specs.declared.calls.Grant.TheVariants as grants
-use Rattle.gt_lines.specs.declared.calls.TableCall.{TableCall}
-use Rattle.gt_lines.specs.declared.calls.TableCall.TheVariants as tables
 use Rattle.gt_lines.specs.declared.calls.ScriptCopyEnd.{ScriptCopyEnd}
 use Rattle.gt_lines.specs.declared.calls.ScriptCopyEnd.TheVariants as ends
-use Rattle.gt_lines.specs.declared.calls.AccessCall.{AccessCall}
-use Rattle.gt_lines.specs.declared.calls.AccessCall.TheVariants as accesses
 use Rattle.gt_lines.specs.declared.calls.ScriptCall.{ScriptCall}
 use Rattle.gt_lines.specs.declared.calls.ScriptCall.TheVariants as calls
 use Rattle.gt_lines.specs.declared.calls.ScriptAction.{ScriptAction}
 use Rattle.gt_lines.specs.declared.calls.ScriptAction.TheVariants as actions
 
 -- a page: DOM MODE FRAME
-unfoldable pub page_of : List (List ℕ) → Option Grant
+unfoldable pub page_of : List (List ℕ) → Option Entry
 page_of (dom ∷ mode ∷ frame ∷ []) = do
   d ← domain_word dom
   m ← mode_word mode
   f ← u64_word frame
-  Some (grants.Page d m f)
+  Some (entries.Page d m f)
 page_of _ = None
 
 -- a sub-page: DOM MODE FRAME OFF LEN
-unfoldable pub sub_of : List (List ℕ) → Option Grant
+unfoldable pub sub_of : List (List ℕ) → Option Entry
 sub_of (dom ∷ mode ∷ frame ∷ off ∷ len ∷ []) = do
   d ← domain_word dom
   m ← mode_word mode
   f ← u64_word frame
   o ← u16_word off
   n ← u16_word len
-  Some (grants.Sub d m f o n)
+  Some (entries.Sub d m f o n)
 sub_of _ = None
 
 -- a transitive entry: DOM MODE DOM2 REF2
-unfoldable pub via_of : List (List ℕ) → Option Grant
+unfoldable pub via_of : List (List ℕ) → Option Entry
 via_of (dom ∷ mode ∷ to ∷ gref ∷ []) = do
   d ← domain_word dom
   m ← mode_word mode
   t ← domain_word to
   r ← reference_word gref
-  Some (grants.Via d m t r)
+  Some (entries.Via d m t r)
 via_of _ = None
 
 -- the entry that a grant publishes, by its kind
-unfoldable pub granted : List ℕ → List (List ℕ) → Option Grant
+unfoldable pub granted : List ℕ → List (List ℕ) → Option Entry
 granted kind args = if bytes_eq kind (codes "page") then page_of args
     else (if bytes_eq kind (codes "sub") then sub_of args
     else (if bytes_eq kind (codes "via") then via_of args else None))
 
 -- what follows `grant`: REF and an entry
-unfoldable pub grant_of : List (List ℕ) → Option TableCall
+unfoldable pub grant_of : List (List ℕ) → Option ScriptCall
 grant_of (gref ∷ kind ∷ args) = do
   r ← reference_word gref
   e ← granted kind args
-  Some (tables.Grant r e)
+  Some (calls.Grant r e)
 grant_of _ = None
 
 -- what follows `bytes`: REF HEX
-unfoldable pub bytes_of : List (List ℕ) → Option TableCall
+unfoldable pub bytes_of : List (List ℕ) → Option ScriptCall
 bytes_of (gref ∷ digits ∷ []) = do
   r ← reference_word gref
   h ← text_where hex_word digits
-  Some (tables.GrantBytes r h)
+  Some (calls.GrantBytes r h)
 bytes_of _ = None
 
 -- what follows `map`: LABEL DOM REF FLAGS
@@ -83,46 +79,46 @@ map_of (label ∷ dom ∷ gref ∷ flags ∷ []) = do
 map_of _ = None
 
 -- what follows `unmap`: LABEL
-unfoldable pub unmap_of : List (List ℕ) → Option AccessCall
+unfoldable pub unmap_of : List (List ℕ) → Option ScriptCall
 unmap_of (label ∷ []) = do
   l ← text_where label_word label
-  Some (accesses.Unmap l)
+  Some (calls.Unmap l)
 unmap_of _ = None
 
 -- what follows `load`: LABEL OFF LEN
-unfoldable pub load_of : List (List ℕ) → Option AccessCall
+unfoldable pub load_of : List (List ℕ) → Option ScriptCall
 load_of (label ∷ off ∷ len ∷ []) = do
   l ← text_where label_word label
   o ← u16_word off
   n ← u16_word len
-  Some (accesses.Load l o n)
+  Some (calls.Load l o n)
 load_of _ = None
 
 -- what follows `store`: LABEL OFF HEX
-unfoldable pub store_of : List (List ℕ) → Option AccessCall
+unfoldable pub store_of : List (List ℕ) → Option ScriptCall
 store_of (label ∷ off ∷ digits ∷ []) = do
   l ← text_where label_word label
   o ← u16_word off
   h ← text_where hex_word digits
-  Some (accesses.Store l o h)
+  Some (calls.Store l o h)
 store_of _ = None
 
 -- what follows `peek`: FRAME OFF LEN
-unfoldable pub peek_of : List (List ℕ) → Option AccessCall
+unfoldable pub peek_of : List (List ℕ) → Option ScriptCall
 peek_of (frame ∷ off ∷ len ∷ []) = do
   f ← u64_word frame
   o ← u16_word off
   n ← u16_word len
-  Some (accesses.Peek f o n)
+  Some (calls.Peek f o n)
 peek_of _ = None
 
 -- what follows `poke`: FRAME OFF HEX
-unfoldable pub poke_of : List (List ℕ) → Option AccessCall
+unfoldable pub poke_of : List (List ℕ) → Option ScriptCall
 poke_of (frame ∷ off ∷ digits ∷ []) = do
   f ← u64_word frame
   o ← u16_word off
   h ← text_where hex_word digits
-  Some (accesses.Poke f o h)
+  Some (calls.Poke f o h)
 poke_of _ = None
 
 -- an end of a copy: `gref` DOM REF OFF, or `frame` DOM FRAME OFF
@@ -138,12 +134,12 @@ end_of kind dom place off = if bytes_eq kind (codes "gref") then (do
     Some (ends.Frame d f o)) else None)
 
 -- what follows `copy`: END END LEN, the source first
-unfoldable pub copy_of : List (List ℕ) → Option AccessCall
+unfoldable pub copy_of : List (List ℕ) → Option ScriptCall
 copy_of (from_kind ∷ from_dom ∷ from ∷ from_off ∷ to_kind ∷ to_dom ∷ to ∷ to_off ∷ len ∷ []) = do
   s ← end_of from_kind from_dom from from_off
   d ← end_of to_kind to_dom to to_off
   n ← u16_word len
-  Some (accesses.Copy s d n)
+  Some (calls.Copy s d n)
 copy_of _ = None
 
 -- what follows `revoke`, `withdraw`, `demote`, `promote`, and `show` and its domain: REF
@@ -162,39 +158,32 @@ only_domain (dom ∷ []) = domain_word dom
 only_domain _ = None
 
 -- a call on a table, by its word
-unfoldable pub table_of : List ℕ → List (List ℕ) → Option TableCall
+unfoldable pub table_of : List ℕ → List (List ℕ) → Option ScriptCall
 table_of word args = if bytes_eq word (codes "grant") then grant_of args
     else (if bytes_eq word (codes "bytes") then bytes_of args
-    else (if bytes_eq word (codes "revoke") then option_map tables.Revoke (only_reference args)
-    else (if bytes_eq word (codes "withdraw") then option_map tables.Withdraw (only_reference args)
-    else (if bytes_eq word (codes "demote") then option_map tables.Demote (only_reference args)
-    else (if bytes_eq word (codes "promote") then option_map tables.Promote (only_reference args)
-    else (if bytes_eq word (codes "version") then option_map tables.SetVersion (only_number args)
-    else (if bytes_eq word (codes "setup") then option_map tables.SetupTable (only_number args)
-    else (if bytes_eq word (codes "size") then option_map tables.QuerySize (only_domain args)
-    else (if bytes_eq word (codes "getversion") then option_map tables.GetVersion (only_domain args) else None)))))))))
+    else (if bytes_eq word (codes "revoke") then option_map calls.Revoke (only_reference args)
+    else (if bytes_eq word (codes "withdraw") then option_map calls.Withdraw (only_reference args)
+    else (if bytes_eq word (codes "demote") then option_map calls.Demote (only_reference args)
+    else (if bytes_eq word (codes "promote") then option_map calls.Promote (only_reference args)
+    else (if bytes_eq word (codes "version") then option_map calls.SetVersion (only_number args)
+    else (if bytes_eq word (codes "setup") then option_map calls.SetupTable (only_number args)
+    else (if bytes_eq word (codes "size") then option_map calls.QuerySize (only_domain args)
+    else (if bytes_eq word (codes "getversion") then option_map calls.GetVersion (only_domain args) else None)))))))))
 
--- a call that ends a mapping or reaches bytes, by its word
-unfoldable pub access_of : List ℕ → List (List ℕ) → Option AccessCall
-access_of word args = if bytes_eq word (codes "unmap") then unmap_of args
+-- a call on a mapping, or one that reaches bytes, by its word
+unfoldable pub access_of : List ℕ → List (List ℕ) → Option ScriptCall
+access_of word args = if bytes_eq word (codes "map") then map_of args
+    else (if bytes_eq word (codes "unmap") then unmap_of args
     else (if bytes_eq word (codes "load") then load_of args
     else (if bytes_eq word (codes "store") then store_of args
     else (if bytes_eq word (codes "peek") then peek_of args
     else (if bytes_eq word (codes "poke") then poke_of args
-    else (if bytes_eq word (codes "copy") then copy_of args else None)))))
-
--- the word of a call that ends a mapping or reaches bytes
-abbrev pub is_access_word : List ℕ → Bool
-is_access_word word =
-    ((((bytes_eq word (codes "unmap") || bytes_eq word (codes "load")) || bytes_eq word (codes "store"))
-    || bytes_eq word (codes "peek")) || bytes_eq word (codes "poke")) || bytes_eq word (codes "copy")
+    else (if bytes_eq word (codes "copy") then copy_of args else None))))))
 
 -- a call word and its arguments
 unfoldable pub call_of : List (List ℕ) → Option ScriptCall
 call_of [] = None
-call_of (word ∷ args) = if bytes_eq word (codes "map") then map_of args
-    else (if is_access_word word then option_map calls.Access (access_of word args)
-    else option_map calls.Table (table_of word args))
+call_of (word ∷ args) = option_or (table_of word args) (access_of word args)
 
 -- what follows `tick` and its domain: N
 unfoldable pub tick_of : List (List ℕ) → Option ScriptAction

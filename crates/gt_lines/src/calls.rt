@@ -1,8 +1,8 @@
 //! The calls that a script can ask for.
 ghost use Rattle.std.specs.Prelude.{◌≡◌, map};
 ghost use Rattle.gt_lines.specs.Calls.{page_of, sub_of, via_of, granted, grant_of, map_of, unmap_of, load_of};
-ghost use Rattle.gt_lines.specs.Calls.{store_of, peek_of, poke_of, end_of, copy_of, bytes_of, only_reference};
-ghost use Rattle.gt_lines.specs.Calls.{only_number, only_domain, table_of, access_of, is_access_word, call_of};
+ghost use Rattle.gt_lines.specs.Calls.{store_of, peek_of, poke_of, end_of, copy_of, bytes_of};
+ghost use Rattle.gt_lines.specs.Calls.{only_reference, only_number, only_domain, table_of, access_of, call_of};
 ghost use Rattle.gt_lines.specs.Calls.{tick_of, action_of};
 
 use crate::fields::{
@@ -10,58 +10,8 @@ use crate::fields::{
 };
 use crate::hexadecimal::hex_text;
 use crate::texts::Text;
+use gt_entry::Entry;
 use gt_types::{DomId, GrantRef};
-
-/// What a `grant` publishes. A domain written `self` is the number 32752 and nobody's.
-#[derive(Clone, Copy, Debug, PartialEq, Eq)]
-pub enum Grant {
-    /// Any range of the owner's frame.
-    Page {
-        dom: DomId,
-        read_only: bool,
-        frame: u64,
-    },
-    /// Copies inside `len` bytes from `off` on.
-    Sub {
-        dom: DomId,
-        read_only: bool,
-        frame: u64,
-        off: u16,
-        len: u16,
-    },
-    /// Copies by the grant `gref` of `to`.
-    Via {
-        dom: DomId,
-        read_only: bool,
-        to: DomId,
-        gref: GrantRef,
-    },
-}
-
-/// A call on the caller's table: its entries, its version or its size, or on those of another domain.
-#[derive(Debug, Drop)]
-pub enum TableCall<'a> {
-    /// `grant REF page|sub|via ..`
-    Grant { gref: GrantRef, entry: Grant },
-    /// `bytes REF HEX`: the entry that these bytes spell, as `hex_bytes` reads them.
-    GrantBytes { gref: GrantRef, hex: Text<'a> },
-    /// `revoke REF`
-    Revoke { gref: GrantRef },
-    /// `withdraw REF`
-    Withdraw { gref: GrantRef },
-    /// `demote REF`
-    Demote { gref: GrantRef },
-    /// `promote REF`
-    Promote { gref: GrantRef },
-    /// `version V`: any number of 32 bits, also one of no version.
-    SetVersion { version: u32 },
-    /// `setup N`
-    SetupTable { frames: u32 },
-    /// `size DOM`
-    QuerySize { dom: DomId },
-    /// `getversion DOM`
-    GetVersion { dom: DomId },
-}
 
 /// An end of a copy: bytes from `off` on.
 #[derive(Clone, Copy, Debug, PartialEq, Eq)]
@@ -80,9 +30,43 @@ pub enum ScriptCopyEnd {
     },
 }
 
-/// A call that ends a mapping or reaches bytes. A label names the handle of the last map of that label.
+/// A call as it is written. A domain written `self` is the number 32752. A label names the handle of the last map of that
+/// label.
 #[derive(Debug, Drop)]
-pub enum AccessCall<'a> {
+pub enum ScriptCall<'a> {
+    /// `grant REF page|sub|via ..`: any entry but the invalid one. In an entry the number of `self` is nobody's.
+    Grant {
+        gref: GrantRef,
+        entry: Entry,
+    },
+    /// `bytes REF HEX`: the entry that these bytes spell, as `hex_bytes` reads them.
+    GrantBytes {
+        gref: GrantRef,
+        hex: Text<'a>,
+    },
+    /// `revoke REF`
+    Revoke {
+        gref: GrantRef,
+    },
+    /// `withdraw REF`
+    Withdraw {
+        gref: GrantRef,
+    },
+    /// `demote REF`
+    Demote {
+        gref: GrantRef,
+    },
+    /// `promote REF`
+    Promote {
+        gref: GrantRef,
+    },
+    /// `map LABEL DOM REF FLAGS`: the label names the handle that it answers.
+    Map {
+        label: Text<'a>,
+        dom: DomId,
+        gref: GrantRef,
+        flags: u32,
+    },
     /// `unmap LABEL`
     Unmap {
         label: Text<'a>,
@@ -117,20 +101,22 @@ pub enum AccessCall<'a> {
         dest: ScriptCopyEnd,
         len: u16,
     },
-}
-
-/// A call as it is written.
-#[derive(Debug, Drop)]
-pub enum ScriptCall<'a> {
-    Table(TableCall<'a>),
-    /// `map LABEL DOM REF FLAGS`: the label names the handle that it answers.
-    Map {
-        label: Text<'a>,
-        dom: DomId,
-        gref: GrantRef,
-        flags: u32,
+    /// `version V`: any number of 32 bits, also one of no version.
+    SetVersion {
+        version: u32,
     },
-    Access(AccessCall<'a>),
+    /// `setup N`
+    SetupTable {
+        frames: u32,
+    },
+    /// `size DOM`
+    QuerySize {
+        dom: DomId,
+    },
+    /// `getversion DOM`
+    GetVersion {
+        dom: DomId,
+    },
 }
 
 /// What a line of the body asks of its domain.
@@ -147,13 +133,13 @@ pub enum ScriptAction<'a> {
 }
 
 #[tactic(auto, unfolding(crate::specs::Calls::page_of))]
-fn read_page(args: &[&[u8]]) -> Option<Grant>
+fn read_page(args: &[&[u8]]) -> Option<Entry>
     ensures { result ≡ page_of (map (λ word. word.now) args.now) }
 {
     match args {
-        [dom, access, frame] => Some(Grant::Page {
+        [dom, access, frame] => Some(Entry::Page {
             dom: domain(dom)?,
-            read_only: mode(access)?,
+            ro: mode(access)?,
             frame: u64_of(frame)?,
         }),
         _ => None,
@@ -161,13 +147,13 @@ fn read_page(args: &[&[u8]]) -> Option<Grant>
 }
 
 #[tactic(auto, unfolding(crate::specs::Calls::sub_of))]
-fn read_sub(args: &[&[u8]]) -> Option<Grant>
+fn read_sub(args: &[&[u8]]) -> Option<Entry>
     ensures { result ≡ sub_of (map (λ word. word.now) args.now) }
 {
     match args {
-        [dom, access, frame, off, len] => Some(Grant::Sub {
+        [dom, access, frame, off, len] => Some(Entry::Sub {
             dom: domain(dom)?,
-            read_only: mode(access)?,
+            ro: mode(access)?,
             frame: u64_of(frame)?,
             off: u16_of(off)?,
             len: u16_of(len)?,
@@ -177,14 +163,14 @@ fn read_sub(args: &[&[u8]]) -> Option<Grant>
 }
 
 #[tactic(auto, unfolding(crate::specs::Calls::via_of))]
-fn read_via(args: &[&[u8]]) -> Option<Grant>
+fn read_via(args: &[&[u8]]) -> Option<Entry>
     ensures { result ≡ via_of (map (λ word. word.now) args.now) }
 {
     match args {
-        [dom, access, to, gref] => Some(Grant::Via {
+        [dom, access, to, gref] => Some(Entry::Via {
             dom: domain(dom)?,
-            read_only: mode(access)?,
-            to: domain(to)?,
+            ro: mode(access)?,
+            dom2: domain(to)?,
             gref: reference(gref)?,
         }),
         _ => None,
@@ -192,7 +178,7 @@ fn read_via(args: &[&[u8]]) -> Option<Grant>
 }
 
 #[tactic(auto, unfolding(crate::specs::Calls::granted))]
-fn read_entry(kind: &[u8], args: &[&[u8]]) -> Option<Grant>
+fn read_entry(kind: &[u8], args: &[&[u8]]) -> Option<Entry>
     ensures { result ≡ granted kind.now (map (λ word. word.now) args.now) }
 {
     if is(kind, "page") {
@@ -207,11 +193,11 @@ fn read_entry(kind: &[u8], args: &[&[u8]]) -> Option<Grant>
 }
 
 #[tactic(auto, unfolding(crate::specs::Calls::grant_of))]
-fn read_grant<'a>(args: &[&'a [u8]]) -> Option<TableCall<'a>>
+fn read_grant<'a>(args: &[&'a [u8]]) -> Option<ScriptCall<'a>>
     ensures { result ≡ grant_of (map (λ word. word.now) args.now) }
 {
     match args {
-        [gref, kind, rest @ ..] => Some(TableCall::Grant {
+        [gref, kind, rest @ ..] => Some(ScriptCall::Grant {
             gref: reference(gref)?,
             entry: read_entry(kind, rest)?,
         }),
@@ -220,11 +206,11 @@ fn read_grant<'a>(args: &[&'a [u8]]) -> Option<TableCall<'a>>
 }
 
 #[tactic(auto, unfolding(crate::specs::Calls::bytes_of))]
-fn read_bytes<'a>(args: &[&'a [u8]]) -> Option<TableCall<'a>>
+fn read_bytes<'a>(args: &[&'a [u8]]) -> Option<ScriptCall<'a>>
     ensures { result ≡ bytes_of (map (λ word. word.now) args.now) }
 {
     match args {
-        [gref, digits] => Some(TableCall::GrantBytes {
+        [gref, digits] => Some(ScriptCall::GrantBytes {
             gref: reference(gref)?,
             hex: hex_text(digits)?,
         }),
@@ -248,11 +234,11 @@ fn read_map<'a>(args: &[&'a [u8]]) -> Option<ScriptCall<'a>>
 }
 
 #[tactic(auto, unfolding(crate::specs::Calls::unmap_of))]
-fn read_unmap<'a>(args: &[&'a [u8]]) -> Option<AccessCall<'a>>
+fn read_unmap<'a>(args: &[&'a [u8]]) -> Option<ScriptCall<'a>>
     ensures { result ≡ unmap_of (map (λ word. word.now) args.now) }
 {
     match args {
-        [name] => Some(AccessCall::Unmap {
+        [name] => Some(ScriptCall::Unmap {
             label: label(name)?,
         }),
         _ => None,
@@ -260,11 +246,11 @@ fn read_unmap<'a>(args: &[&'a [u8]]) -> Option<AccessCall<'a>>
 }
 
 #[tactic(auto, unfolding(crate::specs::Calls::load_of))]
-fn read_load<'a>(args: &[&'a [u8]]) -> Option<AccessCall<'a>>
+fn read_load<'a>(args: &[&'a [u8]]) -> Option<ScriptCall<'a>>
     ensures { result ≡ load_of (map (λ word. word.now) args.now) }
 {
     match args {
-        [name, off, len] => Some(AccessCall::Load {
+        [name, off, len] => Some(ScriptCall::Load {
             label: label(name)?,
             off: u16_of(off)?,
             len: u16_of(len)?,
@@ -274,11 +260,11 @@ fn read_load<'a>(args: &[&'a [u8]]) -> Option<AccessCall<'a>>
 }
 
 #[tactic(auto, unfolding(crate::specs::Calls::store_of))]
-fn read_store<'a>(args: &[&'a [u8]]) -> Option<AccessCall<'a>>
+fn read_store<'a>(args: &[&'a [u8]]) -> Option<ScriptCall<'a>>
     ensures { result ≡ store_of (map (λ word. word.now) args.now) }
 {
     match args {
-        [name, off, digits] => Some(AccessCall::Store {
+        [name, off, digits] => Some(ScriptCall::Store {
             label: label(name)?,
             off: u16_of(off)?,
             hex: hex_text(digits)?,
@@ -288,11 +274,11 @@ fn read_store<'a>(args: &[&'a [u8]]) -> Option<AccessCall<'a>>
 }
 
 #[tactic(auto, unfolding(crate::specs::Calls::peek_of))]
-fn read_peek<'a>(args: &[&'a [u8]]) -> Option<AccessCall<'a>>
+fn read_peek<'a>(args: &[&'a [u8]]) -> Option<ScriptCall<'a>>
     ensures { result ≡ peek_of (map (λ word. word.now) args.now) }
 {
     match args {
-        [frame, off, len] => Some(AccessCall::Peek {
+        [frame, off, len] => Some(ScriptCall::Peek {
             frame: u64_of(frame)?,
             off: u16_of(off)?,
             len: u16_of(len)?,
@@ -302,11 +288,11 @@ fn read_peek<'a>(args: &[&'a [u8]]) -> Option<AccessCall<'a>>
 }
 
 #[tactic(auto, unfolding(crate::specs::Calls::poke_of))]
-fn read_poke<'a>(args: &[&'a [u8]]) -> Option<AccessCall<'a>>
+fn read_poke<'a>(args: &[&'a [u8]]) -> Option<ScriptCall<'a>>
     ensures { result ≡ poke_of (map (λ word. word.now) args.now) }
 {
     match args {
-        [frame, off, digits] => Some(AccessCall::Poke {
+        [frame, off, digits] => Some(ScriptCall::Poke {
             frame: u64_of(frame)?,
             off: u16_of(off)?,
             hex: hex_text(digits)?,
@@ -337,7 +323,7 @@ fn read_end(kind: &[u8], dom: &[u8], place: &[u8], off: &[u8]) -> Option<ScriptC
 }
 
 #[tactic(auto, unfolding(crate::specs::Calls::copy_of))]
-fn read_copy<'a>(args: &[&'a [u8]]) -> Option<AccessCall<'a>>
+fn read_copy<'a>(args: &[&'a [u8]]) -> Option<ScriptCall<'a>>
     ensures { result ≡ copy_of (map (λ word. word.now) args.now) }
 {
     match args {
@@ -352,7 +338,7 @@ fn read_copy<'a>(args: &[&'a [u8]]) -> Option<AccessCall<'a>>
             to_off,
             len,
         ] => {
-            Some(AccessCall::Copy {
+            Some(ScriptCall::Copy {
                 source: read_end(from_kind, from_dom, from, from_off)?,
                 dest: read_end(to_kind, to_dom, to, to_off)?,
                 len: u16_of(len)?,
@@ -395,8 +381,9 @@ fn only_domain(args: &[&[u8]]) -> Option<DomId>
     }
 }
 
+// A call on a table: its entries, its version or its size.
 #[tactic(auto, unfolding(crate::specs::Calls::table_of))]
-fn read_table_call<'a>(word: &[u8], args: &[&'a [u8]]) -> Option<TableCall<'a>>
+fn read_table_call<'a>(word: &[u8], args: &[&'a [u8]]) -> Option<ScriptCall<'a>>
     ensures { result ≡ table_of word.now (map (λ word. word.now) args.now) }
 {
     if is(word, "grant") {
@@ -404,35 +391,35 @@ fn read_table_call<'a>(word: &[u8], args: &[&'a [u8]]) -> Option<TableCall<'a>>
     } else if is(word, "bytes") {
         read_bytes(args)
     } else if is(word, "revoke") {
-        Some(TableCall::Revoke {
+        Some(ScriptCall::Revoke {
             gref: only_reference(args)?,
         })
     } else if is(word, "withdraw") {
-        Some(TableCall::Withdraw {
+        Some(ScriptCall::Withdraw {
             gref: only_reference(args)?,
         })
     } else if is(word, "demote") {
-        Some(TableCall::Demote {
+        Some(ScriptCall::Demote {
             gref: only_reference(args)?,
         })
     } else if is(word, "promote") {
-        Some(TableCall::Promote {
+        Some(ScriptCall::Promote {
             gref: only_reference(args)?,
         })
     } else if is(word, "version") {
-        Some(TableCall::SetVersion {
+        Some(ScriptCall::SetVersion {
             version: only_number(args)?,
         })
     } else if is(word, "setup") {
-        Some(TableCall::SetupTable {
+        Some(ScriptCall::SetupTable {
             frames: only_number(args)?,
         })
     } else if is(word, "size") {
-        Some(TableCall::QuerySize {
+        Some(ScriptCall::QuerySize {
             dom: only_domain(args)?,
         })
     } else if is(word, "getversion") {
-        Some(TableCall::GetVersion {
+        Some(ScriptCall::GetVersion {
             dom: only_domain(args)?,
         })
     } else {
@@ -440,11 +427,14 @@ fn read_table_call<'a>(word: &[u8], args: &[&'a [u8]]) -> Option<TableCall<'a>>
     }
 }
 
+// A call on a mapping, or one that reaches bytes.
 #[tactic(auto, unfolding(crate::specs::Calls::access_of))]
-fn read_access_call<'a>(word: &[u8], args: &[&'a [u8]]) -> Option<AccessCall<'a>>
+fn read_access_call<'a>(word: &[u8], args: &[&'a [u8]]) -> Option<ScriptCall<'a>>
     ensures { result ≡ access_of word.now (map (λ word. word.now) args.now) }
 {
-    if is(word, "unmap") {
+    if is(word, "map") {
+        read_map(args)
+    } else if is(word, "unmap") {
         read_unmap(args)
     } else if is(word, "load") {
         read_load(args)
@@ -461,29 +451,14 @@ fn read_access_call<'a>(word: &[u8], args: &[&'a [u8]]) -> Option<AccessCall<'a>
     }
 }
 
-// A word of a call that ends a mapping or reaches bytes.
-fn is_access_word(word: &[u8]) -> bool
-    ensures { result ≡ is_access_word word.now }
-{
-    is(word, "unmap")
-        || is(word, "load")
-        || is(word, "store")
-        || is(word, "peek")
-        || is(word, "poke")
-        || is(word, "copy")
-}
-
 #[tactic(auto, unfolding(crate::specs::Calls::call_of))]
 fn read_call<'a>(words: &[&'a [u8]]) -> Option<ScriptCall<'a>>
     ensures { result ≡ call_of (map (λ word. word.now) words.now) }
 {
     let (word, args) = words.split_first()?;
-    if is(word, "map") {
-        read_map(args)
-    } else if is_access_word(word) {
-        Some(ScriptCall::Access(read_access_call(word, args)?))
-    } else {
-        Some(ScriptCall::Table(read_table_call(word, args)?))
+    match read_table_call(word, args) {
+        Some(call) => Some(call),
+        None => read_access_call(word, args),
     }
 }
 

@@ -6,8 +6,8 @@
 //! memory but for the list of its words.
 //!
 //! What the words mean is defined by patterns on them, in `specs/`, word by word; each function here answers exactly
-//! that. Whether a line is in its place is not judged here. The crate uses `gt_types`, whose names and numbers the
-//! words spell, and `hex`.
+//! that. Whether a line is in its place is not judged here. The crate uses `gt_types` and `gt_entry`,
+//! whose names, numbers and entries the words spell, and `hex`.
 #![tactic(auto)]
 
 mod calls;
@@ -20,7 +20,7 @@ mod signals;
 mod texts;
 mod words;
 
-pub use calls::{AccessCall, Grant, ScriptAction, ScriptCall, ScriptCopyEnd, TableCall};
+pub use calls::{ScriptAction, ScriptCall, ScriptCopyEnd};
 pub use fields::is;
 pub use hexadecimal::hex_bytes;
 pub use laws::every_hex_text_says_its_bytes;

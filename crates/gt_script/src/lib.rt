@@ -24,7 +24,7 @@ mod tasks;
 mod types;
 
 pub use faults::{BlockFault, ScriptError, ScriptFault, ScriptFaultKind};
-pub use gt_lines::{AccessCall, Grant, ScriptAction, ScriptCall, TableCall, Text, hex_bytes};
+pub use gt_lines::{ScriptAction, ScriptCall, Text, hex_bytes};
 pub use laws::{every_fault_that_stands_is_told, every_text_tells_one_thing};
 pub use run_script::{RunScript, parse_run};
 pub use script::{Script, ScriptStep, parse};

@@ -4,9 +4,7 @@ ghost use Rattle.gt_advice.specs.Check.{error_lines};
 
 use crate::warning::{column_number, push_warning};
 use gt_advice::{Finding, Kind, push_hint, said_of};
-use gt_lines::{
-    AccessCall, BodyLine, Line, Number, ScriptAction, ScriptCall, line_words, read_line,
-};
+use gt_lines::{BodyLine, Line, Number, ScriptAction, ScriptCall, line_words, read_line};
 use gt_reasons::column_of;
 use gt_streams::text_of;
 use std::alloc::{AllocError, Global};
@@ -23,9 +21,9 @@ pub(crate) struct Label<'t> {
 fn label_of<'t>(call: &ScriptCall<'t>) -> Option<(&'t [u8], bool)> {
     match call {
         ScriptCall::Map { label, .. } => Some((label.as_bytes(), true)),
-        ScriptCall::Access(AccessCall::Unmap { label }) => Some((label.as_bytes(), false)),
-        ScriptCall::Access(AccessCall::Load { label, .. }) => Some((label.as_bytes(), false)),
-        ScriptCall::Access(AccessCall::Store { label, .. }) => Some((label.as_bytes(), false)),
+        ScriptCall::Unmap { label }
+        | ScriptCall::Load { label, .. }
+        | ScriptCall::Store { label, .. } => Some((label.as_bytes(), false)),
         _ => None,
     }
 }
