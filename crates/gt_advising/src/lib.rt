@@ -4,8 +4,8 @@
 //! [`check_script`] a script. [`why`] writes by which statements a policy allows something, or comes near
 //! it. They work over any reader and writer, so the program and a test drive the same code.
 //!
-//! What holds: `check` answers true exactly for a policy, and `check_script` exactly for a script. `why` answers as the statements say, and the
-//! lines that go out are those of the statements that grant what is asked, or that come near it.
+//! What holds: `check` answers true exactly for a policy, and `check_script` exactly for a script.
+//! `why` answers as the statements say, and the lines that go out are those of the statements that grant what is asked, or that come near it.
 //!
 //! It uses `gt_advice` (the findings and the lines), `gt_listing` (the faults of a text), `gt_policy`,
 //! `gt_script` and `gt_script_advice` (scripts), `gt_streams` (reads and writes) and `gt_types`.
