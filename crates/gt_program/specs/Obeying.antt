@@ -139,7 +139,8 @@ TellsDump version hex every script format input old new r =
     (asked : Asked) × IsAsked version hex every script asked × TellsEntries format asked input old new r
 
 -- The exit status fits what was asked for, and what was written does: a script that was played or run, a policy that
--- was listed, a policy or a script that was checked, a question that was answered, a dump that was told, the rules, where the status is 2
+-- was listed, a policy or a script that was checked, a question that was answered, a dump that was told, the rules,
+-- where the status is 2
 -- for the name of none, help, the version, or nothing for words that ask for nothing,
 -- whose status is 2 and for which nothing is written. Where memory is
 -- refused, the status is 1 for all of them. (own)
