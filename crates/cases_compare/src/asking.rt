@@ -1,9 +1,11 @@
 //! A core and running domains that are asked the same.
+use crate::scarce::{Place, Scarce};
 use anyhow::bail;
 use gt_core::{Answer, Begun, Core, Request, Ticked};
 use gt_host::Rights;
 use gt_running::Running;
 use gt_types::{DomId, DomainConfig, Rule};
+use std::alloc::Global;
 use std::sync::Wait;
 
 // No call takes more steps.
@@ -27,38 +29,89 @@ pub enum Asked {
     Refused,
 }
 
-// The next tick, made again if memory was refused.
-fn ticked(core: &mut Core<Rights>, dom: DomId) -> anyhow::Result<Ticked> {
-    if let Ok(ticked) = core.tick(dom) {
-        return Ok(ticked);
+// The next tick, in the memory that it finds; none if memory was refused.
+fn tick_once(
+    core: &mut Core<Rights>,
+    scarce: &mut Scarce,
+    dom: DomId,
+) -> anyhow::Result<Option<Ticked>> {
+    scarce.close()?;
+    let ticked = core.tick(dom).ok();
+    scarce.lift();
+    Ok(ticked)
+}
+
+// The next tick, made again each time that memory is refused.
+fn ticked(
+    core: &mut Core<Rights>,
+    scarce: &mut Scarce,
+    dom: DomId,
+    request: Request<'_>,
+) -> anyhow::Result<Ticked> {
+    for _ in 0..scarce.begin() {
+        if let Some(ticked) = tick_once(core, scarce, dom)? {
+            return Ok(ticked);
+        }
+        scarce.refused(Place::Tick, request)?;
     }
-    match core.tick(dom) {
-        Ok(ticked) => Ok(ticked),
-        Err(_) => bail!("memory"),
-    }
+    bail!("memory")
 }
 
 // The open call's answer, once its steps are made.
-fn ended(core: &mut Core<Rights>, dom: DomId) -> anyhow::Result<Answer> {
+fn ended(
+    core: &mut Core<Rights>,
+    scarce: &mut Scarce,
+    dom: DomId,
+    request: Request<'_>,
+) -> anyhow::Result<Answer> {
     for _ in 0..MOST_STEPS {
-        if let Ticked::Done(_, _, answer) = ticked(core, dom)? {
+        if let Ticked::Done(_, _, answer) = ticked(core, scarce, dom, request)? {
             return Ok(answer);
         }
     }
     bail!("a call of the core does not end")
 }
 
-// A whole call of the core, begun again if memory was refused.
-fn on_core(core: &mut Core<Rights>, dom: DomId, request: Request<'_>) -> anyhow::Result<Answer> {
-    let begun = match core.begin(dom, request) {
-        Ok(begun) => Ok(begun),
-        Err(_) => core.begin(dom, request),
-    };
-    match begun {
-        Ok(Begun::Done(answer)) => Ok(answer),
-        Ok(Begun::Open) => ended(core, dom),
-        Ok(Begun::Busy | Begun::NoDomain) => bail!("the core takes no call of this domain"),
-        Err(_) => bail!("memory"),
+// A call of the core, begun in the memory that it finds; none if memory was refused.
+fn begin_once(
+    core: &mut Core<Rights>,
+    scarce: &mut Scarce,
+    dom: DomId,
+    request: Request<'_>,
+) -> anyhow::Result<Option<Begun>> {
+    scarce.close()?;
+    let begun = core.begin(dom, request).ok();
+    scarce.lift();
+    Ok(begun)
+}
+
+// A call of the core, begun again each time that memory is refused.
+fn begun(
+    core: &mut Core<Rights>,
+    scarce: &mut Scarce,
+    dom: DomId,
+    request: Request<'_>,
+) -> anyhow::Result<Begun> {
+    for _ in 0..scarce.begin() {
+        if let Some(begun) = begin_once(core, scarce, dom, request)? {
+            return Ok(begun);
+        }
+        scarce.refused(Place::Begin, request)?;
+    }
+    bail!("memory")
+}
+
+// A whole call of the core.
+fn on_core(
+    core: &mut Core<Rights>,
+    scarce: &mut Scarce,
+    dom: DomId,
+    request: Request<'_>,
+) -> anyhow::Result<Answer> {
+    match begun(core, scarce, dom, request)? {
+        Begun::Done(answer) => Ok(answer),
+        Begun::Open => ended(core, scarce, dom, request),
+        Begun::Busy | Begun::NoDomain => bail!("the core takes no call of this domain"),
     }
 }
 
@@ -94,25 +147,43 @@ fn is_of_memory(answer: &Answer) -> bool {
 }
 
 impl<'m> Both<'m> {
+    // What the domain at this place on the monitor answers.
+    fn on_monitor<R: Wait>(
+        &mut self,
+        rt: &R,
+        scarce: &mut Scarce,
+        place: usize,
+        request: Request<'_>,
+    ) -> anyhow::Result<Answer> {
+        let Some(domain) = self.domains.get_mut(place) else {
+            bail!("no such domain");
+        };
+        scarce.close()?;
+        let live = domain.make(rt, request);
+        scarce.lift();
+        if is_of_memory(&live) {
+            scarce.refused(Place::Monitor, request)?;
+            if matches!(request, Request::Map { .. } | Request::Copy(_)) {
+                self.refused = self.refused.saturating_add(1);
+            }
+        }
+        Ok(live)
+    }
+
     /// Asks the domain at this place on the monitor, and then on the core.
     pub fn ask<R: Wait>(
         &mut self,
         rt: &R,
+        scarce: &mut Scarce,
         place: usize,
         dom: DomId,
         request: Request<'_>,
     ) -> anyhow::Result<Asked> {
-        let Some(domain) = self.domains.get_mut(place) else {
-            bail!("no such domain");
-        };
-        let live = domain.make(rt, request);
+        let live = self.on_monitor(rt, scarce, place, request)?;
         if is_of_memory(&live) {
-            if matches!(request, Request::Map { .. } | Request::Copy(_)) {
-                self.refused = self.refused.saturating_add(1);
-            }
             return Ok(Asked::Refused);
         }
-        let answer = on_core(&mut self.core, dom, request)?;
+        let answer = on_core(&mut self.core, scarce, dom, request)?;
         if is_same(&live, &answer) {
             Ok(Asked::Alike(live))
         } else {
@@ -124,12 +195,14 @@ impl<'m> Both<'m> {
     pub fn agrees<R: Wait>(
         &mut self,
         rt: &R,
+        alloc: Global,
         place: usize,
         dom: DomId,
         request: Request<'_>,
     ) -> anyhow::Result<bool> {
-        let asked = match self.ask(rt, place, dom, request)? {
-            Asked::Refused => self.ask(rt, place, dom, request)?,
+        let mut plenty = Scarce::plenty(alloc);
+        let asked = match self.ask(rt, &mut plenty, place, dom, request)? {
+            Asked::Refused => self.ask(rt, &mut plenty, place, dom, request)?,
             asked => asked,
         };
         Ok(matches!(asked, Asked::Alike(_)))

@@ -1,5 +1,6 @@
 //! One script on both.
 use crate::asking::{Asked, Both, place_of};
+use crate::scarce::Scarce;
 use crate::texts::text_difference;
 use anyhow::bail;
 use gt_core::{Answer, Core, Request};
@@ -16,11 +17,13 @@ const ENTRIES: u32 = 9;
 
 const PAGE: u16 = 4_096;
 
-/// What came of a script: its calls, how many were Ok, and the first difference, if there is one.
+/// What came of a script: its calls, how many were Ok, which were refused memory, and the first difference, if there is
+/// one.
 #[derive(Drop)]
 pub struct Compared {
     pub calls: usize,
     pub done: usize,
+    pub refused: String,
     pub difference: Option<String>,
 }
 
@@ -49,6 +52,7 @@ fn rights(alloc: Global, script: &Script<'_>) -> anyhow::Result<Rights> {
 // The first frame of a domain, or the first entry, in which both differ. The entries are mapped by the last domain.
 fn shown_of<R: Wait>(
     rt: &R,
+    alloc: Global,
     both: &mut Both<'_>,
     place: usize,
     domain: DomainConfig,
@@ -60,7 +64,7 @@ fn shown_of<R: Wait>(
             off: 0,
             len: PAGE,
         };
-        if !both.agrees(rt, place, domain.id, peek)? {
+        if !both.agrees(rt, alloc, place, domain.id, peek)? {
             return Ok(Some(Shows::Frame(domain.id.0, frame)));
         }
     }
@@ -71,7 +75,7 @@ fn shown_of<R: Wait>(
             gref: GrantRef(gref),
             flags: READ_ONLY,
         };
-        if !both.agrees(rt, looker, last.id, map)? {
+        if !both.agrees(rt, alloc, looker, last.id, map)? {
             return Ok(Some(Shows::Entry(domain.id.0, gref)));
         }
     }
@@ -81,6 +85,7 @@ fn shown_of<R: Wait>(
 // The first of all domains' frames and entries in which both differ.
 fn shown_by_all<R: Wait>(
     rt: &R,
+    alloc: Global,
     both: &mut Both<'_>,
     domains: &[DomainConfig],
 ) -> anyhow::Result<Option<Shows>> {
@@ -88,7 +93,7 @@ fn shown_by_all<R: Wait>(
         return Ok(None);
     };
     'domains: for (place, domain) in domains.iter().enumerate() {
-        let shown = shown_of(rt, both, place, *domain, *last)?;
+        let shown = shown_of(rt, alloc, both, place, *domain, *last)?;
         if shown.is_some() {
             return Ok(shown);
         }
@@ -112,27 +117,29 @@ enum Came {
     Differs(Shows),
 }
 
-// What a call is answered on both. If the monitor was refused memory, both show what they did before, and the call
-// is made again.
+// What a call is answered on both. Each time that the monitor was refused memory, both show what they did before, and
+// the call is made again.
 fn answered<R: Wait>(
     rt: &R,
+    alloc: Global,
     both: &mut Both<'_>,
+    scarce: &mut Scarce,
     domains: &[DomainConfig],
     dom: DomId,
     request: Request<'_>,
 ) -> anyhow::Result<Result<Answer, Came>> {
     let place = place_of(domains, dom);
-    let mut asked = both.ask(rt, place, dom, request)?;
-    if matches!(asked, Asked::Refused) {
-        if let Some(shows) = shown_by_all(rt, both, domains)? {
+    for _ in 0..scarce.begin() {
+        match both.ask(rt, scarce, place, dom, request)? {
+            Asked::Alike(answer) => return Ok(Ok(answer)),
+            Asked::Otherwise => return Ok(Err(Came::Otherwise)),
+            Asked::Refused => {}
+        }
+        if let Some(shows) = shown_by_all(rt, alloc, both, domains)? {
             return Ok(Err(Came::Differs(shows)));
         }
-        asked = both.ask(rt, place, dom, request)?;
     }
-    match asked {
-        Asked::Alike(answer) => Ok(Ok(answer)),
-        Asked::Otherwise | Asked::Refused => Ok(Err(Came::Otherwise)),
-    }
+    Ok(Err(Came::Otherwise))
 }
 
 // Makes the call of a line on both, adds the line of its answer, and compares what both show then.
@@ -140,6 +147,7 @@ fn call_made<'a, R: Wait>(
     rt: &R,
     alloc: Global,
     both: &mut Both<'_>,
+    scarce: &mut Scarce,
     script: &Script<'a>,
     labels: &mut Labels<'a>,
     step: &ScriptStep<'a>,
@@ -149,7 +157,7 @@ fn call_made<'a, R: Wait>(
     let call = call_of(step)?;
     let bytes = bytes_said(alloc, call)?;
     let request = request_of(labels, step.dom, bytes.as_slice(), call);
-    let answer = match answered(rt, both, script.domains(), step.dom, request)? {
+    let answer = match answered(rt, alloc, both, scarce, script.domains(), step.dom, request)? {
         Ok(answer) => answer,
         Err(came) => return Ok(came),
     };
@@ -157,7 +165,7 @@ fn call_made<'a, R: Wait>(
         labels.name(step.dom, label, *handle)?;
     }
     push_answer_line(alloc, out, names, step.line, step.dom, &answer)?;
-    match shown_by_all(rt, both, script.domains())? {
+    match shown_by_all(rt, alloc, both, script.domains())? {
         Some(shows) => Ok(Came::Differs(shows)),
         None if matches!(answer, Answer::Denied(_)) => Ok(Came::Denied),
         None => Ok(Came::Done),
@@ -185,7 +193,9 @@ fn lines_compared<'a, R: Wait>(
     both: &mut Both<'_>,
     script: &Script<'a>,
     text: &str,
+    is_refusing: bool,
 ) -> anyhow::Result<Compared> {
+    let mut scarce = Scarce::new(alloc, is_refusing)?;
     let names = script.type_names(alloc)?;
     let (mut labels, mut out) = (Labels::new(alloc), Vec::new(alloc));
     let (mut calls, mut done) = (0usize, 0usize);
@@ -195,6 +205,7 @@ fn lines_compared<'a, R: Wait>(
             rt,
             alloc,
             both,
+            &mut scarce,
             script,
             &mut labels,
             step,
@@ -209,10 +220,12 @@ fn lines_compared<'a, R: Wait>(
             return Ok(Compared {
                 calls,
                 done,
+                refused: scarce.said(alloc)?,
                 difference,
             });
         }
     }
+    scarce.open();
     let difference = text_difference(
         alloc,
         text,
@@ -224,20 +237,32 @@ fn lines_compared<'a, R: Wait>(
     Ok(Compared {
         calls,
         done,
+        refused: scarce.said(alloc)?,
         difference,
     })
 }
 
-/// Plays a script on both.
-pub fn compare<R: Wait>(rt: &R, alloc: Global, text: &str) -> anyhow::Result<Compared> {
+// A core that the script configures.
+fn core_of(alloc: Global, script: &Script<'_>) -> anyhow::Result<Core<Rights>> {
+    let (config, allowed) = (configured(alloc, script)?, rights(alloc, script)?);
+    match Core::new(alloc, config, allowed) {
+        Ok(core) => Ok(core),
+        Err(_) => bail!("the core does not start"),
+    }
+}
+
+/// Plays a script on both; with `is_refusing` each request for memory of each call is refused once.
+pub fn compare<R: Wait>(
+    rt: &R,
+    alloc: Global,
+    text: &str,
+    is_refusing: bool,
+) -> anyhow::Result<Compared> {
     let Ok(script) = parse(alloc, text.as_bytes()) else {
         bail!("a script has a fault");
     };
     let (config, allowed) = (configured(alloc, &script)?, rights(alloc, &script)?);
-    let Ok(core) = Core::new(alloc, config, allowed) else {
-        bail!("the core does not start");
-    };
-    let (config, allowed) = (configured(alloc, &script)?, rights(alloc, &script)?);
+    let core = core_of(alloc, &script)?;
     let Ok((monitor, domains)) = Monitor::new(alloc, config, allowed) else {
         bail!("the monitor does not start");
     };
@@ -249,5 +274,5 @@ pub fn compare<R: Wait>(rt: &R, alloc: Global, text: &str) -> anyhow::Result<Com
         domains,
         refused: 0,
     };
-    lines_compared(rt, alloc, &mut both, &script, text)
+    lines_compared(rt, alloc, &mut both, &script, text, is_refusing)
 }

@@ -13,15 +13,17 @@
 //!
 //! At the end the lines that these answers print, and the records of the domains but the last, are compared with the
 //! text of `gt_host::play` with its audit. What is printed of a name are the scripts, the calls and those of them that
-//! were Ok, or the first difference. A script is added by its lines in a file, and costs no proof. Others are made by
+//! were Ok, or the first difference. After the word `--refusing` each request for memory of each call is refused in
+//! turn, on the monitor and on the core, and lines say which calls of each script were refused where. A script is added by its lines in a file, and costs no proof. Others are made by
 //! `bench/compare.sh`, as many as are asked for.
 #![tactic(auto)]
 
 mod asking;
 mod comparing;
+mod scarce;
 mod texts;
 
-use comparing::compare;
+use comparing::{Compared, compare};
 use std::alloc::Global;
 use std::fs;
 use std::rt::Runtime;
@@ -36,7 +38,13 @@ struct Tally {
 }
 
 // Compares the bodies one after the other, to the first one that differs.
-fn compare_all<R: Wait>(rt: &R, alloc: Global, text: &str) -> anyhow::Result<String> {
+fn compare_all<R: Wait>(
+    rt: &R,
+    alloc: Global,
+    text: &str,
+    is_refusing: bool,
+) -> anyhow::Result<String> {
+    let mut refused = String::new(alloc);
     let mut tally = Tally {
         scripts: 0,
         calls: 0,
@@ -45,11 +53,17 @@ fn compare_all<R: Wait>(rt: &R, alloc: Global, text: &str) -> anyhow::Result<Str
     let (head, bodies) = text.split_once("====\n").unwrap_or(("", text));
     'bodies: for body in bodies.split("----\n") {
         let script = format!(in alloc; "{head}{body}")?;
-        let said = compare(rt, alloc, script.as_str())?;
+        let Compared {
+            calls,
+            done,
+            refused: names,
+            difference,
+        } = compare(rt, alloc, script.as_str(), is_refusing)?;
         tally.scripts = tally.scripts.saturating_add(1);
-        tally.calls = tally.calls.saturating_add(said.calls);
-        tally.done = tally.done.saturating_add(said.done);
-        if let Some(difference) = said.difference {
+        tally.calls = tally.calls.saturating_add(calls);
+        tally.done = tally.done.saturating_add(done);
+        refused.push_str(names.as_str())?;
+        if let Some(difference) = difference {
             return Ok(format!(in alloc; "script {}: {difference}\n", tally.scripts)?);
         }
     }
@@ -58,16 +72,21 @@ fn compare_all<R: Wait>(rt: &R, alloc: Global, text: &str) -> anyhow::Result<Str
         calls,
         done,
     } = tally;
-    Ok(format!(in alloc; "{scripts} scripts, {calls} calls, {done} of them ok\n")?)
+    Ok(format!(in alloc; "{scripts} scripts, {calls} calls, {done} of them ok\n{refused}")?)
 }
 
 fn main(rt: HostRuntime) -> anyhow::Result<()> {
     let alloc = rt.alloc();
     let words: Vec<String> = std::env::args(&rt)?.collect(alloc)?;
+    let mut is_refusing = false;
     'names: for word in words.iter().skip(1) {
+        if word.as_str() == "--refusing" {
+            is_refusing = true;
+            continue;
+        }
         let path = format!(in alloc; "{word}.gt")?;
         let text = fs::read_to_string(&rt, path.as_str())?;
-        let said = compare_all(&rt, alloc, text.as_str())?;
+        let said = compare_all(&rt, alloc, text.as_str(), is_refusing)?;
         print!(rt; "{word}: {said}")?;
     }
     Ok(())
