@@ -1,6 +1,6 @@
 //! Domains beside the monitor that they came with.
 ghost use Rattle.std.specs.Prelude.{All};
-ghost use Rattle.gt_live.specs.Domains.{IsOf};
+ghost use Rattle.gt_live.specs.Domains.{BelongsTo};
 
 use gt_audit::Trail;
 use gt_calls::{CopyArgs, Handle};
@@ -37,13 +37,13 @@ pub struct Running<'m, P: Allows> {
 
 impl<'m, P: Allows> Model for Running<'m, P> {
     ghost use Rattle.gt_types.specs.declared.DomId.{DomId};
-    ghost use Rattle.gt_live.specs.Domains.{IsOf};
+    ghost use Rattle.gt_live.specs.Domains.{BelongsTo};
 
     ghost Value = { DomId };
 
     ghost view = { λ r. r.domain.seat.dom };
 
-    ghost invariant = { λ r. IsOf P.may r.monitor.now r.domain };
+    ghost invariant = { λ r. BelongsTo P.may r.monitor.now r.domain };
 }
 
 impl<'m, P: Allows> Drop for Running<'m, P> {
@@ -58,11 +58,11 @@ impl<'m, P: Allows> Drop for Running<'m, P> {
 }
 
 impl<'m, P: Allows> Running<'m, P> {
-    ghost use Rattle.gt_live.specs.Domains.{IsOf};
+    ghost use Rattle.gt_live.specs.Domains.{BelongsTo};
 
     /// The domain beside its monitor.
     pub fn new(alloc: Global, monitor: &'m Monitor<P>, domain: Domain) -> Self
-        requires { IsOf P.may monitor.now domain }
+        requires { BelongsTo P.may monitor.now domain }
     {
         Running {
             monitor,
@@ -144,7 +144,7 @@ const READ_ONLY: u32 = 6;
 
 // Lets domains leave that do nothing.
 fn finish_all<P: Allows>(monitor: &Monitor<P>, domains: Vec<Domain>)
-    requires { All (λ d. IsOf P.may monitor.now d) domains.items }
+    requires { All (λ d. BelongsTo P.may monitor.now d) domains.items }
 {
     let mut rest = domains.into_iter();
     'rest: while let Some(domain) = rest.next() {
@@ -159,7 +159,7 @@ pub fn all_running<'m, P: Allows>(
     monitor: &'m Monitor<P>,
     domains: Vec<Domain>,
 ) -> Result<Vec<Running<'m, P>>, Memory>
-    requires { All (λ d. IsOf P.may monitor.now d) domains.items }
+    requires { All (λ d. BelongsTo P.may monitor.now d) domains.items }
 {
     let Ok(room) = Vec::with_capacity(alloc, domains.len()) else {
         finish_all(monitor, domains);

@@ -9,7 +9,7 @@ use Rattle.gt_words.specs.Answers.{Pins}
 use Rattle.gt_words.specs.Controls.{LeadsTo}
 use Rattle.gt_words.specs.Laws.{domain_at}
 use Rattle.gt_words.specs.Rule.{Layout, id_at, position_in}
-use Rattle.gt_words.specs.Views.{IsIn, last_seen, pins, record_seen}
+use Rattle.gt_words.specs.Views.{IsAmong, last_seen, live_pins, record_seen}
 use Rattle.gt_words.specs.declared.view.EntryStep.{EntryStep}
 use Rattle.gt_words.specs.declared.view.View.{View}
 use Rattle.bench_words.specs.Mapping.{KeepsVia}
@@ -33,7 +33,7 @@ via_kept k t r o q word m d v w e taken same mine seen forwarded leads named apa
   owner = o;
   reference = q;
   via = (Read, x);
-  held = subst (λ (ms : List EntryStep). IsIn (Read, x) (pins ms)) (sym taken.steps.adds.here) (inl refl);
+  held = subst (λ (ms : List EntryStep). IsAmong (Read, x) (live_pins ms)) (sym taken.steps.adds.here) (inl refl);
   same_kind = refl;
   forwarded = ap (λ (z : Entry). forwards z (id_at k.ids w.position) Read) seen ∙ (ap (λ (u : DomId). forwards e u Read) (ap (λ (i : ℕ). id_at k.ids i) same ∙ mine) ∙ forwarded);
   leads = subst (λ (z : Entry). LeadsTo z (id_at k.ids t) r) (sym seen) leads;

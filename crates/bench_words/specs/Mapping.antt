@@ -6,7 +6,7 @@ use Rattle.gt_types.specs.declared.DomId.{DomId}
 use Rattle.gt_words.specs.Conditions.{Board, IsEntryOf, IsSeatOf, SeatOf}
 use Rattle.gt_words.specs.Controls.{ForwardsPin, LeadsTo}
 use Rattle.gt_words.specs.Rule.{Layout, id_at, position_in}
-use Rattle.gt_words.specs.Views.{IsIn, LivePin, last_of, pins, steps_on}
+use Rattle.gt_words.specs.Views.{IsAmong, LivePin, last_of, live_pins, steps_on}
 use Rattle.gt_words.specs.declared.view.View.{View}
 use Rattle.bench_words.specs.declared.mapper.Target.{Target}
 
@@ -20,7 +20,7 @@ pub record KeepsVia (k : Layout) (t r : ℕ) (m : DomId) (v : View) : Type 0 whe
   pub owner : ℕ
   pub reference : ℕ
   pub via : LivePin
-  pub held : IsIn via (pins (steps_on owner reference v))
+  pub held : IsAmong via (live_pins (steps_on owner reference v))
   pub same_kind : via.0 ≡ Read
   pub forwarded : ForwardsPin via.1.entry (id_at k.ids v.position) Read
   pub leads : LeadsTo via.1.entry (id_at k.ids t) r
@@ -36,7 +36,7 @@ MayMap b x v =
 
 -- the seat has the pins that it had, but for those of entries of the domain t
 abbrev pub KeepsPinsBeyond : ℕ → View → View → Type 0
-KeepsPinsBeyond t v w = (t' r' : ℕ) → t ≢ t' → pins (steps_on t' r' w) ≡ pins (steps_on t' r' v)
+KeepsPinsBeyond t v w = (t' r' : ℕ) → t ≢ t' → live_pins (steps_on t' r' w) ≡ live_pins (steps_on t' r' v)
 
 -- the seat can map the target
 pub record CanMap (b : Board) (s : SeatOf) (x : Target) : Type 0 where

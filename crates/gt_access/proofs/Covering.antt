@@ -15,10 +15,10 @@ use Rattle.gt_words.specs.Conditions.{SeatOf}
 use Rattle.gt_calls.specs.declared.held.Held.{Held}
 use Rattle.gt_calls.specs.declared.held.Route.{Route}
 use Rattle.gt_calls.specs.declared.held.Route.TheVariants.{Own, Direct, Through}
-use Rattle.gt_calls.specs.Resting.{LeadsTo}
+use Rattle.gt_calls.specs.Resting.{GivesHeld}
 use Rattle.gt_frames.specs.declared.places.FrameName.{FrameName}
 use Rattle.gt_frames.specs.Frames.{covers}
-use Rattle.gt_access.specs.Routes.{Reaches, writ_by}
+use Rattle.gt_access.specs.Routes.{ReachesBy, writ_by}
 
 -- what an entry permits, it permits to copy
 to_copy : (e : Entry) (d : DomId) (dir : Dir) (purpose : Use) (off len : ℕ) → permits e d dir purpose off len ≡ true → permits e d dir ForCopy off len ≡ true
@@ -29,14 +29,14 @@ to_copy (Sub dom ro frame start size) d dir ForCopy off len is = is
 to_copy (Sub dom ro frame start size) d dir ForMap off len is = grind (arith, nat_tests)
 
 -- an entry that leads to a pin leads to the pin's domain
-to_owner : (e : Entry) (p : Held) (owner : DomId) → LeadsTo e p → p.dom ≡ owner → leads_to e owner ≡ true
+to_owner : (e : Entry) (p : Held) (owner : DomId) → GivesHeld e p → p.dom ≡ owner → leads_to e owner ≡ true
 to_owner (Via dom ro dom2 gref) p owner leads is = eq-eqb dom2.0 owner.0 (ap (λ (d : DomId). d.0) (sym leads.0 ∙ is))
 to_owner Invalid p owner leads is = absurd leads
 to_owner (Page dom ro frame) p owner leads is = absurd leads
 to_owner (Sub dom ro frame off len) p owner leads is = absurd leads
 
 pub covers_by : (k : Layout) (s : SeatOf) (purpose : Use) (name : FrameName) (off len : ℕ) (route : Route)
-    → Reaches k s Write purpose name off len route → IsTrue (covers (writ_by s.dom route) name.owner name.number off len)
+    → ReachesBy k s Write purpose name off len route → IsTrue (covers (writ_by s.dom route) name.owner name.number off len)
 covers_by k s purpose name off len Own is = eq-eqb s.dom.0 name.owner.0 (ap (λ (d : DomId). d.0) is)
 covers_by k s purpose name off len (Direct p) is =
     and_from (is_of_frame p.entry name.number) (permits p.entry s.dom Write ForCopy off len) is.of_frame (to_copy p.entry s.dom Write purpose off len is.permitted)
@@ -47,5 +47,5 @@ covers_by k s purpose name off len (Through via p) is =
 
 -- a route that reaches a range of one frame reaches it of the frame of the same name
 pub reaches_named : (k : Layout) (s : SeatOf) (dir : Dir) (purpose : Use) (name other : FrameName) (off len : ℕ) (route : Route)
-    → Reaches k s dir purpose name off len route → other ≡ name → Reaches k s dir purpose other off len route
-reaches_named k s dir purpose name other off len route is same = subst (λ (n : FrameName). Reaches k s dir purpose n off len route) (sym same) is
+    → ReachesBy k s dir purpose name off len route → other ≡ name → ReachesBy k s dir purpose other off len route
+reaches_named k s dir purpose name other off len route is same = subst (λ (n : FrameName). ReachesBy k s dir purpose n off len route) (sym same) is

@@ -1,7 +1,7 @@
 -- The names of other crates, and of the code, that the definitions here speak of.
 pub use Rattle.gt_calls.specs.Holding.{owner_by}
 pub use Rattle.gt_calls.specs.Opening.{IsAllowed}
-pub use Rattle.gt_calls.specs.Resting.{LeadsTo}
+pub use Rattle.gt_calls.specs.Resting.{GivesHeld}
 pub use Rattle.gt_calls.specs.Rules.{label_of, map_perms, triples}
 pub use Rattle.gt_calls.specs.declared.held.Held.{Held}
 pub use Rattle.gt_calls.specs.declared.held.Pins.{Pins}
@@ -24,6 +24,6 @@ pub use Rattle.gt_types.specs.declared.perms.Perms.{Perms}
 pub use Rattle.gt_words.specs.Conditions.{HasDomain, SeatOf}
 pub use Rattle.gt_words.specs.Controls.{generation_of}
 pub use Rattle.gt_words.specs.Rule.{Layout, position_in}
-pub use Rattle.gt_words.specs.Views.{IsIn, pins, steps_on}
+pub use Rattle.gt_words.specs.Views.{IsAmong, live_pins, steps_on}
 pub use Rattle.gt_words.specs.declared.view.EntryRecord.{EntryRecord}
 pub use Rattle.gt_words.specs.declared.view.View.{View}

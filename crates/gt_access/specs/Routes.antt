@@ -2,33 +2,34 @@
 use Rattle.std.specs.Prelude.{◌≡◌, ℕ, ◌<◌, Bool, true, List, [], ◌∷◌, ◌++◌}
 use Rattle.gt_access.specs.Prelude.{DomId, Dir, Read, Write, Use, ForCopy, TypeId, Perms, DomainConfig, TABLE_ENTRIES}
 use Rattle.gt_access.specs.Prelude.{copy, permits, forwards, is_of_frame, generation_of, Layout, position_in, SeatOf}
-use Rattle.gt_access.specs.Prelude.{HasDomain, IsIn, pins, steps_on, EntryRecord, View, Held, Pins, Route, Own, Direct}
-use Rattle.gt_access.specs.Prelude.{Through, owner_by, IsAllowed, LeadsTo, label_of, map_perms, triples, FrameName}
+use Rattle.gt_access.specs.Prelude.{HasDomain, IsAmong, live_pins, steps_on, EntryRecord, View, Held, Pins, Route, Own}
+use Rattle.gt_access.specs.Prelude.{Direct}
+use Rattle.gt_access.specs.Prelude.{Through, owner_by, IsAllowed, GivesHeld, label_of, map_perms, triples, FrameName}
 use Rattle.gt_access.specs.Prelude.{Writ, Owned, Granted, Forwarded}
 
 -- pins
 
 -- what the owner's record was when the pin was taken
-abbrev pub record_of : Held → EntryRecord
-record_of p = record { generation = generation_of p.word; entry = p.entry }
+abbrev pub entry_record_of : Held → EntryRecord
+entry_record_of p = record { generation = generation_of p.word; entry = p.entry }
 
 -- the view has this pin, of the entry that it was taken from
 pub record HasPin (k : Layout) (v : View) (p : Held) : Type 0 where
   pub run : HasDomain k p.dom
   pub inside : p.gref.0 < TABLE_ENTRIES
-  pub held : IsIn (p.dir, record_of p) (pins (steps_on (position_in k.ids p.dom) p.gref.0 v))
+  pub held : IsAmong (p.dir, entry_record_of p) (live_pins (steps_on (position_in k.ids p.dom) p.gref.0 v))
 
 -- a pin that serves this direction: to write, a write pin
-abbrev pub Serves : Dir → Held → Type 0
-Serves Read p = Unit {0}
-Serves Write p = p.dir ≡ Write
+abbrev pub ServesAccess : Dir → Held → Type 0
+ServesAccess Read p = Unit {0}
+ServesAccess Write p = p.dir ≡ Write
 
 -- the seat has this pin, of an entry of this frame which permitted the domain
 -- this direction, use and range (own, after grant_table.h)
 pub record IsPinnedFor (k : Layout) (s : SeatOf) (grantee : DomId) (dir : Dir) (purpose : Use) (name : FrameName)
     (off len : ℕ) (p : Held) : Type 0 where
   pub pin : HasPin k s.view p
-  pub serves : Serves dir p
+  pub serves : ServesAccess dir p
   pub owner_is : p.dom ≡ name.owner
   pub of_frame : is_of_frame p.entry name.number ≡ true
   pub permitted : permits p.entry grantee dir purpose off len ≡ true
@@ -37,26 +38,26 @@ pub record IsPinnedFor (k : Layout) (s : SeatOf) (grantee : DomId) (dir : Dir) (
 -- to the entry of the other pin (own, after grant_table.h, transitive)
 pub record IsPinnedOn (k : Layout) (s : SeatOf) (dir : Dir) (via p : Held) : Type 0 where
   pub pin : HasPin k s.view via
-  pub serves : Serves dir via
+  pub serves : ServesAccess dir via
   pub forwarded : forwards via.entry s.dom dir ≡ true
-  pub leads : LeadsTo via.entry p
+  pub leads : GivesHeld via.entry p
 
 -- the seat's domain reaches this range of the frame by the route: the frame is its own, or a pin of the frame's owner
 -- permits it, or, for a copy, a pin of a transitive entry forwards it to one that permits the domain between
-abbrev pub Reaches : Layout → SeatOf → Dir → Use → FrameName → ℕ → ℕ → Route → Type 0
-Reaches k s dir purpose name off len Own = s.dom ≡ name.owner
-Reaches k s dir purpose name off len (Direct p) = IsPinnedFor k s s.dom dir purpose name off len p
-Reaches k s dir purpose name off len (Through via p) =
+abbrev pub ReachesBy : Layout → SeatOf → Dir → Use → FrameName → ℕ → ℕ → Route → Type 0
+ReachesBy k s dir purpose name off len Own = s.dom ≡ name.owner
+ReachesBy k s dir purpose name off len (Direct p) = IsPinnedFor k s s.dom dir purpose name off len p
+ReachesBy k s dir purpose name off len (Through via p) =
     (purpose ≡ ForCopy) × IsPinnedOn k s dir via p × IsPinnedFor k s via.dom dir purpose name off len p
 
 -- rights
 
 -- the access goes through no mapping, or the policy allows what the mapping's map asked
-abbrev pub MayAccess : List DomainConfig → (TypeId → TypeId → Perms → Bool) → DomId → Route → Type 0
-MayAccess domains may caller Own = Unit {0}
-MayAccess domains may caller (Direct p) =
+abbrev pub MayAccessBy : List DomainConfig → (TypeId → TypeId → Perms → Bool) → DomId → Route → Type 0
+MayAccessBy domains may caller Own = Unit {0}
+MayAccessBy domains may caller (Direct p) =
     IsAllowed may (triples (label_of domains caller) (label_of domains p.dom) (map_perms p.dir))
-MayAccess domains may caller (Through via p) = ⊥
+MayAccessBy domains may caller (Through via p) = ⊥
 
 -- the domain that an end of a copy names
 abbrev pub named_by : DomId → Route → DomId
@@ -86,8 +87,8 @@ MayCopyEach domains may (pair ∷ pairs) =
     × MayCopyEach domains may pairs
 
 -- the policy allows the copy by these routes
-abbrev pub MayCopy : List DomainConfig → (TypeId → TypeId → Perms → Bool) → DomId → Pins → Type 0
-MayCopy domains may caller p = MayCopyEach domains may (pairs_asked caller p)
+abbrev pub MayCopyBy : List DomainConfig → (TypeId → TypeId → Perms → Bool) → DomId → Pins → Type 0
+MayCopyBy domains may caller p = MayCopyEach domains may (pairs_asked caller p)
 
 -- writs
 

@@ -5,7 +5,7 @@ use Rattle.gt_frames.specs.declared.places.Spot.{Spot}
 use Rattle.gt_frames.specs.declared.writ.Writ.{Writ}
 use Rattle.gt_frames.specs.Frames.{bytes_at, IsWrite}
 use Rattle.gt_frames.specs.Receipts.{Reading, Writing, Copying, reading_of}
-use Rattle.gt_frames.specs.Visits.{Visit, IsOf, LeavesIt, visit_in}
+use Rattle.gt_frames.specs.Visits.{Visit, IsVisitOf, LeavesIt, visit_in}
 use Rattle.gt_access.specs.declared.by.Refused.{Refused}
 use Rattle.gt_access.specs.declared.by.Refused.TheVariants.{Gone, Memory}
 
@@ -20,7 +20,7 @@ VisitsToRead name off len (Some r) old new =
 -- it was left as it was; if there was no such frame, none was locked.
 abbrev pub VisitsToWrite : FrameName → Writ → ℕ → List ℕ → Result Writing Refused → List Visit → List Visit → Type 0
 VisitsToWrite name w off ys (Ok r) old new =
-    (v : Visit) × IsOf name v × IsWrite v.before v.after w off ys × (new ≡ old ++ v ∷ [])
+    (v : Visit) × IsVisitOf name v × IsWrite v.before v.after w off ys × (new ≡ old ++ v ∷ [])
 VisitsToWrite name w off ys (Err Gone) old new = new ≡ old
 VisitsToWrite name w off ys (Err Memory) old new = (v : Visit) × LeavesIt name v × (new ≡ old ++ v ∷ [])
 
@@ -28,13 +28,13 @@ VisitsToWrite name w off ys (Err Memory) old new = (v : Visit) × LeavesIt name 
 -- are one frame.
 abbrev pub CopiesIn : Writ → Spot → Spot → ℕ → Visit → Option Visit → Type 0
 CopiesIn w from to len d None =
-    IsOf to.frame d × IsOf from.frame d × IsWrite d.before d.after w to.off (bytes_at d.before from.off len)
+    IsVisitOf to.frame d × IsVisitOf from.frame d × IsWrite d.before d.after w to.off (bytes_at d.before from.off len)
 CopiesIn w from to len d (Some s) =
-    IsOf to.frame d × LeavesIt from.frame s × IsWrite d.before d.after w to.off (bytes_at s.before from.off len)
+    IsVisitOf to.frame d × LeavesIt from.frame s × IsWrite d.before d.after w to.off (bytes_at s.before from.off len)
 
 -- the frames of these places were locked, and left as they were
 abbrev pub LeavesBoth : Spot → Spot → Visit → Option Visit → Type 0
-LeavesBoth from to d None = LeavesIt to.frame d × IsOf from.frame d
+LeavesBoth from to d None = LeavesIt to.frame d × IsVisitOf from.frame d
 LeavesBoth from to d (Some s) = LeavesIt to.frame d × LeavesIt from.frame s
 
 -- To copy, the frames of both places were locked, and so many bytes were copied by this writ. If memory was refused,

@@ -4,7 +4,7 @@ ghost use Rattle.gt_types.specs.declared.Dir.TheVariants as dirs;
 ghost use Rattle.gt_types.specs.declared.Use.TheVariants as uses;
 ghost use Rattle.gt_words.specs.Conditions.{IsSeatOf};
 ghost use Rattle.gt_access.specs.Accesses.{IsReadOf, writing_at, copying_at};
-ghost use Rattle.gt_access.specs.Routes.{MayAccess, MayCopy, Reaches, writ_by};
+ghost use Rattle.gt_access.specs.Routes.{MayAccessBy, MayCopyBy, ReachesBy, writ_by};
 ghost use Rattle.gt_access.specs.Visiting.{VisitsToCopy, VisitsToRead, VisitsToWrite};
 
 use crate::under::{Run, copy_under, read_under, writ_by, write_under};
@@ -37,9 +37,9 @@ pub fn read_by<R: Wait, P: Allows>(
     room: Vec<u8>,
 ) -> Option<Read>
     requires seat { IsSeatOf run.now.words.now seat.now }
-    requires reached { Reaches run.now.words.now.layout seat.now dirs.Read uses.Map
+    requires reached { ReachesBy run.now.words.now.layout seat.now dirs.Read uses.Map
         name range.off range.len route.now }
-    requires may { MayAccess run.now.config.now.domains.items (P.may run.now.rights.now) seat.now.dom route.now }
+    requires may { MayAccessBy run.now.config.now.domains.items (P.may run.now.rights.now) seat.now.dom route.now }
     requires range { range.off + range.len ≤ FRAME_SIZE }
     requires room { (vec_len room ≡ 0) × (range.len ≤ vec_capacity room) }
     ensures read { IfSome result (λ r. IsReadOf r name range.off range.len) }
@@ -68,9 +68,9 @@ pub fn write_by<'a, R: Wait, P: Allows>(
     bytes: &'a [u8],
 ) -> Result<Written<'a>, Refused>
     requires seat { IsSeatOf run.now.words.now seat.now }
-    requires reached { Reaches run.now.words.now.layout seat.now dirs.Write uses.Map
+    requires reached { ReachesBy run.now.words.now.layout seat.now dirs.Write uses.Map
         name off (length bytes.now) route.now }
-    requires may { MayAccess run.now.config.now.domains.items (P.may run.now.rights.now) seat.now.dom route.now }
+    requires may { MayAccessBy run.now.config.now.domains.items (P.may run.now.rights.now) seat.now.dom route.now }
     requires range { off + length bytes.now ≤ FRAME_SIZE }
     ensures written { IfOk result (λ r. r ≡ writing_at name off bytes.entry.now seat.now.dom) }
     ensures visited { VisitsToWrite name (writ_by seat.now.dom route.now) off bytes.entry.now
@@ -105,11 +105,11 @@ pub fn copy_by<R: Wait, P: Allows>(
     len: u16,
 ) -> Result<Copied, Refused>
     requires seat { IsSeatOf run.now.words.now seat.now }
-    requires source { Reaches run.now.words.now.layout seat.now dirs.Read uses.Copy
+    requires source { ReachesBy run.now.words.now.layout seat.now dirs.Read uses.Copy
         from.frame from.off len routes.now.source }
-    requires dest { Reaches run.now.words.now.layout seat.now dirs.Write uses.Copy
+    requires dest { ReachesBy run.now.words.now.layout seat.now dirs.Write uses.Copy
         to.frame to.off len routes.now.dest }
-    requires may { MayCopy run.now.config.now.domains.items (P.may run.now.rights.now) seat.now.dom routes.now }
+    requires may { MayCopyBy run.now.config.now.domains.items (P.may run.now.rights.now) seat.now.dom routes.now }
     requires source_range { from.off + len ≤ FRAME_SIZE }
     requires dest_range { to.off + len ≤ FRAME_SIZE }
     ensures copied { IfOk result (λ r. r ≡ copying_at from to len seat.now.dom) }

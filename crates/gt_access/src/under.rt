@@ -7,7 +7,7 @@ ghost use Rattle.gt_frames.specs.Frames.{bytes_at, IsKept, IsWrite};
 ghost use Rattle.gt_frames.specs.Pool.{dest_of, source_of, GoesOn, KeepsSource};
 ghost use Rattle.gt_frames.specs.Receipts.{reading_of, writing_of, copying_of};
 ghost use Rattle.gt_frames.specs.Sets.{name_of};
-ghost use Rattle.gt_access.specs.Routes.{MayAccess, MayCopy, Reaches, writ_by};
+ghost use Rattle.gt_access.specs.Routes.{MayAccessBy, MayCopyBy, ReachesBy, writ_by};
 
 use gt_calls::{Pins, Route};
 use gt_frames::{Copied, Ends, Ground, Lent, Pool, Read, Writ, Written};
@@ -63,9 +63,9 @@ pub fn read_under<P: Allows>(
     room: Vec<u8>,
 ) -> Read
     requires seat { IsSeatOf run.now.words.now seat.now }
-    requires reached { Reaches run.now.words.now.layout seat.now dirs.Read uses.Map
+    requires reached { ReachesBy run.now.words.now.layout seat.now dirs.Read uses.Map
         (name_of frame.now.after) range.off range.len route.now }
-    requires may { MayAccess run.now.config.now.domains.items (P.may run.now.rights.now) seat.now.dom route.now }
+    requires may { MayAccessBy run.now.config.now.domains.items (P.may run.now.rights.now) seat.now.dom route.now }
     requires range { range.off + range.len ≤ FRAME_SIZE }
     requires room { (vec_len room ≡ 0) × (range.len ≤ vec_capacity room) }
     ensures read { result ≡ reading_of frame.now.after range.off range.len }
@@ -90,9 +90,9 @@ pub fn write_under<'a, P: Allows>(
     bytes: &'a [u8],
 ) -> Result<Written<'a>, Memory>
     requires seat { IsSeatOf run.now.words.now seat.now }
-    requires reached { Reaches run.now.words.now.layout seat.now dirs.Write uses.Map
+    requires reached { ReachesBy run.now.words.now.layout seat.now dirs.Write uses.Map
         (name_of frame.old.after) off (length bytes.now) route.now }
-    requires may { MayAccess run.now.config.now.domains.items (P.may run.now.rights.now) seat.now.dom route.now }
+    requires may { MayAccessBy run.now.config.now.domains.items (P.may run.now.rights.now) seat.now.dom route.now }
     requires writ { writ.now ≡ writ_by seat.now.dom route.now }
     requires range { off + length bytes.now ≤ FRAME_SIZE }
     ensures before { frame.new.before ≡ frame.old.before }
@@ -119,11 +119,11 @@ pub fn copy_under<P: Allows>(
     to_off: u16,
 ) -> Result<Copied, Memory>
     requires seat { IsSeatOf run.now.words.now seat.now }
-    requires source { Reaches run.now.words.now.layout seat.now dirs.Read uses.Copy
+    requires source { ReachesBy run.now.words.now.layout seat.now dirs.Read uses.Copy
         (name_of (source_of ends.old)) from.off from.len routes.now.source }
-    requires dest { Reaches run.now.words.now.layout seat.now dirs.Write uses.Copy
+    requires dest { ReachesBy run.now.words.now.layout seat.now dirs.Write uses.Copy
         (name_of (dest_of ends.old)) to_off from.len routes.now.dest }
-    requires may { MayCopy run.now.config.now.domains.items (P.may run.now.rights.now) seat.now.dom routes.now }
+    requires may { MayCopyBy run.now.config.now.domains.items (P.may run.now.rights.now) seat.now.dom routes.now }
     requires writ { writ.now ≡ writ_by seat.now.dom routes.now.dest }
     requires source_range { from.off + from.len ≤ FRAME_SIZE }
     requires dest_range { to_off + from.len ≤ FRAME_SIZE }

@@ -27,8 +27,8 @@ use Rattle.gt_advice.specs.Check.{grants_something, grants_with, grants_no_more,
 use Rattle.gt_advice.specs.Check.{repeat_line, repeated_with, lines_repeated}
 use Rattle.std.proofs.lemmas.List.{append-nil}
 use Rattle.std.proofs.lemmas.List.Concat.{flat_map-append}
-use Rattle.gt_advice.specs.Granting.{exceeds_on, exceeds_some, gives_one, gives_some, gives_source, reaches}
-use Rattle.gt_advice.specs.Members.{is_asked, member_of, members_of}
+use Rattle.gt_advice.specs.Granting.{exceeds_on, exceeds_some, gives_one, gives_some, gives_source, reaches_by}
+use Rattle.gt_advice.specs.Members.{is_asked, membership_of, members_of}
 use Rattle.gt_advice.specs.Why.{types_asked}
 use Rattle.gt_advice.proofs.GrantLemmas.{any_and, any_asked, any_never, any_same, by_names, gives_named}
 
@@ -132,7 +132,7 @@ and_assoc : (a b c : Bool) → (a && (b && c)) ≡ ((a && b) && c)
 and_assoc true b c = refl
 and_assoc false b c = refl
 
-one_by_names : (xs : List LinedStatement) (w s t : List ℕ) (y : Statement) → gives_one w (member_of xs s) (member_of xs t) y ≡ statement_grants (statements_in xs) s t w y
+one_by_names : (xs : List LinedStatement) (w s t : List ℕ) (y : Statement) → gives_one w (membership_of xs s) (membership_of xs t) y ≡ statement_grants (statements_in xs) s t w y
 one_by_names xs w s t (DeclareType v ms) = refl
 one_by_names xs w s t (DeclareAttribute v) = refl
 one_by_names xs w s t (GiveAttributes m ms) = refl
@@ -154,11 +154,11 @@ module _ (xs : List LinedStatement) (w : List ℕ) (y : Statement) where
   exceeds_asked (GiveAttributes m ms) = never_exceeds types types
   exceeds_asked (Allow a) =
       any_asked xs None (λ s. gives_source w s a && exceeds_on w (members_of xs None) a y s)
-      ∙ any_same (λ s. gives_source w (member_of xs s) a && exceeds_on w (members_of xs None) a y (member_of xs s)) (λ s. list_any (λ t. Exceeds (Allow a) s t) types)
-      (λ s. ap (λ (v : Bool). gives_source w (member_of xs s) a && v) (any_asked xs None (λ t. reaches (member_of xs s) t a && not (gives_one w (member_of xs s) t y)))
-      ∙ sym (any_and (gives_source w (member_of xs s) a) (λ t. reaches (member_of xs s) (member_of xs t) a && not (gives_one w (member_of xs s) (member_of xs t) y)) types)
-      ∙ any_same (λ t. gives_source w (member_of xs s) a && (reaches (member_of xs s) (member_of xs t) a && not (gives_one w (member_of xs s) (member_of xs t) y))) (λ t. Exceeds (Allow a) s t)
-      (λ t. and_assoc (gives_source w (member_of xs s) a) (reaches (member_of xs s) (member_of xs t) a) (not (gives_one w (member_of xs s) (member_of xs t) y))
+      ∙ any_same (λ s. gives_source w (membership_of xs s) a && exceeds_on w (members_of xs None) a y (membership_of xs s)) (λ s. list_any (λ t. Exceeds (Allow a) s t) types)
+      (λ s. ap (λ (v : Bool). gives_source w (membership_of xs s) a && v) (any_asked xs None (λ t. reaches_by (membership_of xs s) t a && not (gives_one w (membership_of xs s) t y)))
+      ∙ sym (any_and (gives_source w (membership_of xs s) a) (λ t. reaches_by (membership_of xs s) (membership_of xs t) a && not (gives_one w (membership_of xs s) (membership_of xs t) y)) types)
+      ∙ any_same (λ t. gives_source w (membership_of xs s) a && (reaches_by (membership_of xs s) (membership_of xs t) a && not (gives_one w (membership_of xs s) (membership_of xs t) y))) (λ t. Exceeds (Allow a) s t)
+      (λ t. and_assoc (gives_source w (membership_of xs s) a) (reaches_by (membership_of xs s) (membership_of xs t) a) (not (gives_one w (membership_of xs s) (membership_of xs t) y))
       ∙ ap₂ (λ (u v : Bool). u && not v) (by_names xs w s t a) (one_by_names xs w s t y)) types)
       types
 

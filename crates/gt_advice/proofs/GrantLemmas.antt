@@ -25,11 +25,12 @@ use Rattle.gt_advice.specs.declared.members.Member.{Member}
 use Rattle.gt_advice.specs.declared.asking.Answer.{Answer}
 use Rattle.gt_advice.specs.declared.asking.Answer.TheVariants.{Allowed, Denied, NoSource, NoTarget, NoPermission}
 use Rattle.gt_advice.specs.declared.asking.Question.{Question}
-use Rattle.gt_advice.specs.Granting.{puts_in, takes_out, holds, reaches, gives_source, gives, gives_some, near_some}
-use Rattle.gt_advice.specs.Members.{names_given, names_of, member_of, is_asked, members_in, members_of}
-use Rattle.gt_advice.specs.Texts.{entry_text}
+use Rattle.gt_advice.specs.Granting.{puts_in, takes_out, elements_hold, reaches_by, gives_source, gives_by, gives_some}
+use Rattle.gt_advice.specs.Granting.{near_some}
+use Rattle.gt_advice.specs.Members.{names_given, names_in_lines, membership_of, is_asked, members_in, members_of}
+use Rattle.gt_advice.specs.Texts.{report_entry_text}
 use Rattle.gt_advice.specs.Why.{types_asked, source_asked, target_asked, grants_asked, is_near, entry_if, entries_if}
-use Rattle.gt_advice.specs.Why.{entries_of, answer_with, answer_of, lines_with, lines_of}
+use Rattle.gt_advice.specs.Why.{entries_of, answer_by, why_answer, lines_with, lines_of}
 
 -- bytes are compared either way round
 swap : (v w : List ℕ) → bytes_eq v w ≡ bytes_eq w v
@@ -76,30 +77,30 @@ all_given t w (x ∷ xs) =
     ∙ ap (λ (b : Bool). text.gives x.statement w t || b) (all_given t w xs)
 
 -- the names that stand for a type are those by which statements name it
-stands : (xs : List LinedStatement) (t w : List ℕ) → list_any (λ v. bytes_eq v w) (names_of xs t) ≡ text.is_named (statements_in xs) w t
+stands : (xs : List LinedStatement) (t w : List ℕ) → list_any (λ v. bytes_eq v w) (names_in_lines xs t) ≡ text.is_named (statements_in xs) w t
 stands xs t w =
     ap (λ (b : Bool). b || list_any (λ v. bytes_eq v w) (flat_map (λ x. names_given t x.statement) xs)) (swap t w)
     ∙ ap (λ (b : Bool). bytes_eq w t || b) (all_given t w xs)
 
-puts : (xs : List LinedStatement) (t : List ℕ) (i : SetElement) → puts_in (names_of xs t) i ≡ text.names_with (statements_in xs) i t
+puts : (xs : List LinedStatement) (t : List ℕ) (i : SetElement) → puts_in (names_in_lines xs t) i ≡ text.names_with (statements_in xs) i t
 puts xs t (With m) = stands xs t m.name
 puts xs t (Without m) = refl
 puts xs t Itself = refl
 
-takes : (xs : List LinedStatement) (t : List ℕ) (i : SetElement) → takes_out (names_of xs t) i ≡ text.names_without (statements_in xs) i t
+takes : (xs : List LinedStatement) (t : List ℕ) (i : SetElement) → takes_out (names_in_lines xs t) i ≡ text.names_without (statements_in xs) i t
 takes xs t (With m) = refl
 takes xs t (Without m) = stands xs t m.name
 takes xs t Itself = refl
 
-held : (xs : List LinedStatement) (t : List ℕ) (items : List SetElement) → holds (names_of xs t) items ≡ text.set_holds (statements_in xs) items t
+held : (xs : List LinedStatement) (t : List ℕ) (items : List SetElement) → elements_hold (names_in_lines xs t) items ≡ text.set_holds (statements_in xs) items t
 held xs t items =
-    ap (λ (b : Bool). b && not (list_any (λ i. takes_out (names_of xs t) i) items)) (any_same (λ i. puts_in (names_of xs t) i) (λ i. text.names_with (statements_in xs) i t) (puts xs t) items)
-    ∙ ap (λ (b : Bool). list_any (λ i. text.names_with (statements_in xs) i t) items && not b) (any_same (λ i. takes_out (names_of xs t) i) (λ i. text.names_without (statements_in xs) i t) (takes xs t) items)
+    ap (λ (b : Bool). b && not (list_any (λ i. takes_out (names_in_lines xs t) i) items)) (any_same (λ i. puts_in (names_in_lines xs t) i) (λ i. text.names_with (statements_in xs) i t) (puts xs t) items)
+    ∙ ap (λ (b : Bool). list_any (λ i. text.names_with (statements_in xs) i t) items && not b) (any_same (λ i. takes_out (names_in_lines xs t) i) (λ i. text.names_without (statements_in xs) i t) (takes xs t) items)
 
 -- a statement grants by members what it grants by names
-pub by_names : (xs : List LinedStatement) (w s t : List ℕ) (a : Allowance) → (gives_source w (member_of xs s) a && reaches (member_of xs s) (member_of xs t) a) ≡ text.statement_grants (statements_in xs) s t w (Allow a)
+pub by_names : (xs : List LinedStatement) (w s t : List ℕ) (a : Allowance) → (gives_source w (membership_of xs s) a && reaches_by (membership_of xs s) (membership_of xs t) a) ≡ text.statement_grants (statements_in xs) s t w (Allow a)
 by_names xs w s t a =
-    ap (λ (b : Bool). ((has_grant a.classes && text.lists_word a.perms w) && b) && reaches (member_of xs s) (member_of xs t) a) (held xs s a.source)
+    ap (λ (b : Bool). ((has_grant a.classes && text.lists_word a.perms w) && b) && reaches_by (membership_of xs s) (membership_of xs t) a) (held xs s a.source)
     ∙ ap (λ (b : Bool). ((has_grant a.classes && text.lists_word a.perms w) && text.set_holds (statements_in xs) a.source s) && (b || (list_any text.is_self a.target && bytes_eq s t))) (held xs t a.target)
 
 -- the types that are asked for
@@ -112,21 +113,21 @@ filtered p t true ts = refl
 filtered p t false ts = refl
 
 asked_among : (xs : List LinedStatement) (asked : Option (List ℕ)) (p : Member → Bool) (ys : List LinedStatement)
-    → list_any p (flat_map (λ x. members_in xs asked x.statement) ys) ≡ list_any (λ t. p (member_of xs t)) (filter (is_asked asked) (types_in (statements_in ys)))
+    → list_any p (flat_map (λ x. members_in xs asked x.statement) ys) ≡ list_any (λ t. p (membership_of xs t)) (filter (is_asked asked) (types_in (statements_in ys)))
 asked_among xs asked p [] = refl
 asked_among xs asked p (y ∷ ys) = go y.statement (asked_among xs asked p ys)
   where
-    go : (s : Statement) → list_any p (flat_map (λ x. members_in xs asked x.statement) ys) ≡ list_any (λ t. p (member_of xs t)) (filter (is_asked asked) (types_in (statements_in ys)))
-        → list_any p (members_in xs asked s ++ flat_map (λ x. members_in xs asked x.statement) ys) ≡ list_any (λ t. p (member_of xs t)) (filter (is_asked asked) (types_in (s ∷ statements_in ys)))
+    go : (s : Statement) → list_any p (flat_map (λ x. members_in xs asked x.statement) ys) ≡ list_any (λ t. p (membership_of xs t)) (filter (is_asked asked) (types_in (statements_in ys)))
+        → list_any p (members_in xs asked s ++ flat_map (λ x. members_in xs asked x.statement) ys) ≡ list_any (λ t. p (membership_of xs t)) (filter (is_asked asked) (types_in (s ∷ statements_in ys)))
     go (DeclareType w ms) others =
-        if_asked p (member_of xs w) (is_asked asked w) (flat_map (λ x. members_in xs asked x.statement) ys)
-        ∙ ap (λ (b : Bool). (is_asked asked w && p (member_of xs w)) || b) others
-        ∙ sym (filtered (λ t. p (member_of xs t)) w (is_asked asked w) (filter (is_asked asked) (types_in (statements_in ys))))
+        if_asked p (membership_of xs w) (is_asked asked w) (flat_map (λ x. members_in xs asked x.statement) ys)
+        ∙ ap (λ (b : Bool). (is_asked asked w && p (membership_of xs w)) || b) others
+        ∙ sym (filtered (λ t. p (membership_of xs t)) w (is_asked asked w) (filter (is_asked asked) (types_in (statements_in ys))))
     go (DeclareAttribute w) others = others
     go (GiveAttributes m ms) others = others
     go (Allow a) others = others
 
-pub any_asked : (xs : List LinedStatement) (asked : Option (List ℕ)) (p : Member → Bool) → list_any p (members_of xs asked) ≡ list_any (λ t. p (member_of xs t)) (types_asked xs asked)
+pub any_asked : (xs : List LinedStatement) (asked : Option (List ℕ)) (p : Member → Bool) → list_any p (members_of xs asked) ≡ list_any (λ t. p (membership_of xs t)) (types_asked xs asked)
 any_asked xs asked p = asked_among xs asked p xs
 
 true_or : (b : Bool) → (true || b) ≡ true
@@ -153,18 +154,18 @@ gives_named xs w a b (DeclareType v ms) = never_asked xs a b
 gives_named xs w a b (DeclareAttribute v) = never_asked xs a b
 gives_named xs w a b (GiveAttributes m ms) = never_asked xs a b
 gives_named xs w a b (Allow r) =
-    any_asked xs a (λ s. gives w (members_of xs b) s r)
-    ∙ any_same (λ s. gives w (members_of xs b) (member_of xs s) r) (λ s. list_any (λ t. text.statement_grants (statements_in xs) s t w (Allow r)) (types_asked xs b))
-    (λ s. ap (λ (v : Bool). gives_source w (member_of xs s) r && v) (any_asked xs b (λ t. reaches (member_of xs s) t r))
-    ∙ sym (any_and (gives_source w (member_of xs s) r) (λ t. reaches (member_of xs s) (member_of xs t) r) (types_asked xs b))
-    ∙ any_same (λ t. gives_source w (member_of xs s) r && reaches (member_of xs s) (member_of xs t) r) (λ t. text.statement_grants (statements_in xs) s t w (Allow r)) (λ t. by_names xs w s t r) (types_asked xs b))
+    any_asked xs a (λ s. gives_by w (members_of xs b) s r)
+    ∙ any_same (λ s. gives_by w (members_of xs b) (membership_of xs s) r) (λ s. list_any (λ t. text.statement_grants (statements_in xs) s t w (Allow r)) (types_asked xs b))
+    (λ s. ap (λ (v : Bool). gives_source w (membership_of xs s) r && v) (any_asked xs b (λ t. reaches_by (membership_of xs s) t r))
+    ∙ sym (any_and (gives_source w (membership_of xs s) r) (λ t. reaches_by (membership_of xs s) (membership_of xs t) r) (types_asked xs b))
+    ∙ any_same (λ t. gives_source w (membership_of xs s) r && reaches_by (membership_of xs s) (membership_of xs t) r) (λ t. text.statement_grants (statements_in xs) s t w (Allow r)) (λ t. by_names xs w s t r) (types_asked xs b))
     (types_asked xs a)
 
 gives_asked : (xs : List LinedStatement) (q : Question) (x : Statement) → gives_some q.perm.now (members_of xs (source_asked q)) (members_of xs (target_asked q)) x ≡ grants_asked xs q x
 gives_asked xs q x = gives_named xs q.perm.now (source_asked q) (target_asked q) x
 
 -- the answer
-pub answers : (xs : List LinedStatement) (q : Question) → answer_with q.perm.now (members_of xs (source_asked q)) (members_of xs (target_asked q)) xs ≡ answer_of xs q
+pub answers : (xs : List LinedStatement) (q : Question) → answer_by q.perm.now (members_of xs (source_asked q)) (members_of xs (target_asked q)) xs ≡ why_answer xs q
 answers xs q =
     ap (λ (b : Bool). if is_none (permission_of q.perm.now) then NoPermission else (if b then NoSource else (if length (members_of xs (target_asked q)) == 0 then NoTarget
     else (if list_any (λ x. gives_some q.perm.now (members_of xs (source_asked q)) (members_of xs (target_asked q)) x.statement) xs then Allowed else Denied)))) (none_asked xs (source_asked q))
@@ -179,12 +180,12 @@ one_passed f x xs true = refl
 one_passed f x xs false = refl
 
 passed : (test other : Statement → Bool) (file : List ℕ) (sources targets : List Member) → ((x : Statement) → test x ≡ other x) → (xs : List LinedStatement)
-    → entries_if test file sources targets xs ≡ flat_map (entry_text file sources targets) (filter (λ x. other x.statement) xs)
+    → entries_if test file sources targets xs ≡ flat_map (report_entry_text file sources targets) (filter (λ x. other x.statement) xs)
 passed test other file sources targets same [] = refl
 passed test other file sources targets same (x ∷ xs) =
     ap (λ (l : List ℕ). entry_if test file sources targets x ++ l) (passed test other file sources targets same xs)
-    ∙ ap (λ (b : Bool). (if b then entry_text file sources targets x else []) ++ flat_map (entry_text file sources targets) (filter (λ y. other y.statement) xs)) (same x.statement)
-    ∙ sym (one_passed (entry_text file sources targets) x (filter (λ y. other y.statement) xs) (other x.statement))
+    ∙ ap (λ (b : Bool). (if b then report_entry_text file sources targets x else []) ++ flat_map (report_entry_text file sources targets) (filter (λ y. other y.statement) xs)) (same x.statement)
+    ∙ sym (one_passed (report_entry_text file sources targets) x (filter (λ y. other y.statement) xs) (other x.statement))
 
 pub all_lines : (answer : Answer) (file : List ℕ) (xs : List LinedStatement) (q : Question) → lines_with answer file q.perm.now (members_of xs (source_asked q)) (members_of xs (target_asked q)) xs ≡ lines_of answer file xs q
 all_lines Allowed file xs q =

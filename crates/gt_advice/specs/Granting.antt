@@ -25,32 +25,33 @@ takes_out names (Without m) = list_any (λ v. bytes_eq v m.name) names
 takes_out names Itself = false
 
 -- a set holds a type of these names (SELinux policy language)
-abbrev pub holds : List (List ℕ) → List SetElement → Bool
-holds names items = list_any (λ i. puts_in names i) items && not (list_any (λ i. takes_out names i) items)
+abbrev pub elements_hold : List (List ℕ) → List SetElement → Bool
+elements_hold names items = list_any (λ i. puts_in names i) items && not (list_any (λ i. takes_out names i) items)
 
 -- the target set holds the target, or says `self` and the two are one (SELinux policy language: allow)
-abbrev pub reaches : Member → Member → Allowance → Bool
-reaches s t a = holds t.names a.target || (list_any is_self a.target && bytes_eq s.name t.name)
+abbrev pub reaches_by : Member → Member → Allowance → Bool
+reaches_by s t a = elements_hold t.names a.target || (list_any is_self a.target && bytes_eq s.name t.name)
 
 -- the source set holds the source, and the permission of class `grant` is listed (SELinux policy language: allow)
 abbrev pub gives_source : List ℕ → Member → Allowance → Bool
-gives_source w s a = (has_grant a.classes && lists_word a.perms w) && holds s.names a.source
+gives_source w s a = (has_grant a.classes && lists_word a.perms w) && elements_hold s.names a.source
 
 -- a grant to the source on some of the targets (SELinux policy language: allow)
-abbrev pub gives : List ℕ → List Member → Member → Allowance → Bool
-gives w targets s a = gives_source w s a && list_any (λ t. reaches s t a) targets
+abbrev pub gives_by : List ℕ → List Member → Member → Allowance → Bool
+gives_by w targets s a = gives_source w s a && list_any (λ t. reaches_by s t a) targets
 
 -- a statement grants it to some of the sources on some of the targets
 abbrev pub gives_some : List ℕ → List Member → List Member → Statement → Bool
 gives_some w sources targets (DeclareType v ms) = false
 gives_some w sources targets (DeclareAttribute v) = false
 gives_some w sources targets (GiveAttributes m ms) = false
-gives_some w sources targets (Allow a) = list_any (λ s. gives w targets s a) sources
+gives_some w sources targets (Allow a) = list_any (λ s. gives_by w targets s a) sources
 
 -- some of the targets is reached, and the permission is listed or the source set holds the source
 abbrev pub comes_near : List ℕ → List Member → Member → Allowance → Bool
 comes_near w targets s a =
-    (has_grant a.classes && (lists_word a.perms w || holds s.names a.source)) && list_any (λ t. reaches s t a) targets
+    (has_grant a.classes && (lists_word a.perms w || elements_hold s.names a.source))
+      && list_any (λ t. reaches_by s t a) targets
 
 -- a statement that comes near
 abbrev pub near_some : List ℕ → List Member → List Member → Statement → Bool
@@ -64,11 +65,11 @@ abbrev pub gives_one : List ℕ → Member → Member → Statement → Bool
 gives_one w s t (DeclareType v ms) = false
 gives_one w s t (DeclareAttribute v) = false
 gives_one w s t (GiveAttributes m ms) = false
-gives_one w s t (Allow a) = gives_source w s a && reaches s t a
+gives_one w s t (Allow a) = gives_source w s a && reaches_by s t a
 
 -- of a source to which both may grant it, a statement reaches a target on which the other does not
 abbrev pub exceeds_on : List ℕ → List Member → Allowance → Statement → Member → Bool
-exceeds_on w targets a other s = list_any (λ t. reaches s t a && not (gives_one w s t other)) targets
+exceeds_on w targets a other s = list_any (λ t. reaches_by s t a && not (gives_one w s t other)) targets
 
 -- a statement grants it to some of the types on some of them, where the other does not
 abbrev pub exceeds_some : List ℕ → List Member → Statement → Statement → Bool

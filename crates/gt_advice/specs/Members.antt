@@ -16,12 +16,12 @@ names_given t (GiveAttributes m ms) = if bytes_eq m.name t then map (λ n. n.nam
 names_given t (Allow a) = []
 
 -- the names that stand for a type: its own, and those of the attributes that statements give it (SELinux policy language)
-abbrev pub names_of : List LinedStatement → List ℕ → List (List ℕ)
-names_of xs t = t ∷ flat_map (λ x. names_given t x.statement) xs
+abbrev pub names_in_lines : List LinedStatement → List ℕ → List (List ℕ)
+names_in_lines xs t = t ∷ flat_map (λ x. names_given t x.statement) xs
 
 -- a type with the names that stand for it
-abbrev pub member_of : List LinedStatement → List ℕ → Member
-member_of xs t = record { name = t; names = names_of xs t }
+abbrev pub membership_of : List LinedStatement → List ℕ → Member
+membership_of xs t = record { name = t; names = names_in_lines xs t }
 
 -- the type is asked for: by its name, or as any
 abbrev pub is_asked : Option (List ℕ) → List ℕ → Bool
@@ -30,7 +30,7 @@ is_asked None t = true
 
 -- the type that a statement declares, if it is asked for
 abbrev pub members_in : List LinedStatement → Option (List ℕ) → Statement → List Member
-members_in xs asked (DeclareType w ms) = if is_asked asked w then member_of xs w ∷ [] else []
+members_in xs asked (DeclareType w ms) = if is_asked asked w then membership_of xs w ∷ [] else []
 members_in xs asked (DeclareAttribute w) = []
 members_in xs asked (GiveAttributes m ms) = []
 members_in xs asked (Allow a) = []

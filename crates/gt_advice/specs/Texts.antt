@@ -15,7 +15,7 @@ use Rattle.gt_policy.specs.declared.statements.Statement.{Statement}
 use Rattle.gt_policy.specs.declared.statements.Statement.TheVariants.{DeclareType, DeclareAttribute, GiveAttributes}
 use Rattle.gt_policy.specs.declared.statements.Statement.TheVariants.{Allow}
 use Rattle.gt_advice.specs.declared.members.Member.{Member}
-use Rattle.gt_advice.specs.Granting.{puts_in, holds}
+use Rattle.gt_advice.specs.Granting.{puts_in, elements_hold}
 
 -- an item of a set (SELinux policy language)
 abbrev pub item_text : SetElement → List ℕ
@@ -84,7 +84,7 @@ way_text m items = if list_any (λ i. names_type m.name i) items then []
 
 -- a type that the set holds, and by which attribute
 abbrev pub held_text : List SetElement → Member → List ℕ
-held_text items m = if holds m.names items then codes " " ++ m.name ++ way_text m items else []
+held_text items m = if elements_hold m.names items then codes " " ++ m.name ++ way_text m items else []
 
 -- those of the types that the set holds
 abbrev pub all_held_text : List SetElement → List Member → List ℕ
@@ -104,12 +104,12 @@ abbrev pub place_text : List ℕ → ℕ → List ℕ
 place_text file line = file ++ codes ":" ++ decimal line ++ codes ": "
 
 -- the line of an allow statement
-abbrev pub entry_of : List ℕ → ℕ → List Member → List Member → Statement → List ℕ
-entry_of file line sources targets (DeclareType w ms) = []
-entry_of file line sources targets (DeclareAttribute w) = []
-entry_of file line sources targets (GiveAttributes m ms) = []
-entry_of file line sources targets (Allow a) = place_text file line ++ allow_text a ++ note_text sources targets a
+abbrev pub report_entry : List ℕ → ℕ → List Member → List Member → Statement → List ℕ
+report_entry file line sources targets (DeclareType w ms) = []
+report_entry file line sources targets (DeclareAttribute w) = []
+report_entry file line sources targets (GiveAttributes m ms) = []
+report_entry file line sources targets (Allow a) = place_text file line ++ allow_text a ++ note_text sources targets a
 
 -- the same, of a statement with its line
-abbrev pub entry_text : List ℕ → List Member → List Member → LinedStatement → List ℕ
-entry_text file sources targets x = entry_of file x.line sources targets x.statement
+abbrev pub report_entry_text : List ℕ → List Member → List Member → LinedStatement → List ℕ
+report_entry_text file sources targets x = report_entry file x.line sources targets x.statement

@@ -15,7 +15,7 @@ use Rattle.gt_advice.specs.declared.asking.Explanation.{Explanation}
 use Rattle.gt_advice.specs.declared.asking.Question.{Question}
 use Rattle.gt_advice.specs.Granting.{gives_some, near_some}
 use Rattle.gt_advice.specs.Members.{is_asked, members_of}
-use Rattle.gt_advice.specs.Texts.{entry_text}
+use Rattle.gt_advice.specs.Texts.{report_entry_text}
 
 -- the name that is asked for, none for any type
 abbrev pub source_asked : Question → Option (List ℕ)
@@ -40,15 +40,15 @@ is_near xs q x = near_some q.perm.now (members_of xs (source_asked q)) (members_
 
 -- the line of a statement, if it is one of them
 abbrev pub entry_if : (Statement → Bool) → List ℕ → List Member → List Member → LinedStatement → List ℕ
-entry_if test file sources targets x = if test x.statement then entry_text file sources targets x else []
+entry_if test file sources targets x = if test x.statement then report_entry_text file sources targets x else []
 
 -- the lines of those of the statements
 abbrev pub entries_if : (Statement → Bool) → List ℕ → List Member → List Member → List LinedStatement → List ℕ
 entries_if test file sources targets xs = flat_map (λ x. entry_if test file sources targets x) xs
 
 -- what these statements answer for these sources and targets
-abbrev pub answer_with : List ℕ → List Member → List Member → List LinedStatement → Answer
-answer_with w sources targets xs = if is_none (permission_of w) then NoPermission
+abbrev pub answer_by : List ℕ → List Member → List Member → List LinedStatement → Answer
+answer_by w sources targets xs = if is_none (permission_of w) then NoPermission
     else (if length sources == 0 then NoSource
     else (if length targets == 0 then NoTarget
     else (if list_any (λ x. gives_some w sources targets x.statement) xs then Allowed else Denied)))
@@ -64,8 +64,8 @@ lines_with NoTarget file w sources targets xs = []
 lines_with NoPermission file w sources targets xs = []
 
 -- what a policy answers: allowed if some statement grants what is asked
-abbrev pub answer_of : List LinedStatement → Question → Answer
-answer_of xs q = if is_none (permission_of q.perm.now) then NoPermission
+abbrev pub why_answer : List LinedStatement → Question → Answer
+why_answer xs q = if is_none (permission_of q.perm.now) then NoPermission
     else (if length (types_asked xs (source_asked q)) == 0 then NoSource
     else (if length (types_asked xs (target_asked q)) == 0 then NoTarget
     else (if list_any (λ x. grants_asked xs q x.statement) xs then Allowed else Denied)))
@@ -73,7 +73,7 @@ answer_of xs q = if is_none (permission_of q.perm.now) then NoPermission
 -- the lines of the statements that pass
 abbrev pub entries_of : (Statement → Bool) → List ℕ → List LinedStatement → Question → List ℕ
 entries_of test file xs q =
-    flat_map (entry_text file (members_of xs (source_asked q)) (members_of xs (target_asked q)))
+    flat_map (report_entry_text file (members_of xs (source_asked q)) (members_of xs (target_asked q)))
     (filter (λ x. test x.statement) xs)
 
 -- The lines of an answer. For an allowed question they are those of exactly the statements that grant it, in the
@@ -87,4 +87,4 @@ lines_of NoPermission file xs q = []
 
 -- the answer is what the statements say, with its lines
 abbrev pub IsExplained : List ℕ → Question → List LinedStatement → Explanation → Type 0
-IsExplained file q xs e = (e.answer ≡ answer_of xs q) × (e.lines.items ≡ lines_of e.answer file xs q)
+IsExplained file q xs e = (e.answer ≡ why_answer xs q) × (e.lines.items ≡ lines_of e.answer file xs q)

@@ -10,7 +10,7 @@ ghost use Rattle.gt_policy.specs.declared.fault.TokenFault.{TokenFault};
 ghost use Rattle.gt_policy.specs.declared.lined.LinedStatement.{LinedStatement};
 ghost use Rattle.gt_advice.specs.Granting.{gives_some, near_some};
 ghost use Rattle.gt_advice.specs.Members.{members_of};
-ghost use Rattle.gt_advice.specs.Why.{entry_if, entries_if, answer_with, lines_with, IsExplained};
+ghost use Rattle.gt_advice.specs.Why.{entry_if, entries_if, answer_by, lines_with, IsExplained};
 
 use crate::granting::{gives_some, near_some};
 use crate::members::{Member, members_of};
@@ -69,7 +69,7 @@ fn answer_with(
     targets: &[Member],
     perm: &str,
 ) -> Answer
-    ensures { result ≡ answer_with perm.now sources.now targets.now statements.now }
+    ensures { result ≡ answer_by perm.now sources.now targets.now statements.now }
 {
     if Perms::named(perm.as_bytes()).is_none() {
         Answer::NoPermission

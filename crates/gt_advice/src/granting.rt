@@ -4,7 +4,8 @@ ghost use Rattle.std.specs.List.{list_any};
 ghost use Rattle.std.specs.Str.{bytes_eq};
 ghost use Rattle.gt_policy.specs.Granting.{lists_word, is_self};
 ghost use Rattle.gt_policy.specs.Resolving.{has_grant};
-ghost use Rattle.gt_advice.specs.Granting.{puts_in, takes_out, holds, reaches, gives_source, gives, gives_some};
+ghost use Rattle.gt_advice.specs.Granting.{puts_in, takes_out, elements_hold, reaches_by, gives_source, gives_by};
+ghost use Rattle.gt_advice.specs.Granting.{gives_some};
 ghost use Rattle.gt_advice.specs.Granting.{comes_near, exceeds_on, exceeds_some, gives_one, near_some};
 
 use crate::members::{Member, is_same};
@@ -81,7 +82,7 @@ fn some_takes_out(names: &[TextPiece], items: &[SetElement]) -> bool
 
 /// Whether a set holds a type of these names.
 pub(crate) fn holds(names: &[TextPiece], items: &[SetElement]) -> bool
-    ensures { result ≡ holds names.now items.now }
+    ensures { result ≡ elements_hold names.now items.now }
 {
     some_puts_in(names, items) && !some_takes_out(names, items)
 }
@@ -95,7 +96,7 @@ pub(crate) fn says_self(items: &[SetElement]) -> bool
 
 // Whether a statement's target set holds the target, or says `self` and the two are one.
 fn reaches(allowed: &Allowance, source: &Member, target: &Member) -> bool
-    ensures { result ≡ reaches source.now target.now allowed.now }
+    ensures { result ≡ reaches_by source.now target.now allowed.now }
 {
     holds(target.names.as_slice(), allowed.target.as_slice())
         || (says_self(allowed.target.as_slice()) && is_same(&source.name, &target.name))
@@ -103,7 +104,7 @@ fn reaches(allowed: &Allowance, source: &Member, target: &Member) -> bool
 
 // The same, of some of the targets.
 fn reaches_some(allowed: &Allowance, source: &Member, targets: &[Member]) -> bool
-    ensures { result ≡ list_any (λ t. reaches source.now t allowed.now) targets.now }
+    ensures { result ≡ list_any (λ t. reaches_by source.now t allowed.now) targets.now }
 {
     targets
         .iter()
@@ -121,14 +122,14 @@ fn gives_source(allowed: &Allowance, source: &Member, perm: &str) -> bool
 
 // Whether a statement grants the permission to the source on some of the targets.
 fn gives(allowed: &Allowance, source: &Member, targets: &[Member], perm: &str) -> bool
-    ensures { result ≡ gives perm.now targets.now source.now allowed.now }
+    ensures { result ≡ gives_by perm.now targets.now source.now allowed.now }
 {
     gives_source(allowed, source, perm) && reaches_some(allowed, source, targets)
 }
 
 // Whether it is granted to some of the sources on some of the targets.
 fn gives_any(allowed: &Allowance, sources: &[Member], targets: &[Member], perm: &str) -> bool
-    ensures { result ≡ list_any (λ s. gives perm.now targets.now s allowed.now) sources.now }
+    ensures { result ≡ list_any (λ s. gives_by perm.now targets.now s allowed.now) sources.now }
 {
     sources
         .iter()

@@ -2,7 +2,7 @@
 ghost use Rattle.std.specs.Prelude.{◌≡◌, ◌++◌, map, IfOk, OnOk};
 ghost use Rattle.std.specs.Option.{option_map};
 ghost use Rattle.std.specs.Str.{bytes_eq};
-ghost use Rattle.gt_advice.specs.Members.{names_given, names_of, is_asked, members_in, members_of};
+ghost use Rattle.gt_advice.specs.Members.{names_given, names_in_lines, is_asked, members_in, members_of};
 
 use gt_policy::{Items, LinedStatement, Mention, Statement, TextPiece};
 use std::alloc::{AllocError, Global};
@@ -64,7 +64,7 @@ fn names_of<'a>(
     statements: &[LinedStatement<'a>],
     name: &TextPiece<'a>,
 ) -> Result<Items<TextPiece<'a>>, AllocError>
-    ensures { IfOk result (λ names. names ≡ names_of statements.now name.now) }
+    ensures { IfOk result (λ names. names ≡ names_in_lines statements.now name.now) }
 {
     let mut names = Items::new(alloc);
     names.push(name.again())?;

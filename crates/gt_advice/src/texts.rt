@@ -4,7 +4,7 @@ ghost use Rattle.std.specs.List.{list_any, list_all};
 ghost use Rattle.std.specs.Option.{option_map};
 ghost use Rattle.gt_advice.specs.Texts.{is_plain, item_text, items_text, set_text, words_text, list_text, perms_text};
 ghost use Rattle.gt_advice.specs.Texts.{allow_text, names_type, way_text, held_text, all_held_text, self_text};
-ghost use Rattle.gt_advice.specs.Texts.{note_text, place_text, entry_text, is_kept, by_text, item_by_text};
+ghost use Rattle.gt_advice.specs.Texts.{note_text, place_text, report_entry_text, is_kept, by_text, item_by_text};
 ghost use Rattle.gt_advice.specs.Granting.{puts_in};
 
 use crate::granting::{holds, puts_in, says_self};
@@ -249,7 +249,8 @@ pub(crate) fn push_entry(
     sources: &[Member],
     targets: &[Member],
 ) -> Result<(), AllocError>
-    ensures { OnOk result (out.new.items ≡ out.old.items ++ entry_text file.now sources.now targets.now stated.now) }
+    ensures { OnOk result (out.new.items ≡ out.old.items
+        ++ report_entry_text file.now sources.now targets.now stated.now) }
 {
     let Statement::Allow(allowed) = &stated.statement else {
         return Ok(());

@@ -11,11 +11,11 @@ use Rattle.gt_advice.specs.declared.asking.Answer.TheVariants as answers
 use Rattle.gt_advice.specs.declared.asking.Explanation.{Explanation}
 use Rattle.gt_advice.specs.declared.asking.Question.{Question}
 use Rattle.gt_advice.specs.declared.findings.Finding.{Finding}
-use Rattle.gt_advising.specs.Checking.{Checked, CheckedText, IsClean}
-use Rattle.gt_advising.specs.Explaining.{Answers, AskedOf, Explained, WritesLines, answer_for}
+use Rattle.gt_advising.specs.Checking.{Checked, CheckedText, IsCleanText}
+use Rattle.gt_advising.specs.Explaining.{AnswersWhy, AskedOf, Explained, WritesLines, answer_for}
 use Rattle.gt_advising.specs.declared.fault.WhyFault.{WhyFault}
 use Rattle.gt_advising.specs.declared.fault.WhyFault.TheVariants.{Text, NoSource, NoTarget, NoPermission}
-use Rattle.gt_listing.specs.Faults.{fault_of, read_fault}
+use Rattle.gt_listing.specs.Faults.{listing_fault_of, listing_read_fault}
 use Rattle.gt_listing.specs.Reading.{IsNoText}
 use Rattle.gt_listing.specs.declared.fault.ListingFault.{ListingFault}
 use Rattle.gt_listing.specs.declared.fault.ListingFault.TheVariants as faults
@@ -55,14 +55,14 @@ some_error (x ∷ xs) line some = by (is_error x.kind) refl some (some_error xs 
     by true e some later = rw e refl
     by false e some later = rw e (later (rw e at some))
 
-clean : (text : List ℕ) (found : List Finding) → Judges text found → IsClean text (not (errs found))
+clean : (text : List ℕ) (found : List Finding) → Judges text found → IsCleanText text (not (errs found))
 clean text found (faulty f _ says line) = rw (some_error found f.line line) (f, says)
 clean text found (sound m xs _ says lined none _ _) = rw (no_error found none) (m, says)
 
 -- the findings went out
 pub checked_text : (text : List ℕ) (found : List Finding) (report : List ℕ) (old new : Option (List ℕ)) (answer : Bool) → Judges text found → answer ≡ not (errs found) → Appends old new report
     → CheckedText text old new (Ok answer)
-checked_text text found report old new answer judges is went = (found, report, judges, subst (IsClean text) (sym is) (clean text found judges), went)
+checked_text text found report old new answer judges is went = (found, report, judges, subst (IsCleanText text) (sym is) (clean text found judges), went)
 
 take_shorter : (n : ℕ) (xs : List ℕ) → length (take n xs) ≤ length xs
 take_shorter n xs = rw length-take (omega arith)
@@ -98,21 +98,21 @@ checked_no all bytes faults.Memory old read h = absurd h
 checked_no all bytes faults.Read old read h = absurd h
 checked_no all bytes faults.Write old read h = absurd h
 
-unread : (all : List ℕ) (old : Option (List ℕ)) (error : ReadFault) → Checked all old old (Err (read_fault error))
+unread : (all : List ℕ) (old : Option (List ℕ)) (error : ReadFault) → Checked all old old (Err (listing_read_fault error))
 unread all old reads.Memory = keeps_same old
 unread all old reads.Read = keeps_same old
 
-pub checked_unread : (known old : Option (List ℕ)) (error : ReadFault) (fault : ListingFault) → fault ≡ read_fault error → OfInput known (λ input. Checked input old old (Err fault))
+pub checked_unread : (known old : Option (List ℕ)) (error : ReadFault) (fault : ListingFault) → fault ≡ listing_read_fault error → OfInput known (λ input. Checked input old old (Err fault))
 checked_unread known old error fault is =
     of_any_input known (λ (input : List ℕ). Checked input old old (Err fault)) (λ (input : List ℕ). subst (λ (f : ListingFault). Checked input old old (Err f)) (sym is) (unread input old error))
 
 -- ---- a question
 
 -- the lines of an answer went out
-pub asked_lines : (file text lines : List ℕ) (q : Question) (e : Explanation) (allowed : Bool) (old new : Option (List ℕ)) (r : Result Bool WhyFault) → lines ≡ e.lines.items → Answers file text q (answer_for allowed) e
+pub asked_lines : (file text lines : List ℕ) (q : Question) (e : Explanation) (allowed : Bool) (old new : Option (List ℕ)) (r : Result Bool WhyFault) → lines ≡ e.lines.items → AnswersWhy file text q (answer_for allowed) e
     → WritesLines lines allowed old new r → AskedOf file q text old new r
 asked_lines file text lines q e allowed old new (Ok answer) same is (of, went) =
-    (e, subst (λ (b : Bool). Answers file text q (answer_for b) e) (sym of) is, subst (λ (l : List ℕ). Appends old new l) same went)
+    (e, subst (λ (b : Bool). AnswersWhy file text q (answer_for b) e) (sym of) is, subst (λ (l : List ℕ). Appends old new l) same went)
 asked_lines file text lines q e allowed old new (Err NoSource) same is w = absurd w
 asked_lines file text lines q e allowed old new (Err NoTarget) same is w = absurd w
 asked_lines file text lines q e allowed old new (Err NoPermission) same is w = absurd w
@@ -124,7 +124,7 @@ asked_lines file text lines q e allowed old new (Err (Text (faults.Policy shown)
 
 -- the text is no policy
 refused : (file text : List ℕ) (q : Question) (line : ℕ) (kind : PolicyFaultKind) (old : Option (List ℕ)) → ((f : TokenFault) → fault_shown (record { line = line; kind = kind }) ≡ Some f → Says text (Err f))
-    → AskedOf file q text old old (Err (Text (fault_of line kind)))
+    → AskedOf file q text old old (Err (Text (listing_fault_of line kind)))
 refused file text q line kinds.Memory old says = keeps_same old
 refused file text q line kinds.Syntax old says = (_, refl, says _ refl, keeps_same old)
 refused file text q line (kinds.Unknown name) old says = (_, refl, says _ refl, keeps_same old)
@@ -133,7 +133,7 @@ refused file text q line (kinds.Permission name) old says = (_, refl, says _ ref
 refused file text q line (kinds.Outside word) old says = (_, refl, says _ refl, keeps_same old)
 refused file text q line kinds.Limit old says = (_, refl, says _ refl, keeps_same old)
 
-pub asked_no : (file text : List ℕ) (q : Question) (line : ℕ) (kind : PolicyFaultKind) (fault : ListingFault) (old : Option (List ℕ)) → fault ≡ fault_of line kind
+pub asked_no : (file text : List ℕ) (q : Question) (line : ℕ) (kind : PolicyFaultKind) (fault : ListingFault) (old : Option (List ℕ)) → fault ≡ listing_fault_of line kind
     → ((f : TokenFault) → fault_shown (record { line = line; kind = kind }) ≡ Some f → Says text (Err f)) → AskedOf file q text old old (Err (Text fault))
 asked_no file text q line kind fault old is says = subst (λ (f : ListingFault). AskedOf file q text old old (Err (Text f))) (sym is) (refused file text q line kind old says)
 
@@ -161,11 +161,11 @@ explained_no file all bytes q faults.Memory old read h = absurd h
 explained_no file all bytes q faults.Read old read h = absurd h
 explained_no file all bytes q faults.Write old read h = absurd h
 
-unasked : (file all : List ℕ) (q : Question) (old : Option (List ℕ)) (error : ReadFault) → Explained file q all old old (Err (Text (read_fault error)))
+unasked : (file all : List ℕ) (q : Question) (old : Option (List ℕ)) (error : ReadFault) → Explained file q all old old (Err (Text (listing_read_fault error)))
 unasked file all q old reads.Memory = keeps_same old
 unasked file all q old reads.Read = keeps_same old
 
-pub explained_unread : (file : List ℕ) (q : Question) (known old : Option (List ℕ)) (error : ReadFault) (fault : ListingFault) → fault ≡ read_fault error → OfInput known (λ input. Explained file q input old old (Err (Text fault)))
+pub explained_unread : (file : List ℕ) (q : Question) (known old : Option (List ℕ)) (error : ReadFault) (fault : ListingFault) → fault ≡ listing_read_fault error → OfInput known (λ input. Explained file q input old old (Err (Text fault)))
 explained_unread file q known old error fault is =
     of_any_input known (λ (input : List ℕ). Explained file q input old old (Err (Text fault)))
     (λ (input : List ℕ). subst (λ (f : ListingFault). Explained file q input old old (Err (Text f))) (sym is) (unasked file input q old error))

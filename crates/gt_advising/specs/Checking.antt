@@ -4,7 +4,7 @@ use Rattle.std.specs.Io.KnownBytes.{Appends, Keeps}
 use Rattle.std.specs.Str.{IsUtf8}
 use Rattle.gt_advice.specs.Check.{Judges}
 use Rattle.gt_advice.specs.declared.findings.Finding.{Finding}
-use Rattle.gt_listing.specs.Reading.{IsBadAt, IsFaulty}
+use Rattle.gt_listing.specs.Reading.{IsNotUtf8At, IsFaulty}
 use Rattle.gt_listing.specs.declared.fault.ListingFault.{ListingFault}
 use Rattle.gt_listing.specs.declared.fault.ListingFault.TheVariants.{Utf8, Policy, Memory, Read, Write}
 use Rattle.gt_policy.specs.Allowing.{Meaning}
@@ -14,15 +14,15 @@ use Rattle.gt_policy.specs.declared.fault.TokenFault.{TokenFault}
 use Rattle.gt_streams.specs.Streams.{AppendsBeginning}
 
 -- the text is a policy, or it is none (own)
-abbrev pub IsClean : List ℕ → Bool → Type 0
-IsClean text true = (m : Meaning) × Says text (Ok m)
-IsClean text false = (f : TokenFault) × Says text (Err f)
+abbrev pub IsCleanText : List ℕ → Bool → Type 0
+IsCleanText text true = (m : Meaning) × Says text (Ok m)
+IsCleanText text false = (f : TokenFault) × Says text (Err f)
 
 -- what was written for a text: at Ok what was found in it, and whether it is a policy; after a failed
 -- write a beginning; nothing where memory is refused (own)
 abbrev pub CheckedText : List ℕ → Option (List ℕ) → Option (List ℕ) → Result Bool ListingFault → Type 0
 CheckedText text old new (Ok clean) =
-    (found : List Finding) × (report : List ℕ) × Judges text found × IsClean text clean × Appends old new report
+    (found : List Finding) × (report : List ℕ) × Judges text found × IsCleanText text clean × Appends old new report
 CheckedText text old new (Err Write) = (report : List ℕ) × AppendsBeginning old new report
 CheckedText text old new (Err Memory) = Keeps old new
 CheckedText text old new (Err Read) = ⊥
@@ -35,6 +35,6 @@ Checked bytes old new (Ok clean) = IsUtf8 bytes × CheckedText bytes old new (Ok
 Checked bytes old new (Err Write) = (report : List ℕ) × AppendsBeginning old new report
 Checked bytes old new (Err Memory) = Keeps old new
 Checked bytes old new (Err Read) = Keeps old new
-Checked bytes old new (Err (Utf8 line)) = IsBadAt bytes line × Keeps old new
+Checked bytes old new (Err (Utf8 line)) = IsNotUtf8At bytes line × Keeps old new
 Checked bytes old new (Err (Policy shown)) =
     (f : TokenFault) × (fault_shown shown ≡ Some f) × IsFaulty bytes f × Keeps old new

@@ -9,7 +9,7 @@ use Rattle.gt_advice.specs.declared.asking.Explanation.{Explanation}
 use Rattle.gt_advice.specs.declared.asking.Question.{Question}
 use Rattle.gt_advising.specs.declared.fault.WhyFault.{WhyFault}
 use Rattle.gt_advising.specs.declared.fault.WhyFault.TheVariants.{Text, NoSource, NoTarget, NoPermission}
-use Rattle.gt_listing.specs.Reading.{IsBadAt, IsFaulty}
+use Rattle.gt_listing.specs.Reading.{IsNotUtf8At, IsFaulty}
 use Rattle.gt_listing.specs.declared.fault.ListingFault.TheVariants.{Utf8, Policy, Memory, Read, Write}
 use Rattle.gt_policy.specs.Allowing.{Meaning}
 use Rattle.gt_policy.specs.Lined.{IsLined}
@@ -20,8 +20,8 @@ use Rattle.gt_policy.specs.declared.lined.LinedStatement.{LinedStatement}
 use Rattle.gt_streams.specs.Streams.{AppendsBeginning}
 
 -- the text is a policy, and what its statements explain answers so (own)
-abbrev pub Answers : List ℕ → List ℕ → Question → Answer → Explanation → Type 0
-Answers file text q answer e =
+abbrev pub AnswersWhy : List ℕ → List ℕ → Question → Answer → Explanation → Type 0
+AnswersWhy file text q answer e =
     (m : Meaning) × (xs : List LinedStatement) × Says text (Ok m) × IsLined text xs × IsExplained file q xs e
     × (e.answer ≡ answer)
 
@@ -45,13 +45,13 @@ WritesLines lines allowed old new (Err (Text (Policy shown))) = ⊥
 -- a name of the question is not there (own)
 abbrev pub AskedOf : List ℕ → Question → List ℕ → Option (List ℕ) → Option (List ℕ) → Result Bool WhyFault → Type 0
 AskedOf file q text old new (Ok allowed) =
-    (e : Explanation) × Answers file text q (answer_for allowed) e × Appends old new e.lines.items
+    (e : Explanation) × AnswersWhy file text q (answer_for allowed) e × Appends old new e.lines.items
 AskedOf file q text old new (Err NoSource) =
-    ((e : Explanation) × Answers file text q answers.NoSource e) × Keeps old new
+    ((e : Explanation) × AnswersWhy file text q answers.NoSource e) × Keeps old new
 AskedOf file q text old new (Err NoTarget) =
-    ((e : Explanation) × Answers file text q answers.NoTarget e) × Keeps old new
+    ((e : Explanation) × AnswersWhy file text q answers.NoTarget e) × Keeps old new
 AskedOf file q text old new (Err NoPermission) =
-    ((e : Explanation) × Answers file text q answers.NoPermission e) × Keeps old new
+    ((e : Explanation) × AnswersWhy file text q answers.NoPermission e) × Keeps old new
 AskedOf file q text old new (Err (Text Write)) = (lines : List ℕ) × AppendsBeginning old new lines
 AskedOf file q text old new (Err (Text Memory)) = Keeps old new
 AskedOf file q text old new (Err (Text Read)) = ⊥
@@ -68,6 +68,6 @@ Explained file q bytes old new (Err NoPermission) = IsUtf8 bytes × AskedOf file
 Explained file q bytes old new (Err (Text Write)) = (lines : List ℕ) × AppendsBeginning old new lines
 Explained file q bytes old new (Err (Text Memory)) = Keeps old new
 Explained file q bytes old new (Err (Text Read)) = Keeps old new
-Explained file q bytes old new (Err (Text (Utf8 line))) = IsBadAt bytes line × Keeps old new
+Explained file q bytes old new (Err (Text (Utf8 line))) = IsNotUtf8At bytes line × Keeps old new
 Explained file q bytes old new (Err (Text (Policy shown))) =
     (f : TokenFault) × (fault_shown shown ≡ Some f) × IsFaulty bytes f × Keeps old new

@@ -9,14 +9,14 @@ use Rattle.gt_listing.specs.declared.fault.ListingFault.TheVariants.{Utf8, Polic
 use Rattle.gt_script.specs.Contents.{Contents}
 use Rattle.gt_script.specs.RunContents.{RunContents}
 use Rattle.gt_script.specs.RunScripts.{RunTells}
-use Rattle.gt_script.specs.Script.{Tells, Wrong}
-use Rattle.gt_script_advice.specs.Judging.{Judges}
+use Rattle.gt_script.specs.Script.{TellsScript, Wrong}
+use Rattle.gt_script_advice.specs.Judging.{JudgesScript}
 use Rattle.gt_streams.specs.Streams.{AppendsBeginning}
 
 -- the bytes are a script for `play` or for `run`, or for neither (own)
 abbrev pub IsScript : List ℕ → Bool → Type 0
-IsScript bytes true = ((c : Contents) × Tells bytes (Ok c)) ⊎ ((c : RunContents) × RunTells bytes (Ok c))
-IsScript bytes false = (play : Wrong) × (run : Wrong) × Tells bytes (Err play) × RunTells bytes (Err run)
+IsScript bytes true = ((c : Contents) × TellsScript bytes (Ok c)) ⊎ ((c : RunContents) × RunTells bytes (Ok c))
+IsScript bytes false = (play : Wrong) × (run : Wrong) × TellsScript bytes (Err play) × RunTells bytes (Err run)
 
 -- findings went out, or a beginning of them; the answer is that none is an error (own)
 abbrev pub TellsFindings : List Finding → Option (List ℕ) → Option (List ℕ) → Result Bool ListingFault → Type 0
@@ -32,7 +32,8 @@ TellsFindings found old new (Err (Policy shown)) = ⊥
 -- nothing where memory is refused or the text is not read (own)
 abbrev pub CheckedScript : List ℕ → Option (List ℕ) → Option (List ℕ) → Result Bool ListingFault → Type 0
 CheckedScript bytes old new (Ok clean) =
-    (found : List Finding) × (report : List ℕ) × Judges bytes found × IsScript bytes clean × Appends old new report
+    (found : List Finding) × (report : List ℕ) × JudgesScript bytes found × IsScript bytes clean
+      × Appends old new report
 CheckedScript bytes old new (Err Write) = (report : List ℕ) × AppendsBeginning old new report
 CheckedScript bytes old new (Err Memory) = Keeps old new
 CheckedScript bytes old new (Err Read) = Keeps old new

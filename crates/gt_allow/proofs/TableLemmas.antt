@@ -12,15 +12,15 @@ use Rattle.std.proofs.lemmas.List.{length-append, get_or-append-add}
 use Rattle.gt_types.specs.declared.perms.Perms.{Perms}
 use Rattle.gt_types.specs.Names.{is_permission}
 use Rattle.gt_policy.specs.Allowing.{lists_perm}
-use Rattle.gt_policy.specs.Rows.{Lane, reaches}
-use Rattle.gt_allow.specs.Looking.{holds_at, looks, IsRow, AreRows}
+use Rattle.gt_policy.specs.Rows.{Lane, lanes_reach}
+use Rattle.gt_allow.specs.Looking.{holds_at, looks_up, IsRow, AreRows}
 use Rattle.gt_policy.specs.Resolving.{no_perms}
 
 abbrev holds_set : Perms → Perms → Bool
 holds_set set perm = is_permission perm && lists_perm set perm
 
 -- one more target
-pub row_more : (row : List Lane) (n : ℕ) (sets : List Perms) (set : Perms) → IsRow row n sets → ((perm : Perms) → (is_permission perm && lists_perm set perm) ≡ reaches row n perm) → IsRow row (n + 1) (sets ++ set ∷ [])
+pub row_more : (row : List Lane) (n : ℕ) (sets : List Perms) (set : Perms) → IsRow row n sets → ((perm : Perms) → (is_permission perm && lists_perm set perm) ≡ lanes_reach row n perm) → IsRow row (n + 1) (sets ++ set ∷ [])
 row_more row n sets set so_far here = (
   length-append sets (set ∷ []) ∙ ap (λ (k : ℕ). k + 1) so_far.0,
   λ t perm low.
@@ -32,12 +32,12 @@ row_more row n sets set so_far here = (
             let last : t ≡ n = omega arith in
             let place : t ≡ length sets = last ∙ sym so_far.0 in
             ap (λ (k : ℕ). holds_at (sets ++ set ∷ []) k perm) place ∙ ap (λ (p : Perms). holds_set p perm) (get_or-append_seam sets set [] no_perms) ∙ here perm
-            ∙ ap (λ (k : ℕ). reaches row k perm) (sym last)
+            ∙ ap (λ (k : ℕ). lanes_reach row k perm) (sym last)
       ],
 )
 
 -- one more source
-pub rows_more : (may : ℕ → ℕ → Perms → Bool) (count n : ℕ) (sets added new : List Perms) (row : List Lane) → AreRows may count n sets → new ≡ sets ++ added → IsRow row count added → reaches row ≡ may n → AreRows may count (n + 1) new
+pub rows_more : (may : ℕ → ℕ → Perms → Bool) (count n : ℕ) (sets added new : List Perms) (row : List Lane) → AreRows may count n sets → new ≡ sets ++ added → IsRow row count added → lanes_reach row ≡ may n → AreRows may count (n + 1) new
 rows_more may count n sets added new row so_far grown is same = (
   ap (λ (xs : List Perms). length xs) grown ∙ length-append sets added ∙ (let e : length sets + length added ≡ (n + 1) * count = omega (arith, so_far.0, is.0) in e),
   λ s t perm low within.
@@ -61,7 +61,7 @@ not_true false h = refl
 
 -- all rows make the table
 pub table_is : (may : ℕ → ℕ → Perms → Bool) (count n m : ℕ) (sets : List Perms) → m ≡ count → n ≡ count → AreRows may count n sets → ((s t : ℕ) (perm : Perms) → may s t perm ≡ true → (s < m) × (t < m))
-    → looks (record { count = count; sets = sets }) ≡ may
+    → looks_up (record { count = count; sets = sets }) ≡ may
 table_is may count n m sets types all rows among = fun_ext (λ s. fun_ext (λ t. fun_ext (λ perm. go s t perm (nat_lt s count) (nat_lt t count) refl refl)))
   where
     go : (s t : ℕ) (perm : Perms) (a b : Bool) → nat_lt s count ≡ a → nat_lt t count ≡ b → ((a && b) && holds_at sets (s * count + t) perm) ≡ may s t perm

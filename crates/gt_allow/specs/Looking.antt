@@ -5,7 +5,7 @@ use Rattle.gt_types.specs.Names.{is_permission}
 use Rattle.gt_types.specs.declared.perms.Perms.{Perms}
 use Rattle.gt_policy.specs.Allowing.{lists_perm}
 use Rattle.gt_policy.specs.Resolving.{no_perms}
-use Rattle.gt_policy.specs.Rows.{Lane, reaches}
+use Rattle.gt_policy.specs.Rows.{Lane, lanes_reach}
 
 -- the number of types, and for each pair of them the permissions that the source has
 -- on the target: source by source, and in each by target
@@ -18,13 +18,14 @@ abbrev pub holds_at : List Perms → ℕ → Perms → Bool
 holds_at sets place perm = is_permission perm && lists_perm (slice_index_or sets place no_perms) perm
 
 -- the table answers yes: both types are among its types, and the set of the two holds the permission
-abbrev pub looks : Table → ℕ → ℕ → Perms → Bool
-looks table s t perm = (nat_lt s table.count && nat_lt t table.count) && holds_at table.sets (s * table.count + t) perm
+abbrev pub looks_up : Table → ℕ → ℕ → Perms → Bool
+looks_up table s t perm =
+    (nat_lt s table.count && nat_lt t table.count) && holds_at table.sets (s * table.count + t) perm
 
 -- the sets of one source, for so many targets
 abbrev pub IsRow : List Lane → ℕ → List Perms → Type 0
 IsRow row count sets =
-    (length sets ≡ count) × ((t : ℕ) (perm : Perms) → t < count → holds_at sets t perm ≡ reaches row t perm)
+    (length sets ≡ count) × ((t : ℕ) (perm : Perms) → t < count → holds_at sets t perm ≡ lanes_reach row t perm)
 
 -- the sets of so many sources, each for as many targets as there are types
 abbrev pub AreRows : (ℕ → ℕ → Perms → Bool) → ℕ → ℕ → List Perms → Type 0

@@ -42,12 +42,12 @@ fn push_row(sets: &mut Vec<Perms>, count: u16, row: &TypeRow) -> Result<(), Allo
 impl AllowTable {
     ghost use Rattle.std.specs.Prelude.{◌≡◌, IfOk};
     ghost use Rattle.gt_policy.specs.Allowing.{may_of};
-    ghost use Rattle.gt_allow.specs.Looking.{looks};
+    ghost use Rattle.gt_allow.specs.Looking.{looks_up};
 
     /// The table of a policy: it answers each question as the policy does. For each type it walks the
     /// statements once, and then the types.
     pub fn compile(alloc: Global, policy: &Policy) -> Result<AllowTable, Memory>
-        ensures { IfOk result (λ table. looks table ≡ may_of policy.now) }
+        ensures { IfOk result (λ table. looks_up table ≡ may_of policy.now) }
     {
         policy.allows_among_its_types();
         let count = policy.count();
@@ -60,9 +60,9 @@ impl AllowTable {
 }
 
 impl Allows for AllowTable {
-    ghost use Rattle.gt_allow.specs.Looking.{looks};
+    ghost use Rattle.gt_allow.specs.Looking.{looks_up};
 
-    ghost may = { λ table source target perm. looks table source.0 target.0 perm };
+    ghost may = { λ table source target perm. looks_up table source.0 target.0 perm };
 
     fn allows(&self, source: TypeId, target: TypeId, perm: Perms) -> bool {
         if source.0 >= self.count || target.0 >= self.count {

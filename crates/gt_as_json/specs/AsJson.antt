@@ -1,6 +1,7 @@
 -- What goes out for a command whose text is written as JSON.
 use Rattle.std.specs.Prelude.{◌≡◌, ◌⊎◌, ℕ, Bool, List, [], Option, Some, Result, Ok, Err}
-use Rattle.gt_as_json.specs.Prelude.{Appends, Keeps, AppendsBeginning, json_text, Printed, Run, Policy, Entries, Tells}
+use Rattle.gt_as_json.specs.Prelude.{Appends, Keeps, AppendsBeginning, json_text, Printed, Run, Policy, Entries}
+use Rattle.gt_as_json.specs.Prelude.{TellsScript}
 use Rattle.gt_as_json.specs.Prelude.{RunTells, PlayFault, Played, RunFault, Ran, ListingFault, Listed, Asked, DumpFault}
 use Rattle.gt_as_json.specs.Prelude.{Told}
 use Rattle.gt_host.specs.declared.fault.PlayFault.TheVariants as plays
@@ -13,21 +14,21 @@ abbrev pub Promise : Type 0 → Type 1
 Promise F = Option (List ℕ) → Option (List ℕ) → Result (Unit {0}) F → Type 0
 
 -- the text is one that the command writes to a writer without bytes, with this answer (own)
-abbrev pub Writes : {F : Type 0} → Promise F → Result (Unit {0}) F → List ℕ → Type 0
-Writes Wrote answer text = Wrote (Some []) (Some text) answer
+abbrev pub WritesJson : {F : Type 0} → Promise F → Result (Unit {0}) F → List ℕ → Type 0
+WritesJson Wrote answer text = Wrote (Some []) (Some text) answer
 
 -- Why the JSON did not go out whole. It may be that none did: memory was refused, or the command has this fault. Or
 -- memory was refused or a write failed on the way, and a beginning of it did. (own)
 abbrev pub Failed : {F : Type 0} → Printed → F → F → Promise F → Option (List ℕ) → Option (List ℕ) → F → Type 0
 Failed printed memory write Wrote old new fault =
-    (Keeps old new × ((fault ≡ memory) ⊎ ((text : List ℕ) × Writes Wrote (Err fault) text)))
+    (Keeps old new × ((fault ≡ memory) ⊎ ((text : List ℕ) × WritesJson Wrote (Err fault) text)))
     ⊎ (((fault ≡ memory) ⊎ (fault ≡ write))
-    × ((text : List ℕ) × Writes Wrote (Ok tt) text × AppendsBeginning old new (json_text printed text)))
+    × ((text : List ℕ) × WritesJson Wrote (Ok tt) text × AppendsBeginning old new (json_text printed text)))
 
 -- what goes out: at Ok the JSON of a text that the command writes; after a fault none of it, or a beginning (own)
 abbrev pub AsJson : {F : Type 0} → Printed → F → F → Promise F → Promise F
 AsJson printed memory write Wrote old new (Ok done) =
-    (text : List ℕ) × Writes Wrote (Ok tt) text × Appends old new (json_text printed text)
+    (text : List ℕ) × WritesJson Wrote (Ok tt) text × Appends old new (json_text printed text)
 AsJson printed memory write Wrote old new (Err fault) = Failed printed memory write Wrote old new fault
 
 -- What goes out once a command wrote a text to memory, with an answer. At Ok it is the JSON of the text, or a beginning
@@ -42,7 +43,7 @@ Passes printed memory write text (Err why) old new (Err fault) = ((fault ≡ mem
 
 -- what `play_json` writes for an input (own)
 abbrev pub PlayedAsJson : List ℕ → Bool → Promise PlayFault
-PlayedAsJson input audit = AsJson Run plays.Memory plays.Write (Played (Tells input) audit)
+PlayedAsJson input audit = AsJson Run plays.Memory plays.Write (Played (TellsScript input) audit)
 
 -- what `run_json` writes for an input, with a log or without (own)
 abbrev pub RanAsJson : List ℕ → Bool → Promise RunFault

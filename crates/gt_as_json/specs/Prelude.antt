@@ -12,6 +12,6 @@ pub use Rattle.gt_listing.specs.declared.fault.ListingFault.{ListingFault}
 pub use Rattle.gt_run.specs.Runs.{Ran}
 pub use Rattle.gt_run.specs.declared.fault.RunFault.{RunFault}
 pub use Rattle.gt_script.specs.RunScripts.{RunTells}
-pub use Rattle.gt_script.specs.Script.{Tells}
+pub use Rattle.gt_script.specs.Script.{TellsScript}
 pub use Rattle.gt_streams.specs.Streams.{AppendsBeginning}
 pub use Rattle.std.specs.Io.KnownBytes.{Appends, Keeps}

@@ -32,8 +32,8 @@ field_at n =
     else fields.Reserved)))))))
 
 -- the domain with this number
-abbrev pub domain_at : ℕ → DomId
-domain_at n = record { 0 = n }
+abbrev pub domain_kept : ℕ → DomId
+domain_kept n = record { 0 = n }
 
 -- the reference with this number
 abbrev pub reference_at : ℕ → GrantRef
@@ -45,17 +45,17 @@ type_at n = record { 0 = n }
 
 -- what was asked
 abbrev pub called : Asked → Packed → Hypercall
-called asks.Map p = calls.Map (domain_at p.dom) (reference_at p.source) p.dest
-called asks.Unmap p = calls.Unmap (Some (domain_at p.dom, reference_at p.source))
+called asks.Map p = calls.Map (domain_kept p.dom) (reference_at p.source) p.dest
+called asks.Unmap p = calls.Unmap (Some (domain_kept p.dom, reference_at p.source))
 called asks.UnmapOfNothing p = calls.Unmap None
 called asks.Copy p =
     calls.Copy
-    (record { ptr = p.source; dom = domain_at p.dom; off = p.source_off })
-    (record { ptr = p.dest; dom = domain_at p.dest_dom; off = p.dest_off })
+    (record { ptr = p.source; dom = domain_kept p.dom; off = p.source_off })
+    (record { ptr = p.dest; dom = domain_kept p.dest_dom; off = p.dest_off })
     p.len
     p.flags
-called asks.QuerySize p = calls.QuerySize (domain_at p.dom)
-called asks.GetVersion p = calls.GetVersion (domain_at p.dom)
+called asks.QuerySize p = calls.QuerySize (domain_kept p.dom)
+called asks.GetVersion p = calls.GetVersion (domain_kept p.dom)
 called asks.SetVersion p = calls.SetVersion p.source
 called asks.SetupTable p = calls.SetupTable p.source
 
@@ -63,8 +63,8 @@ called asks.SetupTable p = calls.SetupTable p.source
 abbrev pub facts_of : Answered → Packed → Facts
 facts_of answers.ByPolicy p = facts.Policy (type_at p.of) (type_at p.found) (record { 0 = p.word })
 facts_of answers.ForField p = facts.Field (field_at p.word)
-facts_of answers.ForHeader p = facts.Header (domain_at p.of) p.word
-facts_of answers.ForEntry p = facts.Entry (domain_at p.of) (reference_at p.found) p.word
+facts_of answers.ForHeader p = facts.Header (domain_kept p.of) p.word
+facts_of answers.ForEntry p = facts.Entry (domain_kept p.of) (reference_at p.found) p.word
 facts_of answered p = facts.None
 
 -- what was answered
@@ -76,8 +76,8 @@ replied answers.Version p = replies.Version p.word
 replied answered p = replies.Denied (record { rule = p.rule; status = p.status; facts = facts_of answered p })
 
 -- the record of these parts
-abbrev pub record_of : Packed → Record
-record_of p = record { dom = domain_at p.caller; call = called p.asked p; reply = replied p.answered p }
+abbrev pub unpacked : Packed → Record
+unpacked p = record { dom = domain_kept p.caller; call = called p.asked p; reply = replied p.answered p }
 
 -- the numbers of a call but a copy are of 32 bits
 abbrev pub FitsCall : Asked → Packed → Type 0

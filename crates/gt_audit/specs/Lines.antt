@@ -18,17 +18,17 @@ abbrev pub domain_text : DomId → DomId → List ℕ
 domain_text caller dom = decimal (resolved caller dom).0
 
 -- ` DOM REF`
-abbrev pub entry_text : DomId → DomId → GrantRef → List ℕ
-entry_text caller dom gref = codes " " ++ domain_text caller dom ++ codes " " ++ decimal gref.0
+abbrev pub reference_text : DomId → DomId → GrantRef → List ℕ
+reference_text caller dom gref = codes " " ++ domain_text caller dom ++ codes " " ++ decimal gref.0
 
 -- what an end of a copy is given by: a grant reference or a frame
-abbrev pub kind_text : Bool → List ℕ
-kind_text is_reference = if is_reference then codes "gref" else codes "frame"
+abbrev pub copy_kind_text : Bool → List ℕ
+copy_kind_text is_reference = if is_reference then codes "gref" else codes "frame"
 
 -- ` KIND DOM PTR OFF`
 abbrev pub end_text : DomId → Bool → CopyEnd → List ℕ
 end_text caller is_reference end =
-    codes " " ++ kind_text is_reference ++ codes " " ++ domain_text caller end.dom ++ codes " " ++ decimal end.ptr
+    codes " " ++ copy_kind_text is_reference ++ codes " " ++ domain_text caller end.dom ++ codes " " ++ decimal end.ptr
     ++ codes " " ++ decimal end.off
 
 -- `copy`, its ends, source first, its length and its flags: bit 0 is the
@@ -40,9 +40,9 @@ copy_text caller source dest len flags =
 
 -- what was asked
 abbrev pub hypercall_text : DomId → Hypercall → List ℕ
-hypercall_text caller (Map dom gref flags) = codes "map" ++ entry_text caller dom gref ++ codes " " ++ decimal flags
+hypercall_text caller (Map dom gref flags) = codes "map" ++ reference_text caller dom gref ++ codes " " ++ decimal flags
 hypercall_text caller (Unmap None) = codes "unmap - -"
-hypercall_text caller (Unmap (Some subject)) = codes "unmap" ++ entry_text caller subject.0 subject.1
+hypercall_text caller (Unmap (Some subject)) = codes "unmap" ++ reference_text caller subject.0 subject.1
 hypercall_text caller (Copy source dest len flags) = copy_text caller source dest len flags
 hypercall_text caller (QuerySize dom) = codes "size" ++ codes " " ++ domain_text caller dom
 hypercall_text caller (GetVersion dom) = codes "getversion" ++ codes " " ++ domain_text caller dom

@@ -11,19 +11,19 @@ abbrev pub IsIn : SharedLog → Pushed → Type 0
 IsIn log p = Shows log.entries p.token
 
 -- the record that it was given for
-abbrev pub record_of : Pushed → Record
-record_of p = p.token.value.told
+abbrev pub pushed_record : Pushed → Record
+pushed_record p = p.token.value.told
 
 -- the number that it was given under, and the record
 abbrev pub numbered_of : Pushed → ℕ × Record
 numbered_of p = (p.token.value.number, p.token.value.told)
 
 -- the token was given for this domain, and is of this log
-abbrev pub IsOf : SharedLog → DomId → Pushed → Type 0
-IsOf log d p = IsIn log p × (p.token.value.dom ≡ d)
+abbrev pub IsPushedBy : SharedLog → DomId → Pushed → Type 0
+IsPushedBy log d p = IsIn log p × (p.token.value.dom ≡ d)
 
 -- the token was given for this record of this domain under this number
 pub record IsFor (p : Pushed) (by : DomId) (count : ℕ) (r : Record) : Type 0 where
   pub dom : p.token.value.dom ≡ by
   pub number : p.token.value.number ≡ count
-  pub told : record_of p ≡ r
+  pub told : pushed_record p ≡ r

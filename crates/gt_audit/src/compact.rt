@@ -365,9 +365,9 @@ impl Model for Compact {
 
     ghost Value = { Record };
 
-    ghost use Rattle.gt_audit.specs.Compact.{Fits, record_of};
+    ghost use Rattle.gt_audit.specs.Compact.{Fits, unpacked};
 
-    ghost view = { λ c. record_of c.parts };
+    ghost view = { λ c. unpacked c.parts };
 
     ghost invariant = { λ c. Fits c.parts };
 }

@@ -3,7 +3,8 @@ ghost use Rattle.std.specs.Prelude.{◌≡◌, ◌++◌, OnOk, IfOk, codes, deci
 ghost use Rattle.gt_types.specs.Names.{resolved as resolved_in};
 ghost use Rattle.gt_texts.specs.Printing.{type_text};
 ghost use Rattle.gt_texts.specs.Texts.{StaysText, AreTexts};
-ghost use Rattle.gt_audit.specs.Lines.{domain_text, entry_text, kind_text, end_text, copy_text, hypercall_text};
+ghost use Rattle.gt_audit.specs.Lines.{domain_text, reference_text, copy_kind_text, end_text, copy_text};
+ghost use Rattle.gt_audit.specs.Lines.{hypercall_text};
 ghost use Rattle.gt_audit.specs.Lines.{asked_text, reply_text, line_text, lost_text};
 
 use crate::record::{CopyEnd, Hypercall, Record, Reply};
@@ -58,7 +59,7 @@ fn push_entry(
     dom: DomId,
     gref: GrantRef,
 ) -> Result<(), AllocError>
-    ensures text { OnOk result (out.new.items ≡ out.old.items ++ entry_text caller dom gref) }
+    ensures text { OnOk result (out.new.items ≡ out.old.items ++ reference_text caller dom gref) }
     ensures stays { OnOk result (StaysText out.old.items out.new.items) }
 {
     push_text(out, " ")?;
@@ -68,7 +69,7 @@ fn push_entry(
 }
 
 fn kind(is_reference: bool) -> &'static str
-    ensures { result.now ≡ kind_text is_reference }
+    ensures { result.now ≡ copy_kind_text is_reference }
 {
     if is_reference { "gref" } else { "frame" }
 }

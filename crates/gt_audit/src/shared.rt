@@ -28,7 +28,7 @@ pub struct Pushed {
 
 impl SharedLog {
     ghost use Rattle.std.specs.Prelude.{◌≡◌, IfOk, IfErr, IfSome};
-    ghost use Rattle.gt_audit.specs.Log.{IsIn, IsFor, record_of};
+    ghost use Rattle.gt_audit.specs.Log.{IsIn, IsFor, pushed_record};
     ghost use Rattle.gt_audit.specs.declared.shared.Pushed.{Pushed};
 
     /// An empty log.
@@ -60,7 +60,7 @@ impl SharedLog {
     /// The record that was pushed.
     pub fn get(&self, pushed: &Pushed) -> Record
         requires { IsIn self.now pushed.now }
-        ensures { result ≡ record_of pushed.now }
+        ensures { result ≡ pushed_record pushed.now }
     {
         self.entries.value(&pushed.token).told.record()
     }

@@ -17,14 +17,14 @@ pub struct Told<'l> {
 
 impl<'l> Model for Told<'l> {
     ghost use Rattle.std.specs.Prelude.{map, All};
-    ghost use Rattle.gt_audit.specs.Log.{IsOf, numbered_of};
+    ghost use Rattle.gt_audit.specs.Log.{IsPushedBy, numbered_of};
     ghost use Rattle.gt_audit.specs.Telling.{Account};
 
     ghost Value = { Account };
 
     ghost view = { λ t. record { dom = t.dom; told = map numbered_of t.tokens.items; lost = t.lost } };
 
-    ghost invariant = { λ t. All (IsOf t.log.now t.dom) t.tokens.items };
+    ghost invariant = { λ t. All (IsPushedBy t.log.now t.dom) t.tokens.items };
 }
 
 impl<'l> Told<'l> {

@@ -7,8 +7,8 @@ use Rattle.gt_c.specs.declared.calls.EntryBytes.{EntryBytes}
 use Rattle.gt_c.specs.declared.calls.MapHandle.{MapHandle}
 
 -- the name of a mapping
-abbrev pub name_of : MapHandle → Name
-name_of name = record { serial = name.serial; key = name.key }
+abbrev pub name_of_handle : MapHandle → Name
+name_of_handle name = record { serial = name.serial; key = name.key }
 
 -- for reading only, if the number is not 0
 abbrev pub reads_only : ℕ → Bool

@@ -1,14 +1,15 @@
 -- What an export answers, of the call that it made.
 use Rattle.std.specs.Prelude.{◌≡◌, ◌≤◌, ◌⊎◌, ℕ, Bool, Option, Some, None, IsSome, Result, Ok, Err, OnOk, OnErr}
-use Rattle.gt_c.specs.Prelude.{GrantRef, DomId, Memory, Size, TypeId, Perms, Denial, Table, looks, Hypercall, Kept}
+use Rattle.gt_c.specs.Prelude.{GrantRef, DomId, Memory, Size, TypeId, Perms, Denial, Table, looks_up, Hypercall, Kept}
 use Rattle.gt_c.specs.Prelude.{Tells, Verdict, Mapped, Request, Name, Domain, Left, Answered, HasLeft, KeepsPinned}
-use Rattle.gt_c.specs.Prelude.{MapAnswered, mapping_reply, subject_of, told_of, verdict_of, Removes, encoded, Ends}
+use Rattle.gt_c.specs.Prelude.{MapAnswered, mapping_reply, subject_of, told_of, verdict_of, Removes, encoded}
+use Rattle.gt_c.specs.Prelude.{EndsAccess}
 use Rattle.gt_c.specs.Prelude.{Seated, StaysIdle, Answer, Outcome, Here}
 use Rattle.gt_seat.specs.declared.answer.Outcome.TheVariants as outcomes
 
 -- whose type may do what to whose, in a compiled policy
 abbrev pub may : Table → TypeId → TypeId → Perms → Bool
-may table source target perm = looks table source.0 target.0 perm
+may table source target perm = looks_up table source.0 target.0 perm
 
 -- the handle was not taken, stays as it was, and the answer says why: it has no domain, or one that is in a copy
 abbrev pub TurnedAway : Option Here → Option Here → Answer → Type 0
@@ -22,7 +23,7 @@ Enters before after d = (before ≡ Some d) × (after ≡ None) × (d.guest.copy
 
 -- a call was made on the handle's domain, which was in no copy: the handle has it afterwards, and this holds of it
 -- before and after
-pub record Made (before after : Option Here) (Holds : Here → Here → Type 0) : Type 0 where
+pub record MadeOn (before after : Option Here) (Holds : Here → Here → Type 0) : Type 0 where
   pub was : Here
   pub is : Here
   pub before_is : before ≡ Some was
@@ -31,8 +32,8 @@ pub record Made (before after : Option Here) (Holds : Here → Here → Type 0) 
   pub holds : Holds was is
 
 -- the handle was turned away, or the call was made
-abbrev pub Calls : Option Here → Option Here → Answer → (Here → Here → Type 0) → Type 0
-Calls before after answer Holds = TurnedAway before after answer ⊎ Made before after Holds
+abbrev pub CallsGuest : Option Here → Option Here → Answer → (Here → Here → Type 0) → Type 0
+CallsGuest before after answer Holds = TurnedAway before after answer ⊎ MadeOn before after Holds
 
 -- the outcomes of a call without a value, and of calls with one
 abbrev pub outcome : Result (Unit {0}) Denial → Outcome
@@ -56,7 +57,7 @@ outcome_size (Ok size) = outcomes.Size size
 outcome_size (Err denial) = outcomes.Denied denial
 
 -- the answer encodes a result, of which this holds; the domain keeps its monitor, and is in no copy
-pub record Says {R : Type 0} (said : Result R Denial → Outcome) (Holds : Result R Denial → Type 0) (answer : Answer)
+pub record SaysAs {R : Type 0} (said : Result R Denial → Outcome) (Holds : Result R Denial → Type 0) (answer : Answer)
     (d e : Here) : Type 0 where
   pub result : Result R Denial
   pub encodes : answer ≡ encoded (said result)
@@ -66,14 +67,14 @@ pub record Says {R : Type 0} (said : Result R Denial → Outcome) (Holds : Resul
 -- this request of the domain was answered so, by the steps of its path; mappings, pins and records are as before
 abbrev pub SaysDone : Request → Answer → Here → Here → Type 0
 SaysDone request answer d e =
-    Says outcome (λ r. Answered may d.guest.monitor d.guest.domain request (verdict_of r) e.guest.domain
+    SaysAs outcome (λ r. Answered may d.guest.monitor d.guest.domain request (verdict_of r) e.guest.domain
     × KeepsPinned d.guest.domain e.guest.domain × (e.guest.domain.trail ≡ d.guest.domain.trail)) answer d e
 
 -- the same of a call that is recorded, whose result gives this verdict
 abbrev pub SaysTold : {R : Type 0} → (Result R Denial → Outcome) → (Result R Denial → Verdict) → Request → Hypercall
     → Answer → Here → Here → Type 0
 SaysTold said verdict request call answer d e =
-    Says said (λ r. Answered may d.guest.monitor d.guest.domain request (verdict r) e.guest.domain
+    SaysAs said (λ r. Answered may d.guest.monitor d.guest.domain request (verdict r) e.guest.domain
     × KeepsPinned d.guest.domain e.guest.domain
     × Tells d.guest.domain.trail (told_of d.guest.domain call (verdict r)) e.guest.domain.trail) answer d e
 
@@ -84,13 +85,13 @@ map_told d call r = record { dom = d.seat.dom; call = call; reply = mapping_repl
 -- the same of a map, whose mapping is kept
 abbrev pub SaysMapped : Request → Hypercall → Answer → Here → Here → Type 0
 SaysMapped request call answer d e =
-    Says outcome_mapped (λ r. MapAnswered may d.guest.monitor d.guest.domain request r e.guest.domain
+    SaysAs outcome_mapped (λ r. MapAnswered may d.guest.monitor d.guest.domain request r e.guest.domain
     × Tells d.guest.domain.trail (map_told d.guest.domain call r) e.guest.domain.trail) answer d e
 
 -- the same of an unmap, whose mapping is gone
 abbrev pub SaysUnmapped : Request → (Option (DomId × GrantRef) → Hypercall) → Name → Answer → Here → Here → Type 0
 SaysUnmapped request call name answer d e =
-    Says outcome (λ r. Answered may d.guest.monitor d.guest.domain request (verdict_of r) e.guest.domain
+    SaysAs outcome (λ r. Answered may d.guest.monitor d.guest.domain request (verdict_of r) e.guest.domain
     × OnOk r ((p : Mapped) × Removes d.guest.domain.mappings e.guest.domain.mappings name p)
     × OnErr r (KeepsPinned d.guest.domain e.guest.domain)
     × Tells d.guest.domain.trail (told_of d.guest.domain (call (subject_of d.guest.domain name)) (verdict_of r))
@@ -120,10 +121,10 @@ pub record Reserves (records : ℕ) (answer : Answer) (d e : Here) : Type 0 wher
 
 -- the guest is in no copy; or it was in one, which was ended
 abbrev pub Settles : Seated Table → Seated Table → Type 0
-Settles s t = (((s.copying ≡ None) × (t ≡ s))) ⊎ Ends s t
+Settles s t = (((s.copying ≡ None) × (t ≡ s))) ⊎ EndsAccess s t
 
 -- the domain left the run, after the end of its copy if it was in one, and so many of its records were lost
-pub record Leaves (s : Seated Table) (lost : ℕ) : Type 0 where
+pub record LeavesGuest (s : Seated Table) (lost : ℕ) : Type 0 where
   pub settled : Seated Table
   pub settles : Settles s settled
   pub left : Left
@@ -134,7 +135,7 @@ pub record Leaves (s : Seated Table) (lost : ℕ) : Type 0 where
 pub record LeavesWith (s : Seated Table) (answer : Answer) : Type 0 where
   pub lost : ℕ
   pub encodes : answer ≡ encoded (outcomes.Lost lost)
-  pub leaves : Leaves s lost
+  pub leaves : LeavesGuest s lost
 
 -- the domain of a handle left, and the answer encodes how many of its records were lost; or the handle had none, and
 -- the answer says so
@@ -143,8 +144,8 @@ Finishes answer None after = (after ≡ None) × (answer ≡ encoded outcomes.No
 Finishes answer (Some d) after = (after ≡ None) × LeavesWith d.guest answer
 
 -- the reference of this number, and the domain
-abbrev pub at : ℕ → GrantRef
-at gref = record { 0 = gref }
+abbrev pub ref_at : ℕ → GrantRef
+ref_at gref = record { 0 = gref }
 
 abbrev pub dom_of : ℕ → DomId
 dom_of dom = record { 0 = dom }

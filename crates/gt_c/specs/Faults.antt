@@ -2,8 +2,8 @@
 use Rattle.std.specs.Prelude.{ℕ, List, ◌==◌, if◌then◌else◌, codes}
 
 -- what a kind of fault means
-abbrev pub fault_text : ℕ → List ℕ
-fault_text n =
+abbrev pub fault_bytes : ℕ → List ℕ
+fault_bytes n =
     if n == 0 then codes "none" else
     if n == 1 then codes "memory" else
     if n == 2 then codes "the handles are not as many as the domains, or one of them has a domain" else

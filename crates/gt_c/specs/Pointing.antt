@@ -11,15 +11,15 @@ use Rattle.gt_c.specs.declared.handle.Handle.{Handle}
 use Rattle.gt_c.specs.declared.here.Here.{Here}
 
 -- the pointer is null, or this value lies there
-abbrev pub behind : (R : RattleType) → Ptr → Option R.Denot → Fml
-behind R null_ptr None = ftrue
-behind R null_ptr (Some x) = ffalse
-behind R (block_ptr b o) None = ffalse
-behind R (block_ptr b o) (Some x) = lies_at R full_share (block_ptr b o) x
+abbrev pub pointed_at : (R : RattleType) → Ptr → Option R.Denot → Fml
+pointed_at R null_ptr None = ftrue
+pointed_at R null_ptr (Some x) = ffalse
+pointed_at R (block_ptr b o) None = ffalse
+pointed_at R (block_ptr b o) (Some x) = lies_at R full_share (block_ptr b o) x
 
 -- a call promises this of the domain of the handle behind a pointer, before and after; a null pointer is answered by
 -- its name
-abbrev pub Reaches : Option Handle → Option Handle → Answer → (Option Here → Option Here → Type 0) → Type 0
-Reaches None after answer Promises = (after ≡ None) × (answer ≡ encoded outcomes.NullPointer)
-Reaches (Some h) None answer Promises = ⊥
-Reaches (Some h) (Some k) answer Promises = Promises h.held.value k.held.value
+abbrev pub PointsTo : Option Handle → Option Handle → Answer → (Option Here → Option Here → Type 0) → Type 0
+PointsTo None after answer Promises = (after ≡ None) × (answer ≡ encoded outcomes.NullPointer)
+PointsTo (Some h) None answer Promises = ⊥
+PointsTo (Some h) (Some k) answer Promises = Promises h.held.value k.held.value

@@ -1,5 +1,5 @@
 -- The names of other crates, and of the code, that the definitions here speak of.
-pub use Rattle.gt_allow.specs.Looking.{Table, looks}
+pub use Rattle.gt_allow.specs.Looking.{Table, looks_up}
 pub use Rattle.gt_audit.specs.Telling.{Tells}
 pub use Rattle.gt_audit.specs.declared.record.Hypercall.{Hypercall}
 pub use Rattle.gt_audit.specs.declared.record.Record.{Record as Kept}
@@ -25,8 +25,8 @@ pub use Rattle.gt_live.specs.Mappings.{Removes}
 pub use Rattle.gt_live.specs.declared.domain.Domain.{Domain}
 pub use Rattle.gt_live.specs.declared.domain.Left.{Left}
 pub use Rattle.gt_seat.specs.Encoding.{encoded}
-pub use Rattle.gt_seat.specs.Recording.{no_end, recorded}
-pub use Rattle.gt_seat.specs.Seated.{Begins, Ends, Seated, StaysIdle}
+pub use Rattle.gt_seat.specs.Recording.{no_end, record_kept}
+pub use Rattle.gt_seat.specs.Seated.{BeginsAccess, EndsAccess, Seated, StaysIdle}
 pub use Rattle.gt_seat.specs.declared.answer.Answer.{Answer}
 pub use Rattle.gt_seat.specs.declared.answer.Outcome.{Outcome}
 pub use Rattle.gt_seat.specs.declared.guest.Places.{Places}

@@ -12,94 +12,96 @@ use Rattle.gt_c.specs.declared.copies.CopySettings.{CopySettings}
 use Rattle.gt_c.specs.declared.here.Here.{Here}
 use Rattle.gt_c.specs.declared.telling.MappingTold.{MappingTold}
 use Rattle.gt_c.specs.declared.telling.RecordTold.{RecordTold}
-use Rattle.gt_c.specs.Asking.{name_of, page, spelled, sub, via}
-use Rattle.gt_c.specs.Calling.{Calls, KeepsAtMost, Reserves, SaysDone, SaysMapped, SaysTold, SaysUnmapped, at, dom_of}
+use Rattle.gt_c.specs.Asking.{name_of_handle, page, spelled, sub, via}
+use Rattle.gt_c.specs.Calling.{CallsGuest, KeepsAtMost, Reserves, SaysDone, SaysMapped, SaysTold, SaysUnmapped, ref_at}
+use Rattle.gt_c.specs.Calling.{dom_of}
 use Rattle.gt_c.specs.Calling.{outcome, outcome_frames, outcome_size, outcome_version}
 use Rattle.gt_c.specs.Telling.{SaysBegun, SaysMapping, SaysRecord, copy_asked}
 
 -- a page of its own is granted
 abbrev pub GrantsPage : ℕ → ℕ → ℕ → ℕ → Answer → Option Here → Option Here → Type 0
 GrantsPage gref to frame ro answer before after =
-    Calls before after answer (SaysDone (requests.Grant (at gref) (page to frame ro)) answer)
+    CallsGuest before after answer (SaysDone (requests.Grant (ref_at gref) (page to frame ro)) answer)
 
 -- bytes of a page of its own are granted
 abbrev pub GrantsSub : ℕ → ℕ → ℕ → ℕ → ℕ → ℕ → Answer → Option Here → Option Here → Type 0
 GrantsSub gref to frame off len ro answer before after =
-    Calls before after answer (SaysDone (requests.Grant (at gref) (sub to frame off len ro)) answer)
+    CallsGuest before after answer (SaysDone (requests.Grant (ref_at gref) (sub to frame off len ro)) answer)
 
 -- another grant is granted on
 abbrev pub GrantsVia : ℕ → ℕ → ℕ → ℕ → ℕ → Answer → Option Here → Option Here → Type 0
 GrantsVia gref to dom2 ref2 ro answer before after =
-    Calls before after answer (SaysDone (requests.Grant (at gref) (via to dom2 ref2 ro)) answer)
+    CallsGuest before after answer (SaysDone (requests.Grant (ref_at gref) (via to dom2 ref2 ro)) answer)
 
 -- what the bytes of an entry spell is granted
 abbrev pub GrantsBytes : ℕ → EntryBytes → Answer → Option Here → Option Here → Type 0
 GrantsBytes gref bytes answer before after =
-    Calls before after answer (λ d e.
-    (s : Bor (List ℕ)) × (s.now ≡ spelled bytes) × SaysDone (requests.GrantBytes (at gref) s) answer d e)
+    CallsGuest before after answer (λ d e.
+    (s : Bor (List ℕ)) × (s.now ≡ spelled bytes) × SaysDone (requests.GrantBytes (ref_at gref) s) answer d e)
 
 -- an entry is revoked, withdrawn, demoted, promoted
-abbrev pub Revokes : ℕ → Answer → Option Here → Option Here → Type 0
-Revokes gref answer before after = Calls before after answer (SaysDone (requests.Revoke (at gref)) answer)
+abbrev pub RevokesEntry : ℕ → Answer → Option Here → Option Here → Type 0
+RevokesEntry gref answer before after = CallsGuest before after answer (SaysDone (requests.Revoke (ref_at gref)) answer)
 
 abbrev pub Withdraws : ℕ → Answer → Option Here → Option Here → Type 0
-Withdraws gref answer before after = Calls before after answer (SaysDone (requests.Withdraw (at gref)) answer)
+Withdraws gref answer before after = CallsGuest before after answer (SaysDone (requests.Withdraw (ref_at gref)) answer)
 
-abbrev pub Demotes : ℕ → Answer → Option Here → Option Here → Type 0
-Demotes gref answer before after = Calls before after answer (SaysDone (requests.Demote (at gref)) answer)
+abbrev pub DemotesEntry : ℕ → Answer → Option Here → Option Here → Type 0
+DemotesEntry gref answer before after = CallsGuest before after answer (SaysDone (requests.Demote (ref_at gref)) answer)
 
 abbrev pub Promotes : ℕ → Answer → Option Here → Option Here → Type 0
-Promotes gref answer before after = Calls before after answer (SaysDone (requests.Promote (at gref)) answer)
+Promotes gref answer before after = CallsGuest before after answer (SaysDone (requests.Promote (ref_at gref)) answer)
 
 -- an entry of a domain is mapped
 abbrev pub Maps : ℕ → ℕ → ℕ → Answer → Option Here → Option Here → Type 0
 Maps dom gref flags answer before after =
-    Calls before after answer
-    (SaysMapped (requests.Map (dom_of dom) (at gref) flags) (calls.Map (dom_of dom) (at gref) flags) answer)
+    CallsGuest before after answer
+    (SaysMapped (requests.Map (dom_of dom) (ref_at gref) flags) (calls.Map (dom_of dom) (ref_at gref) flags) answer)
 
 -- a mapping is given up
 abbrev pub Unmaps : MapHandle → Answer → Option Here → Option Here → Type 0
 Unmaps name answer before after =
-    Calls before after answer (SaysUnmapped (requests.Unmap (name_of name)) calls.Unmap (name_of name) answer)
+    CallsGuest before after answer
+      (SaysUnmapped (requests.Unmap (name_of_handle name)) calls.Unmap (name_of_handle name) answer)
 
 -- the table gets a version, or frames
 abbrev pub SetsVersion : ℕ → Answer → Option Here → Option Here → Type 0
 SetsVersion version answer before after =
-    Calls before after answer
+    CallsGuest before after answer
     (SaysTold outcome verdict_of (requests.SetVersion version) (calls.SetVersion version) answer)
 
 abbrev pub SetsUp : ℕ → Answer → Option Here → Option Here → Type 0
 SetsUp frames answer before after =
-    Calls before after answer
+    CallsGuest before after answer
     (SaysTold outcome_frames verdict_of_frames (requests.SetupTable frames) (calls.SetupTable frames) answer)
 
 -- the table of a domain is asked about
 abbrev pub AsksSize : ℕ → Answer → Option Here → Option Here → Type 0
 AsksSize dom answer before after =
-    Calls before after answer
+    CallsGuest before after answer
     (SaysTold outcome_size verdict_of_size (requests.QuerySize (dom_of dom)) (calls.QuerySize (dom_of dom)) answer)
 
 abbrev pub AsksVersion : ℕ → Answer → Option Here → Option Here → Type 0
 AsksVersion dom answer before after =
-    Calls before after answer
+    CallsGuest before after answer
     (SaysTold outcome_version verdict_of_version (requests.GetVersion (dom_of dom)) (calls.GetVersion (dom_of dom)) answer)
 
 -- a mapping, or a record, is told
 abbrev pub TellsMapping : MapHandle → MappingTold → Option Here → Option Here → Type 0
 TellsMapping name told before after =
-    Calls before after told.answer (SaysMapping (name_of name) told.mapping told.answer)
+    CallsGuest before after told.answer (SaysMapping (name_of_handle name) told.mapping told.answer)
 
 abbrev pub TellsRecord : ℕ → RecordTold → Option Here → Option Here → Type 0
-TellsRecord index told before after = Calls before after told.answer (SaysRecord index told.kept told.answer)
+TellsRecord index told before after = CallsGuest before after told.answer (SaysRecord index told.kept told.answer)
 
 -- the records are bounded, or room is made for them
 abbrev pub Bounds : ℕ → Answer → Option Here → Option Here → Type 0
-Bounds records answer before after = Calls before after answer (KeepsAtMost records answer)
+Bounds records answer before after = CallsGuest before after answer (KeepsAtMost records answer)
 
 abbrev pub MakesRoom : ℕ → Answer → Option Here → Option Here → Type 0
-MakesRoom records answer before after = Calls before after answer (Reserves records answer)
+MakesRoom records answer before after = CallsGuest before after answer (Reserves records answer)
 
 -- a copy begins
 abbrev pub BeginsCopy : CopySettings → BegunTold → Option Here → Option Here → Type 0
 BeginsCopy copy told before after =
-    Calls before after told.answer (SaysBegun (copy_asked copy) told.places told.answer)
+    CallsGuest before after told.answer (SaysBegun (copy_asked copy) told.places told.answer)

@@ -1,7 +1,8 @@
 -- What exports tell in layouts of C: the places of a copy, a mapping, a record.
 use Rattle.std.specs.Prelude.{◌≡◌, ◌⊎◌, ◌≤◌, ℕ, List, Option, Some, None, Result, Ok, Err}
 use Rattle.gt_c.specs.Prelude.{slice_get, Dir, Read, Write, Denial, Kept, Place, Mapped, CopyArgs, End, frame_of, Name}
-use Rattle.gt_c.specs.Prelude.{value_of, encoded, no_end, recorded, Begins, Ends, Answer, Outcome, Places, CopyEnd}
+use Rattle.gt_c.specs.Prelude.{value_of, encoded, no_end, record_kept, BeginsAccess, EndsAccess, Answer, Outcome}
+use Rattle.gt_c.specs.Prelude.{Places, CopyEnd}
 use Rattle.gt_c.specs.Prelude.{Record, CopySettings, PlaceTold, PlacesTold, Mapping, Fault, Handle, Here}
 use Rattle.gt_seat.specs.declared.answer.Outcome.TheVariants as outcomes
 use Rattle.gt_c.specs.Calling.{may}
@@ -41,15 +42,15 @@ pub record SaysBegun (copy : CopyArgs) (places : PlacesTold) (answer : Answer) (
   pub result : Result Places Denial
   pub encodes : answer ≡ encoded (outcome_begun result)
   pub told : places ≡ places_told result
-  pub begins : Begins may d.guest copy result e.guest
+  pub begins : BeginsAccess may d.guest copy result e.guest
 
 -- the copy of a handle's domain was ended; or there was none, or no domain, and the answer says so
-abbrev pub EndsCopy : Answer → Option Here → Option Here → Type 0
-EndsCopy answer None after = (after ≡ None) × (answer ≡ encoded outcomes.NoDomain)
-EndsCopy answer (Some d) None = ⊥
-EndsCopy answer (Some d) (Some e) =
+abbrev pub CopyEnds : Answer → Option Here → Option Here → Type 0
+CopyEnds answer None after = (after ≡ None) × (answer ≡ encoded outcomes.NoDomain)
+CopyEnds answer (Some d) None = ⊥
+CopyEnds answer (Some d) (Some e) =
     ((d.guest.copying ≡ None) × (e ≡ d) × (answer ≡ encoded outcomes.NoCopy))
-    ⊎ (Ends d.guest e.guest × (answer ≡ encoded outcomes.Done))
+    ⊎ (EndsAccess d.guest e.guest × (answer ≡ encoded outcomes.Done))
 
 -- 1 for a mapping that writes, 0 for one that reads
 abbrev pub writes : Dir → ℕ
@@ -93,20 +94,20 @@ no_record =
     }
 
 -- a record as C reads it
-abbrev pub record_told : Option Kept → Record
-record_told None = no_record
-record_told (Some r) = recorded r
+abbrev pub kept_record : Option Kept → Record
+kept_record None = no_record
+kept_record (Some r) = record_kept r
 
 -- the record at this place is told, if there is one, and nothing changed
 abbrev pub SaysRecord : ℕ → Record → Answer → Here → Here → Type 0
 SaysRecord index kept answer d e =
     (answer ≡ encoded (outcome_present (slice_get d.guest.domain.trail.records index)))
-    × (kept ≡ record_told (slice_get d.guest.domain.trail.records index)) × (e ≡ d)
+    × (kept ≡ kept_record (slice_get d.guest.domain.trail.records index)) × (e ≡ d)
 
 -- nothing is at fault
 abbrev pub no_fault : Fault
 no_fault = record { kind = 0; line = 0; dom = 0 }
 
 -- a run started; or it did not, a fault is told, and the handles are as they were
-abbrev pub Starts : Fault → List Handle → List Handle → Type 0
-Starts fault old new = (fault ≡ no_fault) ⊎ ((1 ≤ fault.kind) × (new ≡ old))
+abbrev pub StartsWith : Fault → List Handle → List Handle → Type 0
+StartsWith fault old new = (fault ≡ no_fault) ⊎ ((1 ≤ fault.kind) × (new ≡ old))

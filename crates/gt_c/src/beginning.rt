@@ -1,7 +1,7 @@
 //! How a run starts, and how a domain leaves it.
 ghost use Rattle.std.specs.Prelude.{◌≡◌, ◌≤◌, IfErr};
-ghost use Rattle.gt_c.specs.Calling.{Finishes, Leaves, LeavesWith};
-ghost use Rattle.gt_c.specs.Telling.{Starts};
+ghost use Rattle.gt_c.specs.Calling.{Finishes, LeavesGuest, LeavesWith};
+ghost use Rattle.gt_c.specs.Telling.{StartsWith};
 
 use crate::faults::{Fault, HANDLES, MEMORY, NONE, config_fault, fault_at, policy_fault};
 use crate::handle::Handle;
@@ -112,7 +112,7 @@ pub extern "C" fn gthost_start_at(
     policy: &[u8],
     out: &mut [Handle],
 ) -> Fault
-    ensures { Starts result out.old out.new }
+    ensures { StartsWith result out.old out.new }
 {
     if out.len() != settings.len() || out.iter().any(|handle| handle.is_live) {
         return HANDLES;
@@ -128,7 +128,7 @@ pub extern "C" fn gthost_start_at(
 
 // The domain leaves, after the end of its copy if it is in one. Answers how many records were lost.
 fn leave(mut guest: Guest<AllowTable>) -> u64
-    ensures { Leaves guest result }
+    ensures { LeavesGuest guest result }
 {
     if guest.is_copying() {
         guest.copy_end();

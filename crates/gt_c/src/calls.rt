@@ -5,8 +5,9 @@ ghost use Rattle.gt_seat.specs.declared.answer.Outcome.TheVariants as outcomes;
 ghost use Rattle.gt_c.specs.Asking.{page, spelled, sub, via};
 ghost use Rattle.gt_c.specs.Calling.{Enters, TurnedAway, outcome, outcome_frames, outcome_mapped, outcome_size};
 ghost use Rattle.gt_c.specs.Calling.{outcome_version};
-ghost use Rattle.gt_c.specs.Promises.{AsksSize, AsksVersion, Demotes, GrantsBytes, GrantsPage, GrantsSub, GrantsVia};
-ghost use Rattle.gt_c.specs.Promises.{Maps, Promotes, Revokes, SetsUp, SetsVersion, Unmaps, Withdraws};
+ghost use Rattle.gt_c.specs.Promises.{AsksSize, AsksVersion, DemotesEntry, GrantsBytes, GrantsPage, GrantsSub};
+ghost use Rattle.gt_c.specs.Promises.{GrantsVia};
+ghost use Rattle.gt_c.specs.Promises.{Maps, Promotes, RevokesEntry, SetsUp, SetsVersion, Unmaps, Withdraws};
 
 use crate::handle::Handle;
 use crate::here::Here;
@@ -233,7 +234,7 @@ pub(crate) fn grant_bytes_on(
 
 /// Makes an entry of its own invalid, where it has no pins.
 pub(crate) fn revoke_on(alloc: Global, domain: &mut Handle, gref: u32) -> Answer
-    ensures { Revokes gref result domain.old.held.value domain.new.held.value }
+    ensures { RevokesEntry gref result domain.old.held.value domain.new.held.value }
 {
     let mut here = match enter(alloc, domain) {
         Ok(here) => here,
@@ -259,7 +260,7 @@ pub(crate) fn withdraw_on(alloc: Global, domain: &mut Handle, gref: u32) -> Answ
 
 /// Makes an entry of its own read-only, where it has no write pins.
 pub(crate) fn demote_on(alloc: Global, domain: &mut Handle, gref: u32) -> Answer
-    ensures { Demotes gref result domain.old.held.value domain.new.held.value }
+    ensures { DemotesEntry gref result domain.old.held.value domain.new.held.value }
 {
     let mut here = match enter(alloc, domain) {
         Ok(here) => here,

@@ -3,7 +3,8 @@ ghost use Rattle.std.specs.Prelude.{◌≡◌};
 ghost use Rattle.gt_seat.specs.Encoding.{encoded};
 ghost use Rattle.gt_seat.specs.declared.answer.Outcome.TheVariants as outcomes;
 ghost use Rattle.gt_c.specs.Promises.{BeginsCopy};
-ghost use Rattle.gt_c.specs.Telling.{EndsCopy, copy_asked, end_asked, no_places, outcome_begun, place_told, places_told};
+ghost use Rattle.gt_c.specs.Telling.{CopyEnds, copy_asked, end_asked, no_places, outcome_begun, place_told};
+ghost use Rattle.gt_c.specs.Telling.{places_told};
 
 use crate::calls::{enter, nowhere};
 use crate::handle::Handle;
@@ -152,7 +153,7 @@ pub(crate) fn copy_begin_on(alloc: Global, domain: &mut Handle, copy: CopySettin
 
 /// Ends the copy that the domain is in: its pins are given back, the last one first.
 pub(crate) fn copy_end_on(alloc: Global, domain: &mut Handle) -> Answer
-    ensures { EndsCopy result domain.old.held.value domain.new.held.value }
+    ensures { CopyEnds result domain.old.held.value domain.new.held.value }
 {
     let Some(mut here) = domain.take(alloc) else {
         return Answer::of(Outcome::NoDomain);

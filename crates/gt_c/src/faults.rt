@@ -1,6 +1,6 @@
 //! Why a run did not start.
 ghost use Rattle.std.specs.Prelude.{◌≡◌, ◌≤◌, ◌<◌, ◌-◌, ◌++◌, length, replicate};
-ghost use Rattle.gt_c.specs.Faults.{fault_text};
+ghost use Rattle.gt_c.specs.Faults.{fault_bytes};
 
 use gt_policy::{PolicyFault, PolicyFaultKind};
 use gt_types::{ConfigFault, DomId, StartFault};
@@ -89,7 +89,7 @@ pub(crate) fn config_fault(refused: StartFault) -> Fault
 }
 
 fn text_of(kind: u32) -> &'static str
-    ensures says { result.now ≡ fault_text kind }
+    ensures says { result.now ≡ fault_bytes kind }
     ensures fits { length result.now < 80 }
 {
     match kind {
@@ -129,8 +129,8 @@ fn padded(text: &[u8]) -> [u8; 80]
 /// What a kind of fault means: `len` bytes, and zeros after them.
 #[unsafe(no_mangle)]
 pub extern "C" fn gthost_fault_text(kind: u32) -> FaultText
-    ensures len { result.len ≡ length (fault_text kind) }
-    ensures bytes { result.bytes ≡ fault_text kind ++ replicate (80 - length (fault_text kind)) 0 }
+    ensures len { result.len ≡ length (fault_bytes kind) }
+    ensures bytes { result.bytes ≡ fault_bytes kind ++ replicate (80 - length (fault_bytes kind)) 0 }
 {
     let text = text_of(kind).as_bytes();
     FaultText {

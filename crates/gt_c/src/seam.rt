@@ -6,11 +6,12 @@ ghost use denote.RawPtr.{count_of};
 ghost use Rattle.gt_c.specs.contracts.handle.Handle.{the_row as handle};
 ghost use Rattle.gt_c.specs.declared.handle.Handle.{Handle};
 ghost use Rattle.gt_c.specs.Calling.{Finishes};
-ghost use Rattle.gt_c.specs.Pointing.{Reaches, behind};
-ghost use Rattle.gt_c.specs.Promises.{AsksSize, AsksVersion, BeginsCopy, Bounds, Demotes, GrantsBytes, GrantsPage};
-ghost use Rattle.gt_c.specs.Promises.{GrantsSub, GrantsVia, MakesRoom, Maps, Promotes, Revokes, SetsUp, SetsVersion};
+ghost use Rattle.gt_c.specs.Pointing.{PointsTo, pointed_at};
+ghost use Rattle.gt_c.specs.Promises.{AsksSize, AsksVersion, BeginsCopy, Bounds, DemotesEntry, GrantsBytes, GrantsPage};
+ghost use Rattle.gt_c.specs.Promises.{GrantsSub, GrantsVia, MakesRoom, Maps, Promotes, RevokesEntry, SetsUp};
+ghost use Rattle.gt_c.specs.Promises.{SetsVersion};
 ghost use Rattle.gt_c.specs.Promises.{TellsMapping, TellsRecord, Unmaps, Withdraws};
-ghost use Rattle.gt_c.specs.Telling.{EndsCopy};
+ghost use Rattle.gt_c.specs.Telling.{CopyEnds};
 
 use crate::beginning::finish_on;
 use crate::calls::{
@@ -39,9 +40,9 @@ pub unsafe extern "C" fn gthost_grant_page(
     ro: u32,
 ) -> Answer
     ghost was: { Option Handle }
-    requires* { sem 𝓛 (behind handle domain was) ∗ ⌜ count_of domain < 2 ^ 63 ⌝ }
-    ensures* { ∃ₛ (λ (is : Option Handle). sem 𝓛 (behind handle domain is)
-        ∗ ⌜ Reaches was is result (GrantsPage gref to frame ro result) ⌝) }
+    requires* { sem 𝓛 (pointed_at handle domain was) ∗ ⌜ count_of domain < 2 ^ 63 ⌝ }
+    ensures* { ∃ₛ (λ (is : Option Handle). sem 𝓛 (pointed_at handle domain is)
+        ∗ ⌜ PointsTo was is result (GrantsPage gref to frame ro result) ⌝) }
 {
     if domain == ptr::null_mut() {
         return nowhere();
@@ -62,9 +63,9 @@ pub unsafe extern "C" fn gthost_grant_sub(
     ro: u32,
 ) -> Answer
     ghost was: { Option Handle }
-    requires* { sem 𝓛 (behind handle domain was) ∗ ⌜ count_of domain < 2 ^ 63 ⌝ }
-    ensures* { ∃ₛ (λ (is : Option Handle). sem 𝓛 (behind handle domain is)
-        ∗ ⌜ Reaches was is result (GrantsSub gref to frame off len ro result) ⌝) }
+    requires* { sem 𝓛 (pointed_at handle domain was) ∗ ⌜ count_of domain < 2 ^ 63 ⌝ }
+    ensures* { ∃ₛ (λ (is : Option Handle). sem 𝓛 (pointed_at handle domain is)
+        ∗ ⌜ PointsTo was is result (GrantsSub gref to frame off len ro result) ⌝) }
 {
     if domain == ptr::null_mut() {
         return nowhere();
@@ -84,9 +85,9 @@ pub unsafe extern "C" fn gthost_grant_via(
     ro: u32,
 ) -> Answer
     ghost was: { Option Handle }
-    requires* { sem 𝓛 (behind handle domain was) ∗ ⌜ count_of domain < 2 ^ 63 ⌝ }
-    ensures* { ∃ₛ (λ (is : Option Handle). sem 𝓛 (behind handle domain is)
-        ∗ ⌜ Reaches was is result (GrantsVia gref to dom2 ref2 ro result) ⌝) }
+    requires* { sem 𝓛 (pointed_at handle domain was) ∗ ⌜ count_of domain < 2 ^ 63 ⌝ }
+    ensures* { ∃ₛ (λ (is : Option Handle). sem 𝓛 (pointed_at handle domain is)
+        ∗ ⌜ PointsTo was is result (GrantsVia gref to dom2 ref2 ro result) ⌝) }
 {
     if domain == ptr::null_mut() {
         return nowhere();
@@ -103,9 +104,9 @@ pub unsafe extern "C" fn gthost_grant_bytes(
     bytes: EntryBytes,
 ) -> Answer
     ghost was: { Option Handle }
-    requires* { sem 𝓛 (behind handle domain was) ∗ ⌜ count_of domain < 2 ^ 63 ⌝ }
-    ensures* { ∃ₛ (λ (is : Option Handle). sem 𝓛 (behind handle domain is)
-        ∗ ⌜ Reaches was is result (GrantsBytes gref bytes result) ⌝) }
+    requires* { sem 𝓛 (pointed_at handle domain was) ∗ ⌜ count_of domain < 2 ^ 63 ⌝ }
+    ensures* { ∃ₛ (λ (is : Option Handle). sem 𝓛 (pointed_at handle domain is)
+        ∗ ⌜ PointsTo was is result (GrantsBytes gref bytes result) ⌝) }
 {
     if domain == ptr::null_mut() {
         return nowhere();
@@ -117,9 +118,9 @@ pub unsafe extern "C" fn gthost_grant_bytes(
 #[unsafe(no_mangle)]
 pub unsafe extern "C" fn gthost_revoke(alloc: Global, domain: *mut Handle, gref: u32) -> Answer
     ghost was: { Option Handle }
-    requires* { sem 𝓛 (behind handle domain was) ∗ ⌜ count_of domain < 2 ^ 63 ⌝ }
-    ensures* { ∃ₛ (λ (is : Option Handle). sem 𝓛 (behind handle domain is)
-        ∗ ⌜ Reaches was is result (Revokes gref result) ⌝) }
+    requires* { sem 𝓛 (pointed_at handle domain was) ∗ ⌜ count_of domain < 2 ^ 63 ⌝ }
+    ensures* { ∃ₛ (λ (is : Option Handle). sem 𝓛 (pointed_at handle domain is)
+        ∗ ⌜ PointsTo was is result (RevokesEntry gref result) ⌝) }
 {
     if domain == ptr::null_mut() {
         return nowhere();
@@ -131,9 +132,9 @@ pub unsafe extern "C" fn gthost_revoke(alloc: Global, domain: *mut Handle, gref:
 #[unsafe(no_mangle)]
 pub unsafe extern "C" fn gthost_withdraw(alloc: Global, domain: *mut Handle, gref: u32) -> Answer
     ghost was: { Option Handle }
-    requires* { sem 𝓛 (behind handle domain was) ∗ ⌜ count_of domain < 2 ^ 63 ⌝ }
-    ensures* { ∃ₛ (λ (is : Option Handle). sem 𝓛 (behind handle domain is)
-        ∗ ⌜ Reaches was is result (Withdraws gref result) ⌝) }
+    requires* { sem 𝓛 (pointed_at handle domain was) ∗ ⌜ count_of domain < 2 ^ 63 ⌝ }
+    ensures* { ∃ₛ (λ (is : Option Handle). sem 𝓛 (pointed_at handle domain is)
+        ∗ ⌜ PointsTo was is result (Withdraws gref result) ⌝) }
 {
     if domain == ptr::null_mut() {
         return nowhere();
@@ -145,9 +146,9 @@ pub unsafe extern "C" fn gthost_withdraw(alloc: Global, domain: *mut Handle, gre
 #[unsafe(no_mangle)]
 pub unsafe extern "C" fn gthost_demote(alloc: Global, domain: *mut Handle, gref: u32) -> Answer
     ghost was: { Option Handle }
-    requires* { sem 𝓛 (behind handle domain was) ∗ ⌜ count_of domain < 2 ^ 63 ⌝ }
-    ensures* { ∃ₛ (λ (is : Option Handle). sem 𝓛 (behind handle domain is)
-        ∗ ⌜ Reaches was is result (Demotes gref result) ⌝) }
+    requires* { sem 𝓛 (pointed_at handle domain was) ∗ ⌜ count_of domain < 2 ^ 63 ⌝ }
+    ensures* { ∃ₛ (λ (is : Option Handle). sem 𝓛 (pointed_at handle domain is)
+        ∗ ⌜ PointsTo was is result (DemotesEntry gref result) ⌝) }
 {
     if domain == ptr::null_mut() {
         return nowhere();
@@ -159,9 +160,9 @@ pub unsafe extern "C" fn gthost_demote(alloc: Global, domain: *mut Handle, gref:
 #[unsafe(no_mangle)]
 pub unsafe extern "C" fn gthost_promote(alloc: Global, domain: *mut Handle, gref: u32) -> Answer
     ghost was: { Option Handle }
-    requires* { sem 𝓛 (behind handle domain was) ∗ ⌜ count_of domain < 2 ^ 63 ⌝ }
-    ensures* { ∃ₛ (λ (is : Option Handle). sem 𝓛 (behind handle domain is)
-        ∗ ⌜ Reaches was is result (Promotes gref result) ⌝) }
+    requires* { sem 𝓛 (pointed_at handle domain was) ∗ ⌜ count_of domain < 2 ^ 63 ⌝ }
+    ensures* { ∃ₛ (λ (is : Option Handle). sem 𝓛 (pointed_at handle domain is)
+        ∗ ⌜ PointsTo was is result (Promotes gref result) ⌝) }
 {
     if domain == ptr::null_mut() {
         return nowhere();
@@ -179,9 +180,9 @@ pub unsafe extern "C" fn gthost_map(
     flags: u32,
 ) -> Answer
     ghost was: { Option Handle }
-    requires* { sem 𝓛 (behind handle domain was) ∗ ⌜ count_of domain < 2 ^ 63 ⌝ }
-    ensures* { ∃ₛ (λ (is : Option Handle). sem 𝓛 (behind handle domain is)
-        ∗ ⌜ Reaches was is result (Maps dom gref flags result) ⌝) }
+    requires* { sem 𝓛 (pointed_at handle domain was) ∗ ⌜ count_of domain < 2 ^ 63 ⌝ }
+    ensures* { ∃ₛ (λ (is : Option Handle). sem 𝓛 (pointed_at handle domain is)
+        ∗ ⌜ PointsTo was is result (Maps dom gref flags result) ⌝) }
 {
     if domain == ptr::null_mut() {
         return nowhere();
@@ -193,9 +194,9 @@ pub unsafe extern "C" fn gthost_map(
 #[unsafe(no_mangle)]
 pub unsafe extern "C" fn gthost_unmap(alloc: Global, domain: *mut Handle, name: MapHandle) -> Answer
     ghost was: { Option Handle }
-    requires* { sem 𝓛 (behind handle domain was) ∗ ⌜ count_of domain < 2 ^ 63 ⌝ }
-    ensures* { ∃ₛ (λ (is : Option Handle). sem 𝓛 (behind handle domain is)
-        ∗ ⌜ Reaches was is result (Unmaps name result) ⌝) }
+    requires* { sem 𝓛 (pointed_at handle domain was) ∗ ⌜ count_of domain < 2 ^ 63 ⌝ }
+    ensures* { ∃ₛ (λ (is : Option Handle). sem 𝓛 (pointed_at handle domain is)
+        ∗ ⌜ PointsTo was is result (Unmaps name result) ⌝) }
 {
     if domain == ptr::null_mut() {
         return nowhere();
@@ -211,9 +212,9 @@ pub unsafe extern "C" fn gthost_set_version(
     version: u32,
 ) -> Answer
     ghost was: { Option Handle }
-    requires* { sem 𝓛 (behind handle domain was) ∗ ⌜ count_of domain < 2 ^ 63 ⌝ }
-    ensures* { ∃ₛ (λ (is : Option Handle). sem 𝓛 (behind handle domain is)
-        ∗ ⌜ Reaches was is result (SetsVersion version result) ⌝) }
+    requires* { sem 𝓛 (pointed_at handle domain was) ∗ ⌜ count_of domain < 2 ^ 63 ⌝ }
+    ensures* { ∃ₛ (λ (is : Option Handle). sem 𝓛 (pointed_at handle domain is)
+        ∗ ⌜ PointsTo was is result (SetsVersion version result) ⌝) }
 {
     if domain == ptr::null_mut() {
         return nowhere();
@@ -229,9 +230,9 @@ pub unsafe extern "C" fn gthost_setup_table(
     frames: u32,
 ) -> Answer
     ghost was: { Option Handle }
-    requires* { sem 𝓛 (behind handle domain was) ∗ ⌜ count_of domain < 2 ^ 63 ⌝ }
-    ensures* { ∃ₛ (λ (is : Option Handle). sem 𝓛 (behind handle domain is)
-        ∗ ⌜ Reaches was is result (SetsUp frames result) ⌝) }
+    requires* { sem 𝓛 (pointed_at handle domain was) ∗ ⌜ count_of domain < 2 ^ 63 ⌝ }
+    ensures* { ∃ₛ (λ (is : Option Handle). sem 𝓛 (pointed_at handle domain is)
+        ∗ ⌜ PointsTo was is result (SetsUp frames result) ⌝) }
 {
     if domain == ptr::null_mut() {
         return nowhere();
@@ -243,9 +244,9 @@ pub unsafe extern "C" fn gthost_setup_table(
 #[unsafe(no_mangle)]
 pub unsafe extern "C" fn gthost_query_size(alloc: Global, domain: *mut Handle, dom: u16) -> Answer
     ghost was: { Option Handle }
-    requires* { sem 𝓛 (behind handle domain was) ∗ ⌜ count_of domain < 2 ^ 63 ⌝ }
-    ensures* { ∃ₛ (λ (is : Option Handle). sem 𝓛 (behind handle domain is)
-        ∗ ⌜ Reaches was is result (AsksSize dom result) ⌝) }
+    requires* { sem 𝓛 (pointed_at handle domain was) ∗ ⌜ count_of domain < 2 ^ 63 ⌝ }
+    ensures* { ∃ₛ (λ (is : Option Handle). sem 𝓛 (pointed_at handle domain is)
+        ∗ ⌜ PointsTo was is result (AsksSize dom result) ⌝) }
 {
     if domain == ptr::null_mut() {
         return nowhere();
@@ -257,9 +258,9 @@ pub unsafe extern "C" fn gthost_query_size(alloc: Global, domain: *mut Handle, d
 #[unsafe(no_mangle)]
 pub unsafe extern "C" fn gthost_get_version(alloc: Global, domain: *mut Handle, dom: u16) -> Answer
     ghost was: { Option Handle }
-    requires* { sem 𝓛 (behind handle domain was) ∗ ⌜ count_of domain < 2 ^ 63 ⌝ }
-    ensures* { ∃ₛ (λ (is : Option Handle). sem 𝓛 (behind handle domain is)
-        ∗ ⌜ Reaches was is result (AsksVersion dom result) ⌝) }
+    requires* { sem 𝓛 (pointed_at handle domain was) ∗ ⌜ count_of domain < 2 ^ 63 ⌝ }
+    ensures* { ∃ₛ (λ (is : Option Handle). sem 𝓛 (pointed_at handle domain is)
+        ∗ ⌜ PointsTo was is result (AsksVersion dom result) ⌝) }
 {
     if domain == ptr::null_mut() {
         return nowhere();
@@ -275,9 +276,9 @@ pub unsafe extern "C" fn gthost_mapping(
     name: MapHandle,
 ) -> MappingTold
     ghost was: { Option Handle }
-    requires* { sem 𝓛 (behind handle domain was) ∗ ⌜ count_of domain < 2 ^ 63 ⌝ }
-    ensures* { ∃ₛ (λ (is : Option Handle). sem 𝓛 (behind handle domain is)
-        ∗ ⌜ Reaches was is result.answer (TellsMapping name result) ⌝) }
+    requires* { sem 𝓛 (pointed_at handle domain was) ∗ ⌜ count_of domain < 2 ^ 63 ⌝ }
+    ensures* { ∃ₛ (λ (is : Option Handle). sem 𝓛 (pointed_at handle domain is)
+        ∗ ⌜ PointsTo was is result.answer (TellsMapping name result) ⌝) }
 {
     if domain == ptr::null_mut() {
         return mapping_nowhere();
@@ -293,9 +294,9 @@ pub unsafe extern "C" fn gthost_record(
     index: usize,
 ) -> RecordTold
     ghost was: { Option Handle }
-    requires* { sem 𝓛 (behind handle domain was) ∗ ⌜ count_of domain < 2 ^ 63 ⌝ }
-    ensures* { ∃ₛ (λ (is : Option Handle). sem 𝓛 (behind handle domain is)
-        ∗ ⌜ Reaches was is result.answer (TellsRecord index result) ⌝) }
+    requires* { sem 𝓛 (pointed_at handle domain was) ∗ ⌜ count_of domain < 2 ^ 63 ⌝ }
+    ensures* { ∃ₛ (λ (is : Option Handle). sem 𝓛 (pointed_at handle domain is)
+        ∗ ⌜ PointsTo was is result.answer (TellsRecord index result) ⌝) }
 {
     if domain == ptr::null_mut() {
         return record_nowhere();
@@ -311,9 +312,9 @@ pub unsafe extern "C" fn gthost_keep_at_most(
     records: usize,
 ) -> Answer
     ghost was: { Option Handle }
-    requires* { sem 𝓛 (behind handle domain was) ∗ ⌜ count_of domain < 2 ^ 63 ⌝ }
-    ensures* { ∃ₛ (λ (is : Option Handle). sem 𝓛 (behind handle domain is)
-        ∗ ⌜ Reaches was is result (Bounds records result) ⌝) }
+    requires* { sem 𝓛 (pointed_at handle domain was) ∗ ⌜ count_of domain < 2 ^ 63 ⌝ }
+    ensures* { ∃ₛ (λ (is : Option Handle). sem 𝓛 (pointed_at handle domain is)
+        ∗ ⌜ PointsTo was is result (Bounds records result) ⌝) }
 {
     if domain == ptr::null_mut() {
         return nowhere();
@@ -329,9 +330,9 @@ pub unsafe extern "C" fn gthost_reserve_records(
     records: usize,
 ) -> Answer
     ghost was: { Option Handle }
-    requires* { sem 𝓛 (behind handle domain was) ∗ ⌜ count_of domain < 2 ^ 63 ⌝ }
-    ensures* { ∃ₛ (λ (is : Option Handle). sem 𝓛 (behind handle domain is)
-        ∗ ⌜ Reaches was is result (MakesRoom records result) ⌝) }
+    requires* { sem 𝓛 (pointed_at handle domain was) ∗ ⌜ count_of domain < 2 ^ 63 ⌝ }
+    ensures* { ∃ₛ (λ (is : Option Handle). sem 𝓛 (pointed_at handle domain is)
+        ∗ ⌜ PointsTo was is result (MakesRoom records result) ⌝) }
 {
     if domain == ptr::null_mut() {
         return nowhere();
@@ -348,9 +349,9 @@ pub unsafe extern "C" fn gthost_copy_begin(
     copy: CopySettings,
 ) -> BegunTold
     ghost was: { Option Handle }
-    requires* { sem 𝓛 (behind handle domain was) ∗ ⌜ count_of domain < 2 ^ 63 ⌝ }
-    ensures* { ∃ₛ (λ (is : Option Handle). sem 𝓛 (behind handle domain is)
-        ∗ ⌜ Reaches was is result.answer (BeginsCopy copy result) ⌝) }
+    requires* { sem 𝓛 (pointed_at handle domain was) ∗ ⌜ count_of domain < 2 ^ 63 ⌝ }
+    ensures* { ∃ₛ (λ (is : Option Handle). sem 𝓛 (pointed_at handle domain is)
+        ∗ ⌜ PointsTo was is result.answer (BeginsCopy copy result) ⌝) }
 {
     if domain == ptr::null_mut() {
         return begun_nowhere();
@@ -362,9 +363,9 @@ pub unsafe extern "C" fn gthost_copy_begin(
 #[unsafe(no_mangle)]
 pub unsafe extern "C" fn gthost_copy_end(alloc: Global, domain: *mut Handle) -> Answer
     ghost was: { Option Handle }
-    requires* { sem 𝓛 (behind handle domain was) ∗ ⌜ count_of domain < 2 ^ 63 ⌝ }
-    ensures* { ∃ₛ (λ (is : Option Handle). sem 𝓛 (behind handle domain is)
-        ∗ ⌜ Reaches was is result (EndsCopy result) ⌝) }
+    requires* { sem 𝓛 (pointed_at handle domain was) ∗ ⌜ count_of domain < 2 ^ 63 ⌝ }
+    ensures* { ∃ₛ (λ (is : Option Handle). sem 𝓛 (pointed_at handle domain is)
+        ∗ ⌜ PointsTo was is result (CopyEnds result) ⌝) }
 {
     if domain == ptr::null_mut() {
         return nowhere();
@@ -377,9 +378,9 @@ pub unsafe extern "C" fn gthost_copy_end(alloc: Global, domain: *mut Handle) -> 
 #[unsafe(no_mangle)]
 pub unsafe extern "C" fn gthost_finish(alloc: Global, domain: *mut Handle) -> Answer
     ghost was: { Option Handle }
-    requires* { sem 𝓛 (behind handle domain was) ∗ ⌜ count_of domain < 2 ^ 63 ⌝ }
-    ensures* { ∃ₛ (λ (is : Option Handle). sem 𝓛 (behind handle domain is)
-        ∗ ⌜ Reaches was is result (Finishes result) ⌝) }
+    requires* { sem 𝓛 (pointed_at handle domain was) ∗ ⌜ count_of domain < 2 ^ 63 ⌝ }
+    ensures* { ∃ₛ (λ (is : Option Handle). sem 𝓛 (pointed_at handle domain is)
+        ∗ ⌜ PointsTo was is result (Finishes result) ⌝) }
 {
     if domain == ptr::null_mut() {
         return nowhere();

@@ -4,7 +4,7 @@ ghost use Rattle.gt_seat.specs.Encoding.{encoded};
 ghost use Rattle.gt_seat.specs.declared.answer.Outcome.TheVariants as outcomes;
 ghost use Rattle.gt_c.specs.Calling.{outcome_reserved};
 ghost use Rattle.gt_c.specs.Promises.{Bounds, MakesRoom, TellsMapping, TellsRecord};
-ghost use Rattle.gt_c.specs.Telling.{mapping_told, no_mapping, no_record, outcome_present, record_told, writes};
+ghost use Rattle.gt_c.specs.Telling.{mapping_told, no_mapping, no_record, outcome_present, kept_record, writes};
 
 use crate::calls::{MapHandle, enter, nowhere};
 use crate::handle::Handle;
@@ -100,7 +100,7 @@ fn no_record() -> Record
 
 // The record, if there is one.
 fn record_told(found: Option<gt_audit::Record>) -> Record
-    ensures { result ≡ record_told found }
+    ensures { result ≡ kept_record found }
 {
     match found {
         None => no_record(),

@@ -2,7 +2,7 @@
 use Rattle.gt_calls.proofs.Words.{◌≡◌, ◌≤◌, ℕ, refl, [], Option, Some, None, sym, ap, ◌∙◌, subst, arith, DomId}
 use Rattle.gt_calls.proofs.Words.{GrantRef, Request, bytes_of, Asked, Copy, CopyArgs, Verdict, Phase, Ending}
 use Rattle.gt_calls.proofs.Words.{CallerKnowledge, begun, opens, Continuation, path, after_beginning, steps_of, remains}
-use Rattle.gt_calls.proofs.Words.{first_phase, at_source, action_at, HasShown, held_in, steps_left, MakesStep}
+use Rattle.gt_calls.proofs.Words.{first_phase, at_source, action_at, HasShown, held_in, steps_left, IsStepAction}
 use Rattle.gt_calls.{specs.Path.most_steps, proofs.Calls.at-source, proofs.Calls.wants-action}
 use Rattle.gt_calls.{proofs.Shown.shown-source, proofs.Holds.held-source, proofs.Counts.at-source-left}
 use Rattle.gt_calls.specs.declared.request.Request.TheVariants as requests
@@ -36,14 +36,14 @@ begins k grammar caller (Copy c) none = record {
 begins k grammar caller r none = grind (arith, opens)
 
 -- a call makes a step where it doesn't give its pins back
-moving-step : (caller : DomId) (phase : Phase) → IsMoving phase → MakesStep (Some (action_at caller phase))
+moving-step : (caller : DomId) (phase : Phase) → IsMoving phase → IsStepAction (Some (action_at caller phase))
 moving-step caller phase m = grind arith
 
-pub makes-step : (k : CallerKnowledge) (caller : DomId) (r : Asked) → begun k caller r ≡ None → MakesStep (path k caller r [])
+pub makes-step : (k : CallerKnowledge) (caller : DomId) (r : Asked) → begun k caller r ≡ None → IsStepAction (path k caller r [])
 makes-step k caller r none = let b = begins k (path k caller r) caller r none in
     let steps : steps_of k caller r [] ≡ Some (action_at caller (first_phase k caller r)) =
     sym (ap (λ (t : Continuation). t []) b.same) ∙ wants-action k caller (first_phase k caller r) in
-    subst MakesStep (sym (ap (λ (o : Option Verdict). after_beginning o (steps_of k caller r) []) none ∙ steps)) (moving-step caller (first_phase k caller r) b.moves)
+    subst IsStepAction (sym (ap (λ (o : Option Verdict). after_beginning o (steps_of k caller r) []) none ∙ steps)) (moving-step caller (first_phase k caller r) b.moves)
 
 -- a request that grants by bytes is told from all others
 abbrev pub HasNoBytes : Request → Type 0

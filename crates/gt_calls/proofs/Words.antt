@@ -25,10 +25,10 @@ pub use Rattle.gt_entry.specs.{declared.change.Half.TheVariants.First as FirstHa
 pub use Rattle.gt_entry.specs.{declared.change.Half.TheVariants.Second as SecondHalf}
 pub use Rattle.gt_calls.specs.{Asking.IsSaid, Asking.asked, Asking.begun_of, Asking.bytes_begun, Asking.bytes_of}
 pub use Rattle.gt_calls.specs.{Asking.entry_said, Asking.judged_as, Asking.plainly_asked, Counting.IsCounted}
-pub use Rattle.gt_calls.specs.{Counting.behind, Counting.leg_left, Counting.leg_steps, Counting.most_steps}
+pub use Rattle.gt_calls.specs.{Counting.pins_before, Counting.leg_left, Counting.leg_steps, Counting.most_steps}
 pub use Rattle.gt_calls.specs.{Counting.steps_left, Following.Advances, Following.FitsAction, Following.FitsNext}
-pub use Rattle.gt_calls.specs.{Following.Goes, Following.GoesOn, Following.HoldsAfter, Following.HoldsNext}
-pub use Rattle.gt_calls.specs.{Following.MakesStep, Following.Starts, Holding.held_by, Holding.last_first}
+pub use Rattle.gt_calls.specs.{Following.Goes, Following.GoesOnWith, Following.HoldsAfter, Following.HoldsNext}
+pub use Rattle.gt_calls.specs.{Following.IsStepAction, Following.Starts, Holding.held_by, Holding.last_first}
 pub use Rattle.gt_calls.specs.{Holding.no_pins, Holding.pins_so_far, Machine.action_at, Machine.after_dest_pin}
 pub use Rattle.gt_calls.specs.{Machine.after_leg, Legs.after_look, Legs.after_miss, Machine.after_own_miss}
 pub use Rattle.gt_calls.specs.{Machine.after_pin, Machine.after_pin_of, Machine.after_source_pin, Machine.after_store}
@@ -43,12 +43,12 @@ pub use Rattle.gt_calls.specs.{Path.end_leg, Path.entry_refusal, Path.give_back,
 pub use Rattle.gt_calls.specs.{Path.last_step, Path.leg, Path.map_leg, Path.path, Path.reads_body, Path.reads_second}
 pub use Rattle.gt_calls.specs.{Path.refused_holding, Path.rule_of_try, Path.second_leg, Path.source_pair, Path.steps_of}
 pub use Rattle.gt_calls.specs.{Path.to_dest, Path.try_pin, Path.turn, Path.unless_refused, Resting.HasRead}
-pub use Rattle.gt_calls.specs.{Resting.HasSeenTable, Resting.IsFor, Resting.IsForwarded, Resting.IsOfRun}
+pub use Rattle.gt_calls.specs.{Resting.HasSeenTable, Resting.IsLegFor, Resting.IsForwarded, Resting.IsOfRun}
 pub use Rattle.gt_calls.specs.{Resting.IsPermitted, Resting.IsReached, Resting.IsToward, Resting.Lets}
 pub use Rattle.gt_calls.specs.{Resting.LookedLast, Resting.Rests, Resting.RestsOnRequest, Resting.RestsStep}
 pub use Rattle.gt_calls.specs.{Rules.CallerKnowledge, Rules.before_pin, Rules.begun, Rules.cannot_stand}
 pub use Rattle.gt_calls.specs.{Rules.copy_denied, Rules.entry_in, Rules.first, Rules.first_body, Rules.first_look}
-pub use Rattle.gt_calls.specs.{Rules.frames_of, Rules.is_dest_granted, Rules.is_invalid, Rules.is_kind}
+pub use Rattle.gt_calls.specs.{Rules.frame_count_of, Rules.is_dest_granted, Rules.is_invalid, Rules.is_kind}
 pub use Rattle.gt_calls.specs.{Rules.is_source_granted, Rules.knows, Rules.pins_of, Rules.size_of, Rules.via_judged}
 pub use Rattle.gt_calls.specs.{Standing.HasReadFirst, Standing.HasShown, Standing.HasTried, Standing.IsQuiet}
 pub use Rattle.gt_calls.specs.{Standing.IsTurn, Standing.StandsAt, Standing.held_in, Standing.pins_at}
@@ -83,6 +83,7 @@ pub use Rattle.gt_calls.specs.{declared.request.Asked.TheVariants.Copy, declared
 pub use Rattle.gt_calls.specs.{declared.request.Asked.TheVariants.Map, declared.request.CopyArgs.CopyArgs}
 pub use Rattle.gt_calls.specs.{declared.request.Request.Request, declared.call.TheConstants.MAX_STEPS}
 pub use Rattle.gt_calls.specs.{declared.request.End.End, declared.call.Call.Call}
-pub use Rattle.gt_calls.specs.{declared.call.Start.TheVariants.Done as StartDone, MapCalls.MapCall, MapCalls.BeginsAs}
-pub use Rattle.gt_calls.specs.{MapCalls.GoesOnAs}
+pub use Rattle.gt_calls.specs.{declared.call.Start.TheVariants.Done as StartDone, MapCalls.MapCall}
+pub use Rattle.gt_calls.specs.{MapCalls.MapBeginsAs}
+pub use Rattle.gt_calls.specs.{MapCalls.MapGoesOnAs}
 unfoldable pub use Rattle.gt_calls.specs.{Path.tries, Path.turns, Rules.has_valid}

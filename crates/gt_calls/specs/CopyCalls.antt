@@ -20,13 +20,13 @@ abbrev pub unmoved_copy : DomId → CopyArgs → Call
 unmoved_copy caller copy = record { caller = caller; request = Copy copy; phase = None }
 
 -- a copy begins as its call does, at its source
-abbrev pub BeginsAs : CallerKnowledge → DomId → CopyArgs → Type 0
-BeginsAs k caller copy =
+abbrev pub CopyBeginsAs : CallerKnowledge → DomId → CopyArgs → Type 0
+CopyBeginsAs k caller copy =
     Goes k (unmoved_copy caller copy) Nothing (copy_call caller copy (at_source k caller copy))
     (action_at caller (at_source k caller copy))
 
 -- a copy goes on as its call does, to what follows this step
-abbrev pub GoesOnAs : CallerKnowledge → DomId → CopyArgs → Phase → Seen → Type 0
-GoesOnAs k caller copy phase seen =
+abbrev pub CopyGoesOnAs : CallerKnowledge → DomId → CopyArgs → Phase → Seen → Type 0
+CopyGoesOnAs k caller copy phase seen =
     Goes k (copy_call caller copy phase) seen (copy_call caller copy (phase_after k caller phase seen))
     (action_at caller (phase_after k caller phase seen))

@@ -38,15 +38,16 @@ abbrev pub unmoved : MapCall → Call
 unmoved m = record { caller = m.caller; request = Map m.dom m.gref m.flags; phase = None }
 
 -- the same at its end
-abbrev pub ended : MapCall → Verdict → Call
-ended m verdict = record { caller = m.caller; request = Map m.dom m.gref m.flags; phase = Some (ended_as verdict) }
+abbrev pub ended_map : MapCall → Verdict → Call
+ended_map m verdict = record { caller = m.caller; request = Map m.dom m.gref m.flags; phase = Some (ended_as verdict) }
 
 -- a map begins as its call does, with the step of its leg
-abbrev pub BeginsAs : CallerKnowledge → MapCall → Type 0
-BeginsAs k m = Goes k (unmoved m) Nothing (call_of m) (Makes (leg_step m.leg m.at))
+abbrev pub MapBeginsAs : CallerKnowledge → MapCall → Type 0
+MapBeginsAs k m = Goes k (unmoved m) Nothing (call_of m) (Makes (leg_step m.leg m.at))
 
 -- a map goes on as its call does: to the next step of its leg, or to its end
-abbrev pub GoesOnAs : CallerKnowledge → MapCall → Seen → LegNext → Type 0
-GoesOnAs k m seen (Going at) = Goes k (call_of m) seen (call_of (record m { at = at })) (Makes (leg_step m.leg at))
-GoesOnAs k m seen (LegRefused denial) = Goes k (call_of m) seen (ended m (Refused denial)) (Done (Refused denial))
-GoesOnAs k m seen (Pinned p) = Goes k (call_of m) seen (ended m (Mapped p)) (Done (Mapped p))
+abbrev pub MapGoesOnAs : CallerKnowledge → MapCall → Seen → LegNext → Type 0
+MapGoesOnAs k m seen (Going at) = Goes k (call_of m) seen (call_of (record m { at = at })) (Makes (leg_step m.leg at))
+MapGoesOnAs k m seen (LegRefused denial) =
+    Goes k (call_of m) seen (ended_map m (Refused denial)) (Done (Refused denial))
+MapGoesOnAs k m seen (Pinned p) = Goes k (call_of m) seen (ended_map m (Mapped p)) (Done (Mapped p))

@@ -6,7 +6,8 @@ use Rattle.gt_calls.specs.Prelude.{TypeId, Write, Perms, Triple, resolved, Entry
 use Rattle.gt_calls.specs.Prelude.{Handle, Asked, Grant, Revoke, Demote, Promote, Map, Unmap, Load, SetVersion}
 use Rattle.gt_calls.specs.Prelude.{SetupTable, QuerySize, GetVersion, Store, Peek, Poke, Copy, Withdraw, END_OF_SERIALS}
 use Rattle.gt_calls.specs.Prelude.{Held, CopyArgs, End, Rule, Verdict}
-use Rattle.gt_calls.specs.Rules.{CallerKnowledge, IsOfRun, is_already, cannot_stand, frames_of, is_invalid, size_of}
+use Rattle.gt_calls.specs.Rules.{CallerKnowledge, IsOfRun, is_already, cannot_stand, frame_count_of, is_invalid}
+use Rattle.gt_calls.specs.Rules.{size_of}
 use Rattle.gt_calls.specs.Rules.{map_dir, rights_to_map, rights_to_unmap, rights_to_copy, rights_to_setup}
 use Rattle.gt_calls.specs.Rules.{rights_to_query, is_source_granted, is_dest_granted, begun, first, refused_when}
 use Rattle.gt_calls.specs.Rules.{denied, has_valid, ends_named, ends_ranged, ends_owned, ends_framed, is_foreign}
@@ -71,12 +72,12 @@ pub record OpensStore (k : CallerKnowledge) (handle : Handle) (off len : ℕ) : 
 -- a peek or poke: the range is inside a frame of the caller's own
 pub record OpensOwn (k : CallerKnowledge) (caller : DomId) (frame off len : ℕ) : Type 0 where
   pub range : off + len ≤ FRAME_SIZE
-  pub framed : frame < frames_of k.domains caller
+  pub framed : frame < frame_count_of k.domains caller
 
 -- an end of a copy by a frame number is the caller's own, and a frame that it has
 pub record IsOwnEnd (k : CallerKnowledge) (caller : DomId) (end : End) : Type 0 where
   pub owned : (resolved caller end.domid).0 ≡ caller.0
-  pub framed : end.ptr < frames_of k.domains caller
+  pub framed : end.ptr < frame_count_of k.domains caller
 
 -- a copy: its domains are of the run, its flags are known, its ranges are inside frames, its frame numbers are the
 -- caller's, and the policy allows it for the domains named

@@ -7,7 +7,7 @@ use Rattle.clap.specs.Faults.{check_fault, defaults_fault, level_fault, settle_f
 use Rattle.clap.specs.Walk.{Row, Rule, Text, Waiting, finished, idle, nothing_held, rows_after, settled_rows}
 use Rattle.clap.specs.Walk.{with_default}
 use Rattle.clap.specs.declared.error.kind.ErrorKind.TheVariants.{MissingRequiredArgument}
-use Rattle.gt_commands.specs.Usage.{Given, Line, Usage, ended, gives, is_among, lacks, line, wrong}
+use Rattle.gt_commands.specs.Usage.{Given, Line, Usage, line_ended, gives, is_among, lacks, line, wrong}
 use Rattle.gt_commands.proofs.Lookups as lookups
 use Rattle.gt_commands.proofs.Ends.{defaults_pass, lacking_at_end}
 use Rattle.gt_commands.proofs.Uses.{Settles, Valued, rows_of}
@@ -30,13 +30,13 @@ module _ (u : Usage) (name : Text) where
   after_is given = ap₂ (λ (k : Kinds) (b : Bool). or_else k (lack b)) (defaults_pass u given) (lacking_at_end u given)
 
   ends : (given : Given) (rows : List Row) (pending : Option (Text × List Text)) (waiting : Waiting) (p : ℕ) (trailing : Bool) → Settles R rows pending (rows_of given)
-      → walks.Tells u name (ended u given) (walks.ended_with u name (walks.At u name rows pending waiting p trailing)) (finished R (held rows pending))
+      → walks.Tells u name (line_ended u given) (walks.ended_with u name (walks.At u name rows pending waiting p trailing)) (finished R (held rows pending))
   ends given rows pending waiting p trailing settles = by (lacks u given) refl
     where
       kinds : walks.ended_with u name (walks.At u name rows pending waiting p trailing) ≡ lack (lacks u given)
       kinds = ap₂ (λ (k : Kinds) (rs : List Row). or_else k (after rs)) settles.0 settles.1 ∙ after_is given
 
-      by : (b : Bool) → lacks u given ≡ b → walks.Tells u name (ended u given) (walks.ended_with u name (walks.At u name rows pending waiting p trailing)) (finished R (held rows pending))
+      by : (b : Bool) → lacks u given ≡ b → walks.Tells u name (line_ended u given) (walks.ended_with u name (walks.At u name rows pending waiting p trailing)) (finished R (held rows pending))
       by true e = rw e (subst Wrong (sym (kinds ∙ ap lack e)) lacking)
       by false e = rw e (kinds ∙ ap lack e, ap (λ (rs : List Row). fold with_default rs R) settles.1)
 

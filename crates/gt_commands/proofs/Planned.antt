@@ -19,8 +19,9 @@ use Rattle.clap.proofs.ValueTestLemmas.{accepts-Accepts, Accepts-accepts}
 use Rattle.clap.specs.declared.parser.matches.ArgMatches.{ArgMatches}
 use Rattle.clap.specs.declared.parser.matches.ArgMatches.TheViews.{out-ArgMatches, out-SubCommand}
 use Rattle.clap.specs.declared.parser.matches.SubCommand.{SubCommand}
-use Rattle.gt_commands.specs.Commands.{IsAnswerTo, IsPlanOf, Request, asked, asked_by_plan, asked_by_some, asked_named}
-use Rattle.gt_commands.specs.Commands.{asked_with, domain_of, command_name, gthost_app, mode_of, nothing, read}
+use Rattle.gt_commands.specs.Commands.{IsInvocationOf, IsPlanOf, Request, request_in_words, asked_by_plan}
+use Rattle.gt_commands.specs.Commands.{asked_by_some, asked_named}
+use Rattle.gt_commands.specs.Commands.{asked_with, domain_number, command_name, gthost_app, mode_of, nothing, read}
 use Rattle.gt_commands.specs.Commands.{refusals}
 use Rattle.gt_commands.specs.declared.invocation.Invocation.{Invocation}
 use Rattle.gt_commands.specs.declared.invocation.Mode.{Mode}
@@ -64,7 +65,7 @@ refusal_by e (tells_version sub) has = has
 refusal_by e (refuses kinds sub bad) has = refusal_of_wrong e bad has
 
 -- an error of the parse fits what was asked for
-pub refusal : (words : List Text) (e : Error) → HasKind (fault_of gthost_app words) e → HasKind (refusals (asked (drop 1 words))) e
+pub refusal : (words : List Text) (e : Error) → HasKind (fault_of gthost_app words) e → HasKind (refusals (request_in_words (drop 1 words))) e
 refusal words e has = refusal_by e (words_come words) has
 
 -- a parse that passes entered a command, whose rows say what is asked for
@@ -77,7 +78,7 @@ entered_by (helps sub) none = absurd (cc none)
 entered_by (tells_version sub) none = absurd (cc none)
 entered_by (refuses kinds sub bad) none = absurd (never_passes bad none)
 
-pub entered : (words : List Text) → fault_of gthost_app words ≡ [] → Entered (asked (drop 1 words)) (subcommand_of gthost_app words)
+pub entered : (words : List Text) → fault_of gthost_app words ≡ [] → Entered (request_in_words (drop 1 words)) (subcommand_of gthost_app words)
 entered words none = entered_by (words_come words) none
 
 pub named_mode : (mode : Mode) → mode_of (command_name mode) ≡ Some mode
@@ -118,7 +119,7 @@ some_pair : (a c : Text) (b d : List Row) → ◌≡◌ {A = Option (Text × Lis
 some_pair a c b d e = (ap (first_or a) e, ap (second_or b) e)
 
 -- what the matches of the command ask for is what the words do
-pub named_asks : (words : List Text) (name : Text) (rows : List Row) → fault_of gthost_app words ≡ [] → subcommand_of gthost_app words ≡ Some (name, rows) → asked_named name rows ≡ asked (drop 1 words)
+pub named_asks : (words : List Text) (name : Text) (rows : List Row) → fault_of gthost_app words ≡ [] → subcommand_of gthost_app words ≡ Some (name, rows) → asked_named name rows ≡ request_in_words (drop 1 words)
 named_asks words name rows none sub =
     let it = entered words none in
     let same = some_pair _ _ _ _ (sym it.2 ∙ sub) in
@@ -126,10 +127,10 @@ named_asks words name rows none sub =
     ap (λ (m : Option Mode). asked_with m (λ id. first_of id rows)) mode ∙ ap (λ (rs : List Row). read it.0 (λ id. first_of id rs)) (sym same.1) ∙ sym it.3
 
 -- the answer by a plan, or by the error for a value
-pub planned_some : (request : Request) (p : Invocation) → asked_by_some (Some p) ≡ request → IsAnswerTo request (Ok p)
+pub planned_some : (request : Request) (p : Invocation) → asked_by_some (Some p) ≡ request → IsInvocationOf request (Ok p)
 planned_some request p is = is
 
-pub planned_none : (request : Request) (e : Error) → nothing ≡ request → (kind_of e ≡ InvalidValue) ⊎ (kind_of e ≡ OutOfMemory) → IsAnswerTo request (Err e)
+pub planned_none : (request : Request) (e : Error) → nothing ≡ request → (kind_of e ≡ InvalidValue) ⊎ (kind_of e ≡ OutOfMemory) → IsInvocationOf request (Err e)
 planned_none request e is (inl kind) = subst (λ (r : Request). HasKind (refusals r) e) is (refusal_of_value e kind)
 planned_none request e is (inr kind) = subst (λ (r : Request). HasKind (refusals r) e) is (inl kind)
 
@@ -139,14 +140,14 @@ some_entered words none sub = cc (sym (entered words none).2 ∙ sub)
 
 -- the answer is the one for the words, and the plan that of the subcommand
 pub answers : (words : List Text) (name : Text) (rows : List Row) (r : Result Invocation Error) → fault_of gthost_app words ≡ [] → subcommand_of gthost_app words ≡ Some (name, rows)
-    → IsAnswerTo (asked_named name rows) r → IsAnswerTo (asked (drop 1 words)) r
-answers words name rows r none sub answer = subst (λ (q : Request). IsAnswerTo q r) (named_asks words name rows none sub) answer
+    → IsInvocationOf (asked_named name rows) r → IsInvocationOf (request_in_words (drop 1 words)) r
+answers words name rows r none sub answer = subst (λ (q : Request). IsInvocationOf q r) (named_asks words name rows none sub) answer
 
-plan_at : (name : Text) (rows : List Row) (r : Result Invocation Error) → IsAnswerTo (asked_named name rows) r → IfOk r (λ p. IsPlanOf p (Some (name, rows)))
+plan_at : (name : Text) (rows : List Row) (r : Result Invocation Error) → IsInvocationOf (asked_named name rows) r → IfOk r (λ p. IsPlanOf p (Some (name, rows)))
 plan_at name rows (Ok p) answer = answer
 plan_at name rows (Err e) answer = tt
 
-pub plan_of : (words : List Text) (name : Text) (rows : List Row) (r : Result Invocation Error) → subcommand_of gthost_app words ≡ Some (name, rows) → IsAnswerTo (asked_named name rows) r
+pub plan_of : (words : List Text) (name : Text) (rows : List Row) (r : Result Invocation Error) → subcommand_of gthost_app words ≡ Some (name, rows) → IsInvocationOf (asked_named name rows) r
     → IfOk r (λ p. IsPlanOf p (subcommand_of gthost_app words))
 plan_of words name rows r sub answer = subst (λ (o : Option (Text × List Row)). IfOk r (λ p. IsPlanOf p o)) (sym sub) (plan_at name rows r answer)
 
@@ -156,7 +157,7 @@ module _ (word : Text) where
   abbrev is_number : Type 0
   is_number = IsNumeral 10 (without_leading_plus word) × (digits_value 10 (without_leading_plus word) < 65536)
 
-  pub domain_is : (n : ℕ) → is_number × (n ≡ digits_value 10 (without_leading_plus word)) → Some n ≡ domain_of word
+  pub domain_is : (n : ℕ) → is_number × (n ≡ digits_value 10 (without_leading_plus word)) → Some n ≡ domain_number word
   domain_is n (fits, is) =
       let small : digits_value 10 (without_leading_plus word) < 18446744073709551616 = omega (arith, fits.1) in
       let least : 0 ≤ digits_value 10 (without_leading_plus word) = omega arith in
@@ -164,10 +165,10 @@ module _ (word : Text) where
       let passes : is_unsigned_in 0 65535 word ≡ true = Accepts-accepts false (vp.Unsigned 0 65535) word (fits.0, small, least, most) in
       rw passes (ap (λ (k : ℕ). Some k) is)
 
-  pub no_domain : (is_number → ⊥) → None ≡ domain_of word
+  pub no_domain : (is_number → ⊥) → None ≡ domain_number word
   no_domain bad = by (is_unsigned_in 0 65535 word) refl
     where
-      by : (b : Bool) → is_unsigned_in 0 65535 word ≡ b → None ≡ domain_of word
+      by : (b : Bool) → is_unsigned_in 0 65535 word ≡ b → None ≡ domain_number word
       by true e =
           let accepted = accepts-Accepts false (vp.Unsigned 0 65535) word e in
           absurd (bad (accepted.0, omega (arith, accepted.3)))

@@ -14,8 +14,9 @@ use Rattle.clap.specs.declared.error.kind.ErrorKind.TheVariants.{DisplayHelp, Di
 use Rattle.clap.proofs.WalkLemmas.{walk_stopped}
 use Rattle.clap.proofs.FaultLemmas.{stopped_fault}
 use Rattle.gt_commands.specs.Usage.{Given, Line, Word, asks_help, gives, is_true, line, long, mark, plain, short}
-use Rattle.gt_commands.specs.Usage.{value_of, word_of, wrong}
-use Rattle.gt_commands.specs.Commands.{Request, asked, asked_by, asked_of, asked_of_long, asked_of_none, command_name}
+use Rattle.gt_commands.specs.Usage.{value_of, usage_word, wrong}
+use Rattle.gt_commands.specs.Commands.{Request, request_in_words, request_by, asked_of, asked_of_long, asked_of_none}
+use Rattle.gt_commands.specs.Commands.{command_name}
 use Rattle.gt_commands.specs.Commands.{every_mode, for_help, for_version, gthost_app, mode_of, nothing, read, usage_of}
 use Rattle.gt_commands.specs.declared.invocation.Mode.{Mode}
 use Rattle.gt_commands.specs.declared.invocation.Mode.TheVariants.{Play, Run, Policy, Rules, Check, Why, Entries}
@@ -123,7 +124,7 @@ module _ (names : Names) (word : Text) (none : subcommand_met names idle word �
   stray_no_letter [] e l s c = rw (none, e, l, s) stray
   stray_no_letter (x ∷ flags) e l s c = rw (none, e, l, s, c) stray
 
-  strays : Strayed (word_of word)
+  strays : Strayed (usage_word word)
   strays = word_goes Strayed word stray_mark stray_plain stray_long stray_letter stray_no_letter
 
 and_no : (b : Bool) → (b && false) ≡ false
@@ -264,11 +265,11 @@ module _ (word : Text) (rest : List Text) where
       by false false h v = comes_as (rw (h, v) refl) refl refl (refused (turn_fault top_built names start word) (strays.2 h v))
   of_none plain strays = refused (turn_fault top_built names start word) strays
 
-  of_word : (mode : Option Mode) → mode_of word ≡ mode → Comes (asked_by mode word rest) line_kinds (sub_at line_end)
+  of_word : (mode : Option Mode) → mode_of word ≡ mode → Comes (request_by mode word rest) line_kinds (sub_at line_end)
   of_word (Some mode) is = of_command mode (named word ∙ ap (option_map command_name) is)
-  of_word None is = of_none (word_of word) (strays names word (named word ∙ ap (option_map command_name) is))
+  of_word None is = of_none (usage_word word) (strays names word (named word ∙ ap (option_map command_name) is))
 
-  line_comes : (program : Text) → Comes (asked (word ∷ rest)) (fault_of gthost_app (program ∷ word ∷ rest)) (subcommand_of gthost_app (program ∷ word ∷ rest))
+  line_comes : (program : Text) → Comes (request_in_words (word ∷ rest)) (fault_of gthost_app (program ∷ word ∷ rest)) (subcommand_of gthost_app (program ∷ word ∷ rest))
   unfolding walk_fault
   line_comes program = of_word (mode_of word) refl
 
@@ -279,7 +280,7 @@ no_words (name ∷ []) none = missing
 no_words (name ∷ word ∷ rest) none = absurd (cc none)
 
 -- what the parser makes of the words is what they ask for
-pub words_come : (words : List Text) → Comes (asked (drop 1 words)) (fault_of gthost_app words) (subcommand_of gthost_app words)
+pub words_come : (words : List Text) → Comes (request_in_words (drop 1 words)) (fault_of gthost_app words) (subcommand_of gthost_app words)
 words_come [] = refuses (fault_of gthost_app []) (subcommand_of gthost_app []) (no_words [] refl)
 words_come (name ∷ []) = refuses (fault_of gthost_app (name ∷ [])) (subcommand_of gthost_app (name ∷ [])) (no_words (name ∷ []) refl)
 words_come (name ∷ word ∷ rest) = line_comes word rest name

@@ -13,9 +13,10 @@ use Rattle.clap.specs.Walk.{arg_by_long, arg_by_short, finished, idle, is_pendin
 use Rattle.clap.specs.Walk.{plain_word, rows_after, settled, settled_rows, used, value, walk, walked, word_met}
 use Rattle.clap.specs.Simple.{Shape}
 use Rattle.clap.specs.declared.error.kind.ErrorKind.TheVariants.{DisplayHelp, UnknownArgument}
-use Rattle.gt_commands.specs.Usage.{Given, Line, Usage, Word, by_kind, by_long, by_value, by_word, ended, gives}
-use Rattle.gt_commands.specs.Usage.{asks_help, wrong, is_among, is_given, lacks, line_after_mark, line_of, long, mark}
-use Rattle.gt_commands.specs.Usage.{once, plain, short, word_of}
+use Rattle.gt_commands.specs.Usage.{Given, Line, Usage, Word, by_kind, by_long, by_value, by_word, line_ended, gives}
+use Rattle.gt_commands.specs.Usage.{asks_help, wrong, is_among, is_given, lacks, line_after_mark, usage_line_of, long}
+use Rattle.gt_commands.specs.Usage.{mark}
+use Rattle.gt_commands.specs.Usage.{once, plain, short, usage_word}
 use Rattle.gt_commands.proofs.Lookups as lookups
 use Rattle.gt_commands.proofs.Lookups.{one_rule, flag_built, help_built}
 use Rattle.gt_commands.proofs.Uses.{Settles, Valued, row, rows_of, has_given, flag_used, one_used, flag_passes}
@@ -172,7 +173,7 @@ module _ (u : Usage) (name : Text) where
   doomed : (words : List Text) (rows : List Row) (pending : Option (Text × List Text)) (p : ℕ) (left : List Text) → lookups.Places u p left
       → Wrong (Settling rows pending) → Wrong (total (At rows pending idle p false) words)
   doomed [] rows pending p left places bad = doomed_end rows pending idle p false bad
-  doomed (word ∷ rest) rows pending p left places bad = by (word_of word) (meets name R (lookups.short_is u) rows pending idle p word)
+  doomed (word ∷ rest) rows pending p left places bad = by (usage_word word) (meets name R (lookups.short_is u) rows pending idle p word)
     where
       by : (k : Word) → Meets name R (lookups.short_is u) rows pending idle p word k → Wrong (total (At rows pending idle p false) (word ∷ rest))
       by mark met = marked rows pending idle p word met wrong rest (doomed_after_mark rest rows pending idle p left places bad)
@@ -201,11 +202,11 @@ module _ (u : Usage) (name : Text) where
   walk_at given (open_at n) p = At (rows_of given) (Some (n, [])) (option n) p false
 
   module _ (ends : (given : Given) (rows : List Row) (pending : Option (Text × List Text)) (waiting : Waiting) (p : ℕ) (trailing : Bool) → Settles R rows pending (rows_of given)
-      → Tells (ended u given) (ended_with (At rows pending waiting p trailing)) (finished R (held rows pending)))
+      → Tells (line_ended u given) (ended_with (At rows pending waiting p trailing)) (finished R (held rows pending)))
       (valued_words : (p : ℕ) (w : Text) (ws : List Text) → lookups.Places u p (w ∷ ws) → Valued R w)
       (valued_options : (n : Text) → is_among u.options n ≡ true → Valued R n) where
     finishes : (given : Given) (rows : List Row) (pending : Option (Text × List Text)) (waiting : Waiting) (p : ℕ) (trailing : Bool) → Settles R rows pending (rows_of given)
-        → From (ended u given) (At rows pending waiting p trailing) []
+        → From (line_ended u given) (At rows pending waiting p trailing) []
     unfolding walk_fault
     finishes given rows pending waiting p trailing settles = ends given rows pending waiting p trailing settles
 
@@ -250,7 +251,7 @@ module _ (u : Usage) (name : Text) where
     -- a word where no option waits for its value
     module _ (word : Text) (rest : List Text) (given : Given) (rows : List Row) (pending : Option (Text × List Text)) (p : ℕ) (left : List Text)
         (places : lookups.Places u p left) (settles : Settles R rows pending (rows_of given))
-        (later : (more : Given) (point : Point) (q : ℕ) (l : List Text) → Fits more point → lookups.Places u q l → From (line_of u rest (open_of point) more l) (walk_at more point q) rest) where
+        (later : (more : Given) (point : Point) (q : ℕ) (l : List Text) → Fits more point → lookups.Places u q l → From (usage_line_of u rest (open_of point) more l) (walk_at more point q) rest) where
       abbrev Idle : Walk
       Idle = At rows pending idle p false
 
@@ -279,25 +280,25 @@ module _ (u : Usage) (name : Text) where
             ∙ ap (λ (x : Option Rule). after_step R word Idle (step_by x).0 (step_by x).1) found
 
       -- a flag
-      flag_tells : (n : Text) → Met (long n None) → is_among u.flags n ≡ true → From (once n (codes "true") given left (line_of u rest None)) Idle (word ∷ rest)
+      flag_tells : (n : Text) → Met (long n None) → is_among u.flags n ≡ true → From (once n (codes "true") given left (usage_line_of u rest None)) Idle (word ∷ rest)
       flag_tells n met e =
           let found = flag_found n e in
           let turn : turn_fault s [] Idle word ≡ or_else (use_fault false (flag_built n) [] (rows_of given)) [] =
           long_turn n None met (Some (flag_built n)) found ∙ ap (λ (k : Kinds). or_else k []) (reacts (λ rs. use_fault false (flag_built n) [] rs)) in
           let goes : walked R [] Idle word ≡ At (used (flag_built n) [] (rows_of given)) None idle p false =
           long_walk n None met (Some (flag_built n)) found ∙ ap (λ (rs : List Row). At (used (flag_built n) [] rs) None idle p false) settles.1 in
-          once_by n (codes "true") given left (line_of u rest None) Idle (word ∷ rest) (is_given given n) refl
+          once_by n (codes "true") given left (usage_line_of u rest None) Idle (word ∷ rest) (is_given given n) refl
           (λ some. refused Idle word rest (subst Wrong (sym (turn ∙ ap (λ (k : Kinds). or_else k []) (flag_repeats n (rows_of given) (has_given given n ∙ some)))) repeated))
           (λ none.
           let fresh = has_given given n ∙ none in
           let after = flag_used n (rows_of given) fresh ∙ given_more given n (codes "true") in
-          forward (line_of u rest None (given ++ (n, codes "true") ∷ []) left) Idle _ word rest
+          forward (usage_line_of u rest None (given ++ (n, codes "true") ∷ []) left) Idle _ word rest
           (turn ∙ ap (λ (k : Kinds). or_else k []) (flag_passes n (rows_of given) fresh))
           (goes ∙ ap (λ (rs : List Row). At rs None idle p false) after)
           (later (given ++ (n, codes "true") ∷ []) (idle_at (rows_of (given ++ (n, codes "true") ∷ [])) None) p left (nothing_settles R _) places))
 
       -- an option with its value attached
-      attached_tells : (n v : Text) → Met (long n (Some v)) → is_among u.flags n ≡ false → is_among u.options n ≡ true → From (once n v given left (line_of u rest None)) Idle (word ∷ rest)
+      attached_tells : (n v : Text) → Met (long n (Some v)) → is_among u.flags n ≡ false → is_among u.options n ≡ true → From (once n v given left (usage_line_of u rest None)) Idle (word ∷ rest)
       attached_tells n v met e f =
           let found = option_found n e f in
           let rule = lookups.option_built u n in
@@ -305,27 +306,27 @@ module _ (u : Usage) (name : Text) where
           long_turn n (Some v) met (Some rule) found ∙ ap (λ (k : Kinds). or_else k []) (reacts (λ rs. use_fault false rule (v ∷ []) rs)) in
           let goes : walked R [] Idle word ≡ At (used rule (v ∷ []) (rows_of given)) None idle p false =
           long_walk n (Some v) met (Some rule) found ∙ ap (λ (rs : List Row). At (used rule (v ∷ []) rs) None idle p false) settles.1 in
-          once_by n v given left (line_of u rest None) Idle (word ∷ rest) (is_given given n) refl
+          once_by n v given left (usage_line_of u rest None) Idle (word ∷ rest) (is_given given n) refl
           (λ some. refused Idle word rest (subst Wrong (sym (turn ∙ ap (λ (k : Kinds). or_else k []) (one_repeats None (Some n) (is_among u.needed n) n v (rows_of given) (has_given given n ∙ some)))) repeated))
           (λ none.
           let fresh = has_given given n ∙ none in
           let after = one_used None (Some n) (is_among u.needed n) n v (rows_of given) fresh ∙ given_more given n v in
-          forward (line_of u rest None (given ++ (n, v) ∷ []) left) Idle _ word rest
+          forward (usage_line_of u rest None (given ++ (n, v) ∷ []) left) Idle _ word rest
           (turn ∙ ap (λ (k : Kinds). or_else k []) (one_passes None (Some n) (is_among u.needed n) n v (rows_of given) fresh))
           (goes ∙ ap (λ (rs : List Row). At rs None idle p false) after)
           (later (given ++ (n, v) ∷ []) (idle_at (rows_of (given ++ (n, v) ∷ [])) None) p left (nothing_settles R _) places))
 
       -- an option whose value comes next
-      option_tells : (n : Text) → Met (long n None) → is_among u.flags n ≡ false → is_among u.options n ≡ true → From (line_of u rest (Some n) given left) Idle (word ∷ rest)
+      option_tells : (n : Text) → Met (long n None) → is_among u.flags n ≡ false → is_among u.options n ≡ true → From (usage_line_of u rest (Some n) given left) Idle (word ∷ rest)
       option_tells n met e f =
           let rule = lookups.option_built u n in
-          forward (line_of u rest (Some n) given left) Idle _ word rest
+          forward (usage_line_of u rest (Some n) given left) Idle _ word rest
           (long_turn n None met (Some rule) (option_found n e f) ∙ ap (λ (k : Kinds). or_else k []) settles.0)
           (long_walk n None met (Some rule) (option_found n e f) ∙ ap (λ (rs : List Row). At rs (Some (n, [])) (option n) p false) settles.1)
           (later given (open_at n) p left (valued_options n f) places)
 
       tells_long : (n : Text) (v : Option Text) (a b c : Bool) → is_among u.flags n ≡ a → is_among u.options n ≡ b → bytes_eq (codes "help") n ≡ c → Met (long n v)
-          → From (by_long u n v given left (line_of u rest)) Idle (word ∷ rest)
+          → From (by_long u n v given left (usage_line_of u rest)) Idle (word ∷ rest)
       tells_long n None true b c e f h met = rw e (flag_tells n met e)
       tells_long n (Some v) true b c e f h met = rw e (refused Idle word rest (subst Wrong (sym (long_turn n (Some v) met (Some (flag_built n)) (flag_found n e))) valued))
       tells_long n None false true c e f h met = rw (e, f) (option_tells n met e f)
@@ -344,13 +345,13 @@ module _ (u : Usage) (name : Text) where
           rw h (helped Idle word rest (ap (λ (k : Kinds). or_else k (step_fault s p here.0 here.1)) fault))
       tells_short letter false h met = rw h (refused Idle word rest (is_refused rows pending idle p word _ (met.1 ∙ rw h refl) unknown))
 
-      tells_idle : (k : Word) → Met k → From (by_kind u k word given left (line_after_mark u rest) (line_of u rest)) Idle (word ∷ rest)
+      tells_idle : (k : Word) → Met k → From (by_kind u k word given left (line_after_mark u rest) (usage_line_of u rest)) Idle (word ∷ rest)
       unfolding walked
       tells_idle mark met = marked rows pending idle p word met (line_after_mark u rest given left) rest (tells_after_mark rest given rows pending p left places settles)
       tells_idle (long n v) met = tells_long n v (is_among u.flags n) (is_among u.options n) (bytes_eq (codes "help") n) refl refl refl met
       tells_idle (short letter) met = tells_short letter (104 == letter) refl met
       tells_idle plain met =
-          by_word_tells word rest given rows pending p false (line_of u rest None) left places settles
+          by_word_tells word rest given rows pending p false (usage_line_of u rest None) left places settles
           (ap₂ (λ (k : Kinds) (q : Held × Step). or_else k (step_fault s p q.0 q.1)) met.0 met.1)
           (ap (λ (q : Held × Step). after_step R word Idle q.0 q.1) met.1)
           (λ rs pend q l pl bad. doomed rest rs pend q l pl bad)
@@ -358,7 +359,7 @@ module _ (u : Usage) (name : Text) where
 
     -- a word where an option waits for its value
     module _ (word : Text) (rest : List Text) (given : Given) (n : Text) (one : Valued R n) (p : ℕ) (left : List Text) (places : lookups.Places u p left)
-        (later : (more : Given) (point : Point) (q : ℕ) (l : List Text) → Fits more point → lookups.Places u q l → From (line_of u rest (open_of point) more l) (walk_at more point q) rest) where
+        (later : (more : Given) (point : Point) (q : ℕ) (l : List Text) → Fits more point → lookups.Places u q l → From (usage_line_of u rest (open_of point) more l) (walk_at more point q) rest) where
       abbrev Open : Walk
       Open = At (rows_of given) (Some (n, [])) (option n) p false
 
@@ -371,7 +372,7 @@ module _ (u : Usage) (name : Text) where
       value_walk : plain_word R (option n) word (held (rows_of given) (Some (n, []))) ≡ (held (rows_of given) (Some (n, word ∷ [])), next idle)
       value_walk = rw (one.3, same) refl
 
-      tells_open : (k : Word) → Meets name R (lookups.short_is u) (rows_of given) (Some (n, [])) (option n) p word k → From (by_value k n word given left (line_of u rest None)) Open (word ∷ rest)
+      tells_open : (k : Word) → Meets name R (lookups.short_is u) (rows_of given) (Some (n, [])) (option n) p word k → From (by_value k n word given left (usage_line_of u rest None)) Open (word ∷ rest)
       unfolding walked
       tells_open mark met = marked (rows_of given) (Some (n, [])) (option n) p word met wrong rest (doomed_after_mark rest (rows_of given) (Some (n, [])) (option n) p left places no_value)
       tells_open (long m v) met =
@@ -380,19 +381,19 @@ module _ (u : Usage) (name : Text) where
       tells_open plain met =
           let passes : turn_fault s [] Open word ≡ [] = ap₂ (λ (k : Kinds) (q : Held × Step). or_else k (step_fault s p q.0 q.1)) met.0 (met.1 ∙ value_walk) in
           let goes : walked R [] Open word ≡ At (rows_of given) (Some (n, word ∷ [])) idle p false = ap (λ (q : Held × Step). after_step R word Open q.0 q.1) (met.1 ∙ value_walk) in
-          once_by n word given left (line_of u rest None) Open (word ∷ rest) (is_given given n) refl
+          once_by n word given left (usage_line_of u rest None) Open (word ∷ rest) (is_given given n) refl
           (λ some. forward wrong Open _ word rest passes goes (doomed rest (rows_of given) (Some (n, word ∷ [])) p left places (subst Wrong (sym (one_conflicts R given n word one some)) repeated)))
-          (λ none. forward (line_of u rest None (given ++ (n, word) ∷ []) left) Open _ word rest passes goes
+          (λ none. forward (usage_line_of u rest None (given ++ (n, word) ∷ []) left) Open _ word rest passes goes
           (later (given ++ (n, word) ∷ []) (idle_at (rows_of given) (Some (n, word ∷ []))) p left (one_settles R given n word one none) places))
 
     -- the words of a command
     pub tells : (words : List Text) (given : Given) (point : Point) (p : ℕ) (left : List Text) → Fits given point → lookups.Places u p left
-        → From (line_of u words (open_of point) given left) (walk_at given point p) words
+        → From (usage_line_of u words (open_of point) given left) (walk_at given point p) words
     unfolding walk_fault
     tells [] given (idle_at rows pending) p left settles places = finishes given rows pending idle p false settles
     tells [] given (open_at n) p left one places = doomed_end (rows_of given) (Some (n, [])) (option n) p false (subst Wrong (sym (none_is_wrong R (rows_of given) n one)) valueless)
     tells (word ∷ rest) given (idle_at rows pending) p left settles places =
-        tells_idle word rest given rows pending p left places settles (λ more point q l fits pl. tells rest more point q l fits pl) (word_of word) (meets name R (lookups.short_is u) rows pending idle p word)
+        tells_idle word rest given rows pending p left places settles (λ more point q l fits pl. tells rest more point q l fits pl) (usage_word word) (meets name R (lookups.short_is u) rows pending idle p word)
     tells (word ∷ rest) given (open_at n) p left one places =
-        tells_open word rest given n one p left places (λ more point q l fits pl. tells rest more point q l fits pl) (word_of word)
+        tells_open word rest given n one p left places (λ more point q l fits pl. tells rest more point q l fits pl) (usage_word word)
         (meets name R (lookups.short_is u) (rows_of given) (Some (n, [])) (option n) p word)

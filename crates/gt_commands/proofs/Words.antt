@@ -11,7 +11,7 @@ use Rattle.clap.specs.Walk.{long_word, next, option, plain_word, positional, rea
 use Rattle.clap.specs.Walk.{word_met}
 use Rattle.clap.specs.Simple.{Shape}
 use Rattle.clap.specs.declared.error.kind.ErrorKind.TheVariants.{DisplayHelp, UnknownArgument}
-use Rattle.gt_commands.specs.Usage.{Word, mark, long, short, plain, word_of, word_with, short_flags}
+use Rattle.gt_commands.specs.Usage.{Word, mark, long, short, plain, usage_word, usage_word_with, short_flags}
 use Rattle.gt_commands.proofs.Lookups.{help_built}
 
 no_letter : slice_get (chars []) 0 ≡ None
@@ -36,7 +36,7 @@ module _ (P : Word → Type 0) (word : Text) where
   abbrev pub NoLetterGoes : Type 0
   NoLetterGoes = (flags : Text) → bytes_eq word (codes "--") ≡ false → long_of word ≡ None → short_of word ≡ Some flags → slice_get (chars flags) 0 ≡ None → P plain
 
-  pub word_goes : MarkGoes → PlainGoes → LongGoes → LetterGoes → NoLetterGoes → P (word_of word)
+  pub word_goes : MarkGoes → PlainGoes → LongGoes → LetterGoes → NoLetterGoes → P (usage_word word)
   word_goes by_mark by_plain by_long by_letter by_no_letter = all (bytes_eq word (codes "--")) refl
     where
       letters : (flags : Text) (o : Option ℕ) → bytes_eq word (codes "--") ≡ false → long_of word ≡ None → short_of word ≡ Some flags → slice_get (chars flags) 0 ≡ o → P (short_flags o)
@@ -44,17 +44,17 @@ module _ (P : Word → Type 0) (word : Text) where
       letters [] (Some letter) e l s c = absurd (cc (c, no_letter))
       letters (x ∷ flags) (Some letter) e l s c = by_letter x flags letter e l s c
 
-      shorts : (o : Option Text) → bytes_eq word (codes "--") ≡ false → long_of word ≡ None → short_of word ≡ o → P (word_with None o)
+      shorts : (o : Option Text) → bytes_eq word (codes "--") ≡ false → long_of word ≡ None → short_of word ≡ o → P (usage_word_with None o)
       shorts None e l s = by_plain e l s
       shorts (Some flags) e l s = letters flags (slice_get (chars flags) 0) e l s refl
 
-      longs : (o : Option (Text × Option Text)) → bytes_eq word (codes "--") ≡ false → long_of word ≡ o → P (word_with o (short_of word))
+      longs : (o : Option (Text × Option Text)) → bytes_eq word (codes "--") ≡ false → long_of word ≡ o → P (usage_word_with o (short_of word))
       longs None e l = shorts (short_of word) e l refl
       longs (Some (name, value)) e l = by_long name value e l
 
-      all : (b : Bool) → bytes_eq word (codes "--") ≡ b → P (word_of word)
-      all true e = subst (λ (b : Bool). P (cond b mark (word_with (long_of word) (short_of word)))) (sym e) (by_mark e)
-      all false e = subst (λ (b : Bool). P (cond b mark (word_with (long_of word) (short_of word)))) (sym e) (longs (long_of word) e refl)
+      all : (b : Bool) → bytes_eq word (codes "--") ≡ b → P (usage_word word)
+      all true e = subst (λ (b : Bool). P (cond b mark (usage_word_with (long_of word) (short_of word)))) (sym e) (by_mark e)
+      all false e = subst (λ (b : Bool). P (cond b mark (usage_word_with (long_of word) (short_of word)))) (sym e) (longs (long_of word) e refl)
 
 -- a command as the parser completes it, by its name and its rules
 abbrev pub leaf : Text → List Rule → Shape
@@ -129,5 +129,5 @@ module _ (name : Text) (R : List Rule) (short_is : (letter : ℕ) → arg_by_sho
   meets_no_letter [] e l s c = (rw (no_subcommand, e, l, s) refl, rw (no_subcommand, e, l, s) refl)
   meets_no_letter (x ∷ flags) e l s c = (rw (no_subcommand, e, l, s, c) refl, rw (no_subcommand, e, l, s, c) refl)
 
-  pub meets : Meets (word_of word)
+  pub meets : Meets (usage_word word)
   meets = word_goes Meets word meets_mark meets_plain meets_long meets_letter meets_no_letter

@@ -9,7 +9,7 @@ use Rattle.gt_commands.specs.Prelude.{Format, Plain, Json, Invocation, Mode, Pla
 use Rattle.gt_commands.specs.Prelude.{Entries}
 use Rattle.gt_commands.specs.Rules.{command_app}
 use Rattle.gt_commands.specs.Usage.{Usage, Given, Line, gives, asks_help, wrong, Word, mark, long, short, plain}
-use Rattle.gt_commands.specs.Usage.{word_of, line, is_true, value_of}
+use Rattle.gt_commands.specs.Usage.{usage_word, line, is_true, value_of}
 use Rattle.gt_commands.specs.declared.invocation.Invocation.TheVariants as plans
 
 -- ---- the commands
@@ -111,13 +111,13 @@ version_of (Some word) = if bytes_eq word (codes "1") then Some 1
     else (if bytes_eq word (codes "2") then Some 2 else None)
 
 -- the number of a domain, below 65,536, as `parse` of an unsigned number of Rust reads it (own)
-abbrev pub domain_of : Text → Option ℕ
-domain_of word = if is_unsigned_in 0 65535 word then Some (digits_value 10 (without_leading_plus word)) else None
+abbrev pub domain_number : Text → Option ℕ
+domain_number word = if is_unsigned_in 0 65535 word then Some (digits_value 10 (without_leading_plus word)) else None
 
 -- `--script DOM`, where it is given (own)
 abbrev pub script_of : Option Text → Option (Option ℕ)
 script_of None = Some None
-script_of (Some word) = option_map (λ n. Some n) (domain_of word)
+script_of (Some word) = option_map (λ n. Some n) (domain_number word)
 
 abbrev pub play_with : Option Format → Bool → Option Text → Request
 play_with None audit file = nothing
@@ -181,14 +181,14 @@ asked_of_none plain = nothing
 abbrev pub mode_of : Text → Option Mode
 mode_of word = find (λ mode. bytes_eq (command_name mode) word) every_mode
 
-abbrev pub asked_by : Option Mode → Text → List Text → Request
-asked_by (Some mode) word rest = asked_of mode (line (usage_of mode) rest)
-asked_by None word rest = asked_of_none (word_of word)
+abbrev pub request_by : Option Mode → Text → List Text → Request
+request_by (Some mode) word rest = asked_of mode (line (usage_of mode) rest)
+request_by None word rest = asked_of_none (usage_word word)
 
 -- what the words after the program's name ask for (own)
-abbrev pub asked : List Text → Request
-asked [] = nothing
-asked (word ∷ rest) = asked_by (mode_of word) word rest
+abbrev pub request_in_words : List Text → Request
+request_in_words [] = nothing
+request_in_words (word ∷ rest) = request_by (mode_of word) word rest
 
 -- ---- what is answered
 
@@ -218,8 +218,8 @@ asked_by_some None = nothing
 asked_by_some (Some p) = asked_by_plan p
 
 -- the plan asks for that, or the error fits it; a line that asks for a command is refused only where memory is (own)
-abbrev pub IsAnswerTo : Request → Result Invocation Error → Type 0
-IsAnswerTo request r = MatchResult r (λ p. asked_by_plan p ≡ request) (HasKind (refusals request))
+abbrev pub IsInvocationOf : Request → Result Invocation Error → Type 0
+IsInvocationOf request r = MatchResult r (λ p. asked_by_plan p ≡ request) (HasKind (refusals request))
 
 -- what the command of a name asks for by the rows of its matches (own)
 abbrev pub asked_with : Option Mode → (Text → Option Text) → Request

@@ -56,13 +56,13 @@ short_flags (Some letter) = short letter
 short_flags None = plain
 
 -- a word, by the long flag or the short flags that the parser takes it for (own)
-abbrev pub word_with : Option (Text × Option Text) → Option Text → Word
-word_with (Some (name, value)) _ = long name value
-word_with None (Some flags) = short_flags (slice_get (chars flags) 0)
-word_with None None = plain
+abbrev pub usage_word_with : Option (Text × Option Text) → Option Text → Word
+usage_word_with (Some (name, value)) _ = long name value
+usage_word_with None (Some flags) = short_flags (slice_get (chars flags) 0)
+usage_word_with None None = plain
 
-abbrev pub word_of : Text → Word
-word_of word = if bytes_eq word (codes "--") then mark else word_with (long_of word) (short_of word)
+abbrev pub usage_word : Text → Word
+usage_word word = if bytes_eq word (codes "--") then mark else usage_word_with (long_of word) (short_of word)
 
 -- what comes next, by what was given and the words that can still come
 abbrev pub Next : Type 0
@@ -79,12 +79,12 @@ by_word [] word given next = wrong
 by_word (name ∷ left) word given next = once name word given left next
 
 -- the end of a line (own)
-abbrev pub ended : Usage → Given → Line
-ended u given = if lacks u given then wrong else gives given
+abbrev pub line_ended : Usage → Given → Line
+line_ended u given = if lacks u given then wrong else gives given
 
 -- after the mark each word is a plain one (own)
 abbrev pub line_after_mark : Usage → List Text → Given → List Text → Line
-line_after_mark u [] given left = ended u given
+line_after_mark u [] given left = line_ended u given
 line_after_mark u (word ∷ rest) given left = by_word left word given (line_after_mark u rest)
 
 -- a flag has no value, and an option has the one that is attached or the word after it; `waiting` goes on with the
@@ -113,13 +113,14 @@ by_value (short letter) name word given left next = wrong
 by_value plain name word given left next = once name word given left next
 
 -- what the words of a command come to, with the option that waits for its value (own)
-abbrev pub line_of : Usage → List Text → Option Text → Given → List Text → Line
-line_of u [] None given left = ended u given
-line_of u [] (Some name) given left = wrong
-line_of u (word ∷ rest) None given left =
-    by_kind u (word_of word) word given left (line_after_mark u rest) (line_of u rest)
-line_of u (word ∷ rest) (Some name) given left = by_value (word_of word) name word given left (line_of u rest None)
+abbrev pub usage_line_of : Usage → List Text → Option Text → Given → List Text → Line
+usage_line_of u [] None given left = line_ended u given
+usage_line_of u [] (Some name) given left = wrong
+usage_line_of u (word ∷ rest) None given left =
+    by_kind u (usage_word word) word given left (line_after_mark u rest) (usage_line_of u rest)
+usage_line_of u (word ∷ rest) (Some name) given left =
+    by_value (usage_word word) name word given left (usage_line_of u rest None)
 
 -- what the words behind a command's name come to (own)
 abbrev pub line : Usage → List Text → Line
-line u words = line_of u words None [] u.words
+line u words = usage_line_of u words None [] u.words

@@ -4,8 +4,9 @@ ghost use Rattle.std.specs.Option.{option_map};
 ghost use Rattle.clap.specs.Words.{subcommand_of, rows_of, found_of, first_of, kind_of};
 ghost use Rattle.clap.specs.declared.error.kind.ErrorKind.TheVariants.{InvalidValue, OutOfMemory};
 ghost use Rattle.gt_commands.specs.Usage.{is_true};
-ghost use Rattle.gt_commands.specs.Commands.{asked, asked_by_some, asked_named, check_with, entries_with, list_with};
-ghost use Rattle.gt_commands.specs.Commands.{IsAnswerTo, IsPlanOf, gthost_app, mode_of, play_with, read, run_with};
+ghost use Rattle.gt_commands.specs.Commands.{request_in_words, asked_by_some, asked_named, check_with, entries_with};
+ghost use Rattle.gt_commands.specs.Commands.{list_with};
+ghost use Rattle.gt_commands.specs.Commands.{IsInvocationOf, IsPlanOf, gthost_app, mode_of, play_with, read, run_with};
 ghost use Rattle.gt_commands.specs.Commands.{why_with};
 
 use crate::invocation::{Format, Invocation, Mode};
@@ -221,7 +222,7 @@ fn value_message(name: &str) -> &'static str {
 // What the command of a name asks for, or the error for a value that it does not take.
 #[tactic(auto, using(crate::proofs::Planned::planned_some, crate::proofs::Planned::planned_none))]
 fn planned<'a>(alloc: Global, name: &str, matches: &ArgMatches<'a>) -> Result<Invocation<'a>, Error>
-    ensures { IsAnswerTo (asked_named name.now (rows_of (found_of matches.now))) result }
+    ensures { IsInvocationOf (asked_named name.now (rows_of (found_of matches.now))) result }
 {
     match named(name, matches) {
         Some(invocation) => Ok(invocation),
@@ -235,7 +236,7 @@ fn planned<'a>(alloc: Global, name: &str, matches: &ArgMatches<'a>) -> Result<In
 /// What the words of a command line, the program's name first, ask for. A line that asks for a command is refused only
 /// if memory is refused. Any other error prints as the help that was asked for, or as the text for standard error.
 pub fn plan<'a>(alloc: Global, words: &'a [String]) -> Result<Invocation<'a>, Error>
-    ensures answers { IsAnswerTo (asked (drop 1 (map string_bytes words.entry.now))) result }
+    ensures answers { IsInvocationOf (request_in_words (drop 1 (map string_bytes words.entry.now))) result }
     ensures matches { IfOk result (λ p. IsPlanOf p (subcommand_of gthost_app (map string_bytes words.entry.now))) }
 {
     let command = gthost_command(alloc)?;

@@ -1,7 +1,7 @@
 //! The values of options.
 ghost use Rattle.std.specs.Prelude.{◌≡◌};
 ghost use Rattle.std.specs.Option.{option_map};
-ghost use Rattle.gt_commands.specs.Commands.{format_of, domain_of, script_of, type_of, version_of};
+ghost use Rattle.gt_commands.specs.Commands.{format_of, domain_number, script_of, type_of, version_of};
 
 use crate::invocation::Format;
 
@@ -37,7 +37,7 @@ pub(crate) fn version_of(value: Option<&str>) -> Option<u8>
 
 // The number of a domain.
 fn domain_of(word: &str) -> Option<u16>
-    ensures { result ≡ domain_of word.now }
+    ensures { result ≡ domain_number word.now }
 {
     match word.parse() {
         Ok(number) => Some(number),

@@ -3,7 +3,8 @@ use Rattle.gt_core.proofs.Words.{◌≡◌, ◌+◌, ℕ, refl, Bool, true, List
 use Rattle.gt_core.proofs.Words.{cond, sym, ap, ◌∙◌, false≢true, DomId, Dir, Read, Write, ForCopy, Entry, Page, Sub}
 use Rattle.gt_core.proofs.Words.{Via, permits, Asked, CopyArgs, Held, Route, Direct, Through, Aim, Mapping, Source}
 use Rattle.gt_core.proofs.Words.{Dest, Leg, last_first, pins_so_far, held_by, CallerKnowledge, is_source_granted}
-use Rattle.gt_core.proofs.Words.{is_dest_granted, source_pair, dest_pair, IsFor, IsToward, IsReached, IsOnFrom, LeadsTo}
+use Rattle.gt_core.proofs.Words.{is_dest_granted, source_pair, dest_pair, IsLegFor, IsToward, IsReached, IsOnFrom}
+use Rattle.gt_core.proofs.Words.{GivesHeld}
 use Rattle.gt_core.proofs.Words.{History, Setting, known_at, legs_at, LegNow, numbered, begun_route, leg_now, copy_now}
 use Rattle.gt_core.proofs.Words.{toward_source, from_source, after_source, source_now, dest_now, second_now}
 use Rattle.gt_core.proofs.{Legs.IsLegOf}
@@ -27,7 +28,7 @@ from-via : (k : CallerKnowledge) (d : DomId) (c : CopyArgs) (p : Held) (e : Entr
 from-via k d c p (Via dom ro dom2 gref) l is = on-from k (source_now k d c) (Via dom ro dom2 gref) l is
 from-via k d c p e l is = absurd is
 
-past-via : (k : CallerKnowledge) (d : DomId) (c : CopyArgs) (p q : Held) (e : Entry) (more : List Held) → LeadsTo e q → from_source k d c p e (q ∷ more) ≡ after_source k d c (Through p q) more
+past-via : (k : CallerKnowledge) (d : DomId) (c : CopyArgs) (p q : Held) (e : Entry) (more : List Held) → GivesHeld e q → from_source k d c p e (q ∷ more) ≡ after_source k d c (Through p q) more
 past-via k d c p q (Via dom ro dom2 gref) more leads = refl
 past-via k d c p q e more leads = absurd leads
 
@@ -70,7 +71,7 @@ first-dest (Direct p) None = refl
 first-dest (Through v p) None = refl
 first-dest source via = refl
 
-walks : (k : CallerKnowledge) (d : DomId) (r : Asked) (aim : Aim) (l : Leg) → IsFor k d r aim l → leg_now k d r (reverse (last_first (pins_so_far aim))) ≡ Some (record { leg = l; pair = pair_of d aim })
+walks : (k : CallerKnowledge) (d : DomId) (r : Asked) (aim : Aim) (l : Leg) → IsLegFor k d r aim l → leg_now k d r (reverse (last_first (pins_so_far aim))) ≡ Some (record { leg = l; pair = pair_of d aim })
 walks k d r Mapping l is =
     ap (λ (z : Asked). leg_now k d z []) is.of_map ∙ ap (λ (x : Leg). Some (record { leg = x; pair = pair_of d Mapping })) (sym is.leg_is)
 walks k d r (Source c via) l is =
@@ -81,7 +82,7 @@ walks k d r (Dest c source via) l is =
     ∙ ap (copy_now k d c) (first-dest source via) ∙ reached-source k d c source (held_by (begun_route via)) is.1 ∙ toward-dest k d c source via l is.2
 
 -- the leg of a call is the one that its steps so far tell
-pub leg-here : (s : Setting) (h : History) (d : DomId) (r : Asked) (aim : Aim) (l : Leg) → IsFor (known_at s h d) d r aim l → legs_at h d.0 ≡ numbered 0 (reverse (last_first (pins_so_far aim)))
+pub leg-here : (s : Setting) (h : History) (d : DomId) (r : Asked) (aim : Aim) (l : Leg) → IsLegFor (known_at s h d) d r aim l → legs_at h d.0 ≡ numbered 0 (reverse (last_first (pins_so_far aim)))
     → IsLegOf s h d r l (pair_of d aim)
 leg-here s h d r aim l is held =
     ap (λ (ps : List (ℕ × Held)). leg_now (known_at s h d) d r (map (λ (p : ℕ × Held). p.1) ps)) held

@@ -1,13 +1,16 @@
 -- What a history leaves is the same without keys.
 use Rattle.gt_core.proofs.Words.{◌≡◌, ◌+◌, ◌⊎◌, inl, inr, ℕ, refl, Bool, true, false, List, [], ◌∷◌, ◌++◌, map, Option}
 use Rattle.gt_core.proofs.Words.{Some, None, cond, sym, ap, ◌∙◌, ◌==◌, option_map, fun_ext, DomId, Entry, Header}
-use Rattle.gt_core.proofs.Words.{Change, Half, asked, given_by, Request, Asked, Unmap, Load, Store, ByMapping, Seen}
+use Rattle.gt_core.proofs.Words.{Change, Half, asked, bytes_given_by, Request, Asked, Unmap, Load, Store, ByMapping}
+use Rattle.gt_core.proofs.Words.{Seen}
 use Rattle.gt_core.proofs.Words.{Step, Unpin, Answer, Happened, Began, Stepped, Item, Patch, written, History, Setting}
-use Rattle.gt_core.proofs.Words.{Underway, Writing, entry_at, entry_after, change_at, change_of, raises_at, raise_after}
+use Rattle.gt_core.proofs.Words.{Underway, WriteMade, entry_at, changed_entry_of, change_at, change_of, raises_at}
+use Rattle.gt_core.proofs.Words.{raise_after}
 use Rattle.gt_core.proofs.Words.{body_at, or_else, stored_at, table_at, header_or, header_stored, open_call}
 use Rattle.gt_core.proofs.Words.{underway_with, underway_after, maps_answered_at, one_if_mapped, contents_at}
 use Rattle.gt_core.proofs.Words.{patches_by, patches_at, written_by, given_in, values, bare_handle, bare_request}
-use Rattle.gt_core.proofs.Words.{bare_step, bare_happened, told, told_item, told_items, ToldItem, SameHistory, Held}
+use Rattle.gt_core.proofs.Words.{bare_step, bare_happened, told_part, told_item, told_items, ToldItem, SameHistory}
+use Rattle.gt_core.proofs.Words.{Held}
 use Rattle.gt_core.proofs.Words.{Handle, arith}
 use Rattle.gt_core.specs.declared.trace.Answer.TheVariants.{Done}
 
@@ -44,7 +47,7 @@ happened-bare : {A : Type 0} (f : Happened → A) → ((p : Held) (a b : Handle)
     → (x : Happened) → f (bare_happened x) ≡ f x
 happened-bare f steps begins x = grind arith
 
-pub mapped-bare : (a : Option Answer) → one_if_mapped (option_map answer_from (option_map told a)) ≡ one_if_mapped a
+pub mapped-bare : (a : Option Answer) → one_if_mapped (option_map answer_from (option_map told_part a)) ≡ one_if_mapped a
 mapped-bare a = grind arith
 
 -- calls
@@ -66,7 +69,7 @@ bare_call c = record { request = bare_asked c.request; given = c.given; steps = 
 pub asked-bare : (request : Request) → asked (bare_request request) ≡ bare_asked (asked request)
 asked-bare request = grind arith
 
-pub given-bare : (request : Request) → given_by (bare_request request) ≡ given_by request
+pub given-bare : (request : Request) → bytes_given_by (bare_request request) ≡ bytes_given_by request
 given-bare request = grind arith
 
 steps-more : (ps qs : List (Step × Seen)) → bare_steps ps ++ bare_steps qs ≡ bare_steps (ps ++ qs)
@@ -75,7 +78,7 @@ steps-more (p ∷ ps) qs = ap (λ (l : List (Step × Seen)). (bare_step p.0, p.1
 
 with-bare : (x : Happened) (c : Option Underway) → underway_with (bare_happened x) (option_map bare_call c) ≡ option_map bare_call (underway_with x c)
 with-bare (Began request) c =
-    ap (λ (r : Asked). Some (record { request = r; given = given_by (bare_request request); steps = [] })) (asked-bare request)
+    ap (λ (r : Asked). Some (record { request = r; given = bytes_given_by (bare_request request); steps = [] })) (asked-bare request)
     ∙ ap (λ (bytes : List ℕ). Some (record { request = bare_asked (asked request); given = bytes; steps = [] })) (given-bare request)
 with-bare (Stepped step seen) None = refl
 with-bare (Stepped step seen) (Some c) =
@@ -116,7 +119,7 @@ pub bared : (h : History) → Bared h
 unfolding entry_at raises_at body_at table_at maps_answered_at open_call patches_at bare
 bared [] = record { entry = λ t r. refl; raises = λ t r. refl; body = λ t r which. refl; table = λ s t. refl; maps = λ d. refl; open_calls = λ d. refl; patches = λ t f. refl }
 bared (i ∷ h) = let b = bared h in let x = i.happened in let given = given_in (open_call h i.actor.0) in record {
-  entry = λ t r. ap (λ (c : Option Change). entry_after (cond (i.actor.0 == t) c None) (entry_at (bare h) t r)) (happened-bare (λ z. change_at z r) (λ p a b seen. refl) (λ q r. refl) x) ∙ ap (λ (e : Entry). entry_after (change_of i t r) e) (b.entry t r);
+  entry = λ t r. ap (λ (c : Option Change). changed_entry_of (cond (i.actor.0 == t) c None) (entry_at (bare h) t r)) (happened-bare (λ z. change_at z r) (λ p a b seen. refl) (λ q r. refl) x) ∙ ap (λ (e : Entry). changed_entry_of (change_of i t r) e) (b.entry t r);
   raises = λ t r. ap (λ (c : Option Change). raises_at (bare h) t r + raise_after (cond (i.actor.0 == t) c None)) (happened-bare (λ z. change_at z r) (λ p a b seen. refl) (λ q r. refl) x) ∙ ap (λ (n : ℕ). n + raise_after (change_of i t r)) (b.raises t r);
   body = λ t r which. ap (λ (o : Option ℕ). or_else (cond (i.actor.0 == t) o None) (body_at (bare h) t r which)) (happened-bare (λ z. stored_at z r which) (λ p a b seen. refl) (λ q r. refl) x)
       ∙ ap (λ (n : ℕ). or_else (cond (i.actor.0 == t) (stored_at x r which) None) n) (b.body t r which);
@@ -124,7 +127,7 @@ bared (i ∷ h) = let b = bared h in let x = i.happened in let given = given_in 
   maps = λ d. ap (λ (n : ℕ). cond (i.actor.0 == d) n 0 + maps_answered_at (bare h) d) (mapped-bare i.answer) ∙ ap (λ (n : ℕ). cond (i.actor.0 == d) (one_if_mapped i.answer) 0 + n) (b.maps d);
   open_calls = λ d. cond-map (option_map bare_call) (i.actor.0 == d) (underway_after (item_from (told_item i)) (open_call (bare h) d)) (open_call (bare h) d) (underway_after i (open_call h d)) (open_call h d)
       (ap (underway_after (item_from (told_item i))) (b.open_calls d) ∙ after-bare i (open_call h d)) (b.open_calls d);
-  patches = λ t f. ap (λ (w : Option Writing). patches_at (bare h) t f ++ patches_by w t f)
+  patches = λ t f. ap (λ (w : Option WriteMade). patches_at (bare h) t f ++ patches_by w t f)
       (happened-bare (λ z. written_by z (given_in (open_call (bare h) i.actor.0)) (λ u g. written (patches_at (bare h) u g))) (λ p a b seen. refl) (λ q r. refl) x
       ∙ ap (λ (bytes : List ℕ). written_by x bytes (λ u g. written (patches_at (bare h) u g))) (ap given_in (b.open_calls i.actor.0) ∙ given-in-bare (open_call h i.actor.0))
       ∙ ap (λ (k : ℕ → ℕ → List ℕ). written_by x given k) (fun_ext (λ u. fun_ext (λ g. ap written (b.patches u g)))))

@@ -3,14 +3,17 @@ use Rattle.gt_core.proofs.Words.{arith, ◌≤◌, ◌≡◌, ◌≢◌, ◌<◌
 use Rattle.gt_core.proofs.Words.{Option, Some, None, sym, ap, ◌∙◌, subst, get_or, set, reverse, eqb-true}
 use Rattle.gt_core.proofs.Words.{slice_get_read, position-Some, ◌==◌, is_some, position, slice_get, domain_of, DomId}
 use Rattle.gt_core.proofs.Words.{Header, Held, Request, Asked, Seen, Verdict, Makes, Done, Call, Phase, asked, begun_of}
-use Rattle.gt_core.proofs.Words.{given_by, CallerKnowledge, first, begun, knowledge_of, action_at, StandsAt, held_in}
-use Rattle.gt_core.proofs.Words.{pins_at, GoesOn, Goes, Starts, Nothing, Step, Action, Rests, Pins, most_steps}
-use Rattle.gt_core.proofs.Words.{steps_left, Item, Began, Answer, Open, State, state_of, kept_by, with_call, History}
+use Rattle.gt_core.proofs.Words.{bytes_given_by, CallerKnowledge, first, begun, knowledge_of, action_at, StandsAt}
+use Rattle.gt_core.proofs.Words.{held_in}
+use Rattle.gt_core.proofs.Words.{pins_at, GoesOnWith, Goes, Starts, Nothing, Step, Action, Rests, Pins, most_steps}
+use Rattle.gt_core.proofs.Words.{steps_left, Item, Began, Answer, Open, State, state_of, kept_by, with_open_call}
+use Rattle.gt_core.proofs.Words.{History}
 use Rattle.gt_core.proofs.Words.{Setting, table_at, known_at, Underway, open_call, legs_at, one_if_mapped, stood}
 use Rattle.gt_core.proofs.Words.{AnsweredBy, GivesValue, refusal_in, refusal_of, IsRight, IsClean, phase_refusal}
-use Rattle.gt_core.proofs.Words.{FitsAsked, PhaseStands, OpenAgrees, CallAgrees, FitsGiven, GivenAgrees, Agrees}
-use Rattle.gt_core.proofs.Words.{StateAgrees, DomainsStand, Opens, numbered, misses, ◌^◌, IsSaid, first_phase, IsAt}
-use Rattle.gt_core.proofs.Words.{pins_by_call, steps_to_come, asks_memory, WantsMemory, IsOpened, answer_of, cond_both}
+use Rattle.gt_core.proofs.Words.{FitsAsked, PhaseStands, OpenAgrees, CallAgrees, FitsGiven, GivenAgrees, StateStands}
+use Rattle.gt_core.proofs.Words.{StateAgrees, DomainsStand, OpensAs, numbered, misses, ◌^◌, IsSaid, first_phase, IsAt}
+use Rattle.gt_core.proofs.Words.{pins_by_call, steps_to_come, asks_memory, WantsMemory, IsOpenCall, answer_of}
+use Rattle.gt_core.proofs.Words.{cond_both}
 use Rattle.gt_core.proofs.Words.{StartOpen, OpeningOpen}
 use Rattle.gt_core.{specs.Standing.IsMapping, proofs.Keeping.KeepsEntries, proofs.Keeping.known-same}
 use Rattle.gt_core.{proofs.Keeping.open_call-own, proofs.Keeping.stood-own, proofs.Keeping.given-none}
@@ -50,16 +53,16 @@ clean-nothing : (p : Phase) → IsClean p []
 clean-nothing p = grind arith
 
 -- a call keeps the bytes that are given to it
-kept-given : (request : Request) → kept_by (asked request) (given_by request) ≡ given_by request
+kept-given : (request : Request) → kept_by (asked request) (bytes_given_by request) ≡ bytes_given_by request
 kept-given request = grind arith
 
 -- where nothing stands against it, they end inside a frame
-given-fits : (k : CallerKnowledge) (d : DomId) (request : Request) → begun_of k d request ≡ None → FitsGiven (asked request) (given_by request)
+given-fits : (k : CallerKnowledge) (d : DomId) (request : Request) → begun_of k d request ≡ None → FitsGiven (asked request) (bytes_given_by request)
 given-fits k d request e = grind arith
 
 -- a call that was just begun has the bytes of its request
 given-begins : (i : Item) (h : History) (d : DomId) (request : Request) (given : List ℕ)
-    → open_call (i ∷ h) d.0 ≡ Some (record { request = asked request; given = given_by request; steps = [] }) → given ≡ given_by request → FitsGiven (asked request) (given_by request)
+    → open_call (i ∷ h) d.0 ≡ Some (record { request = asked request; given = bytes_given_by request; steps = [] }) → given ≡ bytes_given_by request → FitsGiven (asked request) (bytes_given_by request)
     → GivenAgrees (i ∷ h) d.0 given
 given-begins i h d request given now same fits = grind arith
 
@@ -73,11 +76,11 @@ to-come call p e = ap (λ (o : Option Phase). steps_to_come (record call { phase
 pub pins-there : (call : Call) (p : Phase) → call.phase ≡ Some p → pins_by_call call ≡ pins_at p
 pins-there call p e = ap (λ (o : Option Phase). pins_by_call (record call { phase = o })) e
 
-begin-opens : (s : Setting) (h : History) (d : State) (request : Request) (o : Open) → FitsAsked o.call.request → Agrees s h d → d.underway ≡ None
-    → IsOpened (knowledge_of s.domains s.first_generation s.may d.own d.header d.mappings) d.id request o
+begin-opens : (s : Setting) (h : History) (d : State) (request : Request) (o : Open) → FitsAsked o.call.request → StateStands s h d → d.underway ≡ None
+    → IsOpenCall (knowledge_of s.domains s.first_generation s.may d.own d.header d.mappings) d.id request o
     → IsRight s h (began d.id request None)
     × CallAgrees s (began d.id request None ∷ h) d.id (Some o) (open_call (began d.id request None ∷ h) d.id.0)
-    × GivenAgrees (began d.id request None ∷ h) d.id.0 (kept_by o.call.request (given_by request))
+    × GivenAgrees (began d.id request None ∷ h) d.id.0 (kept_by o.call.request (bytes_given_by request))
 begin-opens s h d request o fits a closed op = let i = began d.id request None in
     let keeps = began-keeps d.id request None refl in let r = asked request in let was = known-same s h d a in
     let still = was ∙ sym (kept-known s i h d.id keeps refl) in let k = known_at s (i ∷ h) d.id in
@@ -89,14 +92,14 @@ begin-opens s h d request o fits a closed op = let i = began d.id request None i
     let here : o.call.phase ≡ Some (first_phase k d.id r) = op.phase ∙ ap (λ (k : CallerKnowledge). Some (first_phase k d.id r)) still in
     let stands : StandsAt k o.call.caller o.call.request [] (first_phase k d.id r) = is-at k o.call [] (first_phase k d.id r) here (subst (λ (k : CallerKnowledge). IsAt k o.call []) still op.at) in
     let few : steps_left (first_phase k d.id r) ≤ most_steps r = subst (λ (n : ℕ). n ≤ most_steps r) (to-come o.call (first_phase k d.id r) here) op.few in
-    let agrees : OpenAgrees s (i ∷ h) d.id o (record { request = r; given = given_by request; steps = [] }) = record {
+    let agrees : OpenAgrees s (i ∷ h) d.id o (record { request = r; given = bytes_given_by request; steps = [] }) = record {
       caller = op.caller;
       asks = op.asks;
       phase = first_phase k d.id r;
       here = here;
       at = subst (λ (z : DomId). StandsAt k z r [] (first_phase k d.id r)) op.caller (subst (λ (z : Asked). StandsAt k o.call.caller z [] (first_phase k d.id r)) op.asks stands);
       acts = ap (λ (k : CallerKnowledge). action_at d.id (first_phase k d.id r)) (sym still) ∙ op.acts;
-      follows = subst (λ (k : CallerKnowledge). GoesOn k d.id r [] (Makes o.step)) still op.follows;
+      follows = subst (λ (k : CallerKnowledge). GoesOnWith k d.id r [] (Makes o.step)) still op.follows;
       rests = subst (λ (z : Pins). Rests k d.id r z [] (Makes o.step)) (pins-there o.call (first_phase k d.id r) here) (subst (λ (k : CallerKnowledge). Rests k d.id r (pins_by_call o.call) [] (Makes o.step)) still op.rests);
       place = first-place s (i ∷ h) d.id r none;
       fair = fair ∙ sym (first-fine k d.id r none).1;
@@ -107,7 +110,7 @@ begin-opens s h d request o fits a closed op = let i = began d.id request None i
     } in (
       (empty.0, subst (λ (v : Option Verdict). AnsweredBy s h d.id r None false v None (stood s (i ∷ h) d.id.0)) (sym unanswered) (inl fair), λ e. said),
       subst (λ (c : Option Underway). CallAgrees s (i ∷ h) d.id (Some o) c) (sym (open_call-own i h)) agrees,
-      given-begins i h d.id request (kept_by o.call.request (given_by request)) (open_call-own i h) (ap (λ (z : Asked). kept_by z (given_by request)) op.asks ∙ kept-given request) (given-fits (known_at s h d.id) d.id request unanswered),
+      given-begins i h d.id request (kept_by o.call.request (bytes_given_by request)) (open_call-own i h) (ap (λ (z : Asked). kept_by z (bytes_given_by request)) op.asks ∙ kept-given request) (given-fits (known_at s h d.id) d.id request unanswered),
     )
 
 -- a call that is answered at once
@@ -134,7 +137,7 @@ value-fits s h k d (requests.Revoke gref) same = grind arith
 value-fits s h k d (requests.Withdraw gref) same = grind arith
 value-fits s h k d request same = grind arith
 
-begin-done : (s : Setting) (h : History) (d : State) (request : Request) (v : Verdict) → Agrees s h d → d.underway ≡ None
+begin-done : (s : Setting) (h : History) (d : State) (request : Request) (v : Verdict) → StateStands s h d → d.underway ≡ None
     → begun_of (knowledge_of s.domains s.first_generation s.may d.own d.header d.mappings) d.id request ≡ Some v
     → IsRight s h (began d.id request (Some (answer_of v)))
     × CallAgrees s (began d.id request (Some (answer_of v)) ∷ h) d.id d.underway (open_call (began d.id request (Some (answer_of v)) ∷ h) d.id.0)
@@ -162,7 +165,7 @@ pub begin-nowhere : (s : Setting) (h : History) (domains : List State) (dom : Do
 begin-nowhere s h domains dom p st = subst (λ (o : Option State). StateAgrees s h dom o) (not-found domains dom.0 p) (st.each dom)
 
 pub agrees-found : (s : Setting) (h : History) (domains : List State) (dom : DomId) (at : ℕ) (x : State) → position (has_id dom.0) domains ≡ Some at → x ≡ get_or domains at x
-    → DomainsStand s h domains → (domain_of s.domains dom ≢ None) × (x.id ≡ dom) × Agrees s h x
+    → DomainsStand s h domains → (domain_of s.domains dom ≢ None) × (x.id ≡ dom) × StateStands s h x
 agrees-found s h domains dom at x p here st =
     subst (λ (o : Option State). StateAgrees s h dom o) (found domains dom.0 at x p ∙ ap (λ (y : State). Some y) (sym here)) (st.each dom)
 
@@ -190,19 +193,19 @@ begin-answers s h domains dom at x request v y e p here idle op st = let a = agr
 
 pub begin-opened : (s : Setting) (h : History) (domains : List State) (dom : DomId) (at : ℕ) (x : State) (request : Request) (o : Open)
     → FitsAsked o.call.request → position (has_id dom.0) domains ≡ Some at → x ≡ get_or domains at x → is_some x.underway ≡ false
-    → Opens (knowledge_of s.domains s.first_generation s.may x.own x.header x.mappings) dom request (OpeningOpen o) → DomainsStand s h domains
-    → (domain_of s.domains dom ≢ None) × IsRight s h (began dom request None) × DomainsStand s (began dom request None ∷ h) (set domains at (with_call o (kept_by o.call.request (given_by request)) x))
+    → OpensAs (knowledge_of s.domains s.first_generation s.may x.own x.header x.mappings) dom request (OpeningOpen o) → DomainsStand s h domains
+    → (domain_of s.domains dom ≢ None) × IsRight s h (began dom request None) × DomainsStand s (began dom request None ∷ h) (set domains at (with_open_call o (kept_by o.call.request (bytes_given_by request)) x))
 begin-opened s h domains dom at x request o fits p here idle op st =
     let a = agrees-found s h domains dom at x p here st in
     let f = found domains dom.0 at x p ∙ ap (λ (y : State). Some y) (sym here) in
     let places = position-Some (has_id dom.0) domains at x p in
-    let both = subst (λ (d : DomId). Opens (knowledge_of s.domains s.first_generation s.may x.own x.header x.mappings) d request (OpeningOpen o) → state_of domains d.0 ≡ Some x
+    let both = subst (λ (d : DomId). OpensAs (knowledge_of s.domains s.first_generation s.may x.own x.header x.mappings) d request (OpeningOpen o) → state_of domains d.0 ≡ Some x
     → ((k : ℕ) → k < at → has_id d.0 (get_or domains k x) ≡ false)
-    → IsRight s h (began d request None) × DomainsStand s (began d request None ∷ h) (set domains at (with_call o (kept_by o.call.request (given_by request)) x))) a.1
+    → IsRight s h (began d request None) × DomainsStand s (began d request None ∷ h) (set domains at (with_open_call o (kept_by o.call.request (bytes_given_by request)) x))) a.1
     (λ op g apart. let b = begin-opens s h x request o fits a.2 (closed-from x.underway idle) op in (
       b.0,
-      quiet-stands s (began x.id request None) h domains (set domains at (with_call o (kept_by o.call.request (given_by request)) x)) x (Some o) (kept_by o.call.request (given_by request)) (began-entries x.id request None) (began-keeps x.id request None refl)
-          refl st g a.2 (λ q. state_of-set domains at x (with_call o (kept_by o.call.request (given_by request)) x) q places.0 (sym here) refl apart) b.1 b.2,
+      quiet-stands s (began x.id request None) h domains (set domains at (with_open_call o (kept_by o.call.request (bytes_given_by request)) x)) x (Some o) (kept_by o.call.request (bytes_given_by request)) (began-entries x.id request None) (began-keeps x.id request None refl)
+          refl st g a.2 (λ q. state_of-set domains at x (with_open_call o (kept_by o.call.request (bytes_given_by request)) x) q places.0 (sym here) refl apart) b.1 b.2,
     )) op f (λ k below. places.2 k below) in (a.0, both.0, both.1)
 
 pub place-at : (domains : List State) (d at : ℕ) (x : State) → position (has_id d) domains ≡ Some at → x ≡ get_or domains at x → slice_get domains at ≡ Some x
@@ -217,7 +220,7 @@ tick-idle s h domains dom at x p here closed st = let a = agrees-found s h domai
 -- a beginning for which memory is wanted
 pub begin-wants : (s : Setting) (h : History) (domains : List State) (dom : DomId) (at : ℕ) (x : State) (request : Request) (o : Open)
     → asks_memory o.call.request ≡ true → position (has_id dom.0) domains ≡ Some at → x ≡ get_or domains at x → is_some x.underway ≡ false
-    → Opens (knowledge_of s.domains s.first_generation s.may x.own x.header x.mappings) dom request (OpeningOpen o) → DomainsStand s h domains → WantsMemory s h dom request
+    → OpensAs (knowledge_of s.domains s.first_generation s.may x.own x.header x.mappings) dom request (OpeningOpen o) → DomainsStand s h domains → WantsMemory s h dom request
 begin-wants s h domains dom at x request o asks p here idle op st =
     let a = agrees-found s h domains dom at x p here st in (
       ap asks_memory (sym op.asks) ∙ asks,
@@ -232,7 +235,7 @@ serial-left k d request r same none m = grind arith
 
 -- a call that starts, and makes its first step, is opened
 pub opened : (k : CallerKnowledge) (dom : DomId) (request : Request) (first new : Call) (action : Action) (step : Step) → Starts k dom request (StartOpen first) → Goes k first Nothing new action → action ≡ Makes step → new.caller ≡ first.caller → new.request ≡ first.request
-    → IsOpened k dom request (record { call = new; step = step })
+    → IsOpenCall k dom request (record { call = new; step = step })
 opened k dom request first new action step starts goes is by asked_as = grind arith
 
 -- it makes a step

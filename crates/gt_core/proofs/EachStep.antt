@@ -4,7 +4,7 @@ use Rattle.gt_core.proofs.Words.{subst, ◌==◌, domain_of, DomId, GrantRef, Ch
 use Rattle.gt_core.proofs.Words.{Step, Exchange, Seen, Taken, Missed, Makes, Aim, Mapping, Source, Dest, Phase, Storing}
 use Rattle.gt_core.proofs.Words.{StoringSecond, Exchanging, Looking, Changing, Walking, Accessing, Asking, Last, Ending}
 use Rattle.gt_core.proofs.Words.{Leg, LegPhase, Pinning, LegNext, Going, LegRefused, Pinned, last_first, pins_so_far}
-use Rattle.gt_core.proofs.Words.{CallerKnowledge, begun, path, is_stopped, IsFor, phase_after, action_at, after_leg}
+use Rattle.gt_core.proofs.Words.{CallerKnowledge, begun, path, is_stopped, IsLegFor, phase_after, action_at, after_leg}
 use Rattle.gt_core.proofs.Words.{leg_after, leg_step, HasShown, State, History, Setting, word_at, known_at, seen_by}
 use Rattle.gt_core.proofs.Words.{StepsSoFar, PhaseStands, cond_both, Denial, legs_at, numbered, pins_at, reverse}
 use Rattle.gt_core.proofs.Words.{refusal_in, IsClean, LeavesAll, first_at, is_demote, LegStands, Bool, true, eqb-true}
@@ -19,7 +19,7 @@ use Rattle.gt_core.proofs.{Phases.Placed, Steps.Unpin.give-placed, Steps.Pin.mis
 use Rattle.gt_core.proofs.{Steps.Store.IsStore, Steps.Pin.taken-leads, Steps.Look.look-placed}
 
 -- the pins of a walk that ends are a copy's, or none
-walk-over : (k : CallerKnowledge) (d : DomId) (r : Asked) (aim : Aim) (l : Leg) → IsFor k d r aim l → (last_first (pins_so_far aim) ≡ []) ⊎ ((copy : CopyArgs) × (r ≡ Copy copy) × Unit {0})
+walk-over : (k : CallerKnowledge) (d : DomId) (r : Asked) (aim : Aim) (l : Leg) → IsLegFor k d r aim l → (last_first (pins_so_far aim) ≡ []) ⊎ ((copy : CopyArgs) × (r ≡ Copy copy) × Unit {0})
 walk-over k d r Mapping l is = inl refl
 walk-over k d r (Source c via) l is = inr (c, is.0, tt)
 walk-over k d r (Dest c source via) l is = inr (c, is.0, tt)
@@ -32,24 +32,24 @@ TakesNone s h d l (Pinning more word body second) = (word_at s h l.dom.0 l.gref.
 TakesNone s h d l phase = Unit {0}
 
 -- the aim is not a call for a leg: no demote walks one
-plain-leg : (k : CallerKnowledge) (d : DomId) (r : Asked) (aim : Aim) (l : Leg) → IsFor k d r aim l → is_demote r ≡ false
+plain-leg : (k : CallerKnowledge) (d : DomId) (r : Asked) (aim : Aim) (l : Leg) → IsLegFor k d r aim l → is_demote r ≡ false
 plain-leg k d r Mapping l is = ap is_demote is.of_map
 plain-leg k d r aim l is = ap is_demote is.0
 
-pub walk-comes : (s : Setting) (h : History) (d : DomId) (r : Asked) (so_far : StepsSoFar) (aim : Aim) (l : Leg) (at : LegPhase) → Words s h l → IsFor (known_at s h d) d r aim l → IsLegOf s h d r l (pair_of d aim) → LegStands s h l so_far at
+pub walk-comes : (s : Setting) (h : History) (d : DomId) (r : Asked) (so_far : StepsSoFar) (aim : Aim) (l : Leg) (at : LegPhase) → Words s h l → IsLegFor (known_at s h d) d r aim l → IsLegOf s h d r l (pair_of d aim) → LegStands s h l so_far at
     → TakesNone s h d l at → ComesTo s h l ((leg_step l at, seen_by s h d (leg_step l at)) ∷ so_far) (first_at s h d r so_far (leg_step l at)) (leg_after l at (seen_by s h d (leg_step l at)))
 walk-comes s h d r so_far aim l (Pinning more word body second) ws is leg a none = missed-comes s h l d r more word body second so_far (word_at s h l.dom.0 l.gref.0 == word) none a.0
 walk-comes s h d r so_far aim l at ws is leg a none = looks-come s h l ws d r (pair_of d aim) leg (plain-leg (known_at s h d) d r aim l is) so_far at a tt
 
 module _ (s : Setting) (h : History) (d : DomId) (r : Asked) where
-  leg-leads : (aim : Aim) (l : Leg) (now : StepsSoFar) (rule : Option Denial) (next : LegNext) → IsFor (known_at s h d) d r aim l → domain_of s.domains l.dom ≢ None → ComesTo s h l now rule next
+  leg-leads : (aim : Aim) (l : Leg) (now : StepsSoFar) (rule : Option Denial) (next : LegNext) → IsLegFor (known_at s h d) d r aim l → domain_of s.domains l.dom ≢ None → ComesTo s h l now rule next
       → Leads s h d r now rule (after_leg (known_at s h d) d aim l next)
   leg-leads aim l now rule (Going phase) is some a = (sym a.0, (some, a.1))
   leg-leads aim l now rule (LegRefused denial) is some a = (sym a, walk-over (known_at s h d) d r aim l is)
   leg-leads aim l now rule (Pinned p) is some a = absurd a
 
   -- each step of a walk
-  walk-leads : (so_far : StepsSoFar) (aim : Aim) (l : Leg) (at : LegPhase) → Words s h l → IsFor (known_at s h d) d r aim l → IsLegOf s h d r l (pair_of d aim) → begun (known_at s h d) d r ≡ None
+  walk-leads : (so_far : StepsSoFar) (aim : Aim) (l : Leg) (at : LegPhase) → Words s h l → IsLegFor (known_at s h d) d r aim l → IsLegOf s h d r l (pair_of d aim) → begun (known_at s h d) d r ≡ None
       → PhaseStands s h d r so_far (Walking aim l at) → Judged s h d r so_far (Walking aim l at) (leg_step l at) × Placed s h d r so_far (Walking aim l at) (leg_step l at)
   walk-leads so_far aim l (Pinning more word body second) ws is leg none a = by (word_at s h l.dom.0 l.gref.0 == word) refl
     where

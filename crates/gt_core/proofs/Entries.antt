@@ -3,7 +3,7 @@ use Rattle.gt_core.proofs.Words.{ℕ, Bool, List, None, Option, Some, [], ap, ar
 use Rattle.gt_core.proofs.Words.{◌∙◌, ◌∷◌, ◌≡◌, ◌≢◌, ◌≤◌, eqb-true, append-nil, sum_by-cons, count_by, ◌==◌, Dir, Read}
 use Rattle.gt_core.proofs.Words.{Write, DomId, GrantRef, Change, Publish, ToInvalid, ToWithdrawn, Half, FirstHalf}
 use Rattle.gt_core.proofs.Words.{SecondHalf, Entry, Invalid, first, Seen, Taken, Step, Exchange, PinStep, StoreBody}
-use Rattle.gt_core.proofs.Words.{Unpin, Held, Holder, History, Pin, Setting, Underway, entry_after, generation_at}
+use Rattle.gt_core.proofs.Words.{Unpin, Held, Holder, History, Pin, Setting, Underway, changed_entry_of, generation_at}
 use Rattle.gt_core.proofs.Words.{is_pin_on, reads_at, writes_at, IsRight, IsSafe, IsSafeChange, IsSpelled, LegNow}
 use Rattle.gt_core.proofs.Words.{NoneStands, StepsRightIn, leg_at, Answer, Happened, Stepped, Item, body_at, entry_at}
 use Rattle.gt_core.proofs.Words.{live, open_call, without, IsLegalHistory}
@@ -49,7 +49,7 @@ spelled-after : (s : Setting) (h : History) (d : DomId) (x : Happened) (a : Opti
 unfolding entry_at
 spelled-after s h d (Stepped (Exchange gref looked change) Taken) a t r right was = let i = exchanged d gref looked change a in let safe = of-safe s h i _ _ (open_call h d.0) right in
     spelled-stays i h t r (entry_at (i ∷ h) t r) (λ r which. unstored i h t r which refl)
-    (at-change (λ (u g : ℕ) (c : Option Change). Spells h u g (entry_after c (entry_at h u g))) d.0 gref.0 change t r (change-spells h d.0 gref.0 change safe (was d.0 gref.0)) (was t r))
+    (at-change (λ (u g : ℕ) (c : Option Change). Spells h u g (changed_entry_of c (entry_at h u g))) d.0 gref.0 change t r (change-spells h d.0 gref.0 change safe (was d.0 gref.0)) (was t r))
 spelled-after s h d (Stepped (StoreBody gref half word) seen) a t r right was = let i = stepped d (StoreBody gref half word) seen a in
     subst (Spells (i ∷ h) t r) (sym (kept-entry i h t r (λ r. refl)))
     (store-spells d gref half word seen a h t r (entry_at h t r) (of-safe s h i _ _ (open_call h d.0) right) refl (was t r))

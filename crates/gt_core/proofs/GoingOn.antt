@@ -6,7 +6,7 @@ use Rattle.gt_core.proofs.Words.{Handle, Held, HandleMap, Asked, Seen, Nothing, 
 use Rattle.gt_core.proofs.Words.{Refused, Step, PinStep, ReadBytes, Action, Makes, Done, Call, Phase, knowledge_of}
 use Rattle.gt_core.proofs.Words.{CallerKnowledge, path, action_at, Goes, Starts, Open, Item, Answer, AnswerDone, Mapped}
 use Rattle.gt_core.proofs.Words.{State, state_of, sees, History, Setting, known_at, seen_by, Underway, values}
-use Rattle.gt_core.proofs.Words.{open_call, DomainsStand, Agrees, CallAgrees, OpenAgrees, StateAgrees, applied}
+use Rattle.gt_core.proofs.Words.{open_call, DomainsStand, StateStands, CallAgrees, OpenAgrees, StateAgrees, applied}
 use Rattle.gt_core.proofs.Words.{with_underway, with_mapping, Adds, AccessedBy, FrameSet, IsRight, CoreStands}
 use Rattle.gt_core.proofs.Words.{FramesStand, core_of, Settled, Closed, answer_with, ticked_with, ticked_element, MayDo}
 use Rattle.gt_core.proofs.Words.{grown, MappingsAgree, mappings_at, maps_answered_at, begun_of, asked, IsSaid, Request}
@@ -15,10 +15,10 @@ use Rattle.gt_core.proofs.Words.{eq-eqb, CoreState, unwrap_or, nat_lt, replicate
 use Rattle.gt_core.proofs.Words.{frames_of_all, pool_number, AreKept, all_zeros, frame_counts, first_state}
 use Rattle.gt_calls.specs.Machine.{standing_after}
 use Rattle.gt_frames.specs.declared.places.FrameCount.{FrameCount}
-use Rattle.gt_calls.specs.Asking.{FitsAsked, given_by, judged_as}
+use Rattle.gt_calls.specs.Asking.{FitsAsked, bytes_given_by, judged_as}
 use Rattle.gt_calls.proofs.Advancing.{continues, opens as starts-open}
 use Rattle.gt_calls.specs.declared.call.Start.TheVariants.{Open as StartOpen}
-use Rattle.gt_core.specs.GoingOn.{AccessAnsweredSo, AnsweredSo, CallsCanBegin, IsAccess, IsOnWords, IsReached}
+use Rattle.gt_core.specs.GoingOn.{AccessAnsweredSo, AnsweredSo, CallsCanBegin, IsAccess, IsOnWords, CanBeReached}
 use Rattle.gt_core.specs.GoingOn.{MayBeGiven, OpenCallsCanAccess, OpenCallsCanGoOn, RunsStart, TellsAccess}
 use Rattle.gt_core.specs.GoingOn.{begin_answer, beginning, step_after}
 use Rattle.std.proofs.Common.{◌+◌, ◌-◌, ◌≤◌, arith, drop, length-drop, slice_range, take}
@@ -33,11 +33,11 @@ use Rattle.gt_frames.specs.declared.places.FrameName.{FrameName}
 use Rattle.gt_frames.specs.declared.writ.Writ.{Writ}
 use Rattle.gt_core.proofs.Steps.Write.{open-admitted}
 use Rattle.gt_core.proofs.Writing.{can-write}
-use Rattle.gt_core.specs.Accesses.{IsAdmitted, ground_of, name_of, route_of}
+use Rattle.gt_core.specs.Accesses.{IsAdmitted, ground_of, frame_name_at, route_of}
 use Rattle.gt_core.specs.History.{contents_at}
 use Rattle.gt_core.specs.declared.trace.Answer.TheVariants.{Bytes as BytesAnswer}
 use Rattle.gt_core.specs.declared.trace.Bytes.{Bytes}
-use Rattle.gt_core.specs.Acting.{answer_of, IsOpened}
+use Rattle.gt_core.specs.Acting.{answer_of, IsOpenCall}
 use Rattle.gt_core.specs.declared.core_state.Begun.TheVariants.{Open as BegunOpen, Done as BegunDone}
 use Rattle.gt_core.proofs.{Beginning.begin-answers, Beginning.begin-opened, Beginning.not-done, Beginning.opened}
 use Rattle.gt_core.proofs.{Keeping.known-same, Performing.kept-part, Performing.stepped-state, Playing.core-starts}
@@ -49,9 +49,9 @@ use Rattle.gt_core.proofs.Starting.{starts as domains-start}
 
 -- the state of a domain of the run
 
-there : (s : Setting) (h : History) (xs : List State) (d : DomId) → DomainsStand s h xs → domain_of s.domains d ≢ None → (x : State) × (state_of xs d.0 ≡ Some x) × (x.id ≡ d) × Agrees s h x
+there : (s : Setting) (h : History) (xs : List State) (d : DomId) → DomainsStand s h xs → domain_of s.domains d ≢ None → (x : State) × (state_of xs d.0 ≡ Some x) × (x.id ≡ d) × StateStands s h x
 there s h xs d st named = by (state_of xs d.0) refl (st.each d) where
-  by : (o : Option State) → state_of xs d.0 ≡ o → StateAgrees s h d o → (x : State) × (state_of xs d.0 ≡ Some x) × (x.id ≡ d) × Agrees s h x
+  by : (o : Option State) → state_of xs d.0 ≡ o → StateAgrees s h d o → (x : State) × (state_of xs d.0 ≡ Some x) × (x.id ≡ d) × StateStands s h x
   by None e a = absurd (named a)
   by (Some x) e a = (x, e, a.1, a.2)
 
@@ -78,7 +78,7 @@ abbrev unstarted : DomId → Request → Call
 unstarted d request = record { caller = d; request = asked request; phase = None }
 
 -- a call that no rule answers makes a first step
-opens-so : (k : CallerKnowledge) (d : DomId) (request : Request) → begun_of k d request ≡ None → IsSaid k.header request → (o : Open) × IsOpened k d request o
+opens-so : (k : CallerKnowledge) (d : DomId) (request : Request) → begun_of k d request ≡ None → IsSaid k.header request → (o : Open) × IsOpenCall k d request o
 opens-so k d request none said = let first = unstarted d request in
     let p : Phase = standing_after k d (asked request) None Nothing in
     let new : Call = record { caller = d; request = asked request; phase = Some p } in
@@ -87,7 +87,7 @@ opens-so k d request none said = let first = unstarted d request in
     by new (action_at d p) start goes refl refl refl
   where
     by : (new : Call) (action : Action) → Starts k d request (StartOpen (unstarted d request)) → Goes k (unstarted d request) Nothing new action → new.caller ≡ (unstarted d request).caller → new.request ≡ (unstarted d request).request
-        → action ≡ action → (o : Open) × IsOpened k d request o
+        → action ≡ action → (o : Open) × IsOpenCall k d request o
     by new (Makes step) start goes caller asks e = (record { call = new; step = step }, opened k d request (unstarted d request) new (Makes step) step start goes refl caller asks)
     by new (Done v) start goes caller asks e = absurd (not-done k d request (unstarted d request) new (Done v) v start goes refl)
 
@@ -103,7 +103,7 @@ calls-can-begin s h d request (core, st) named closed fits said =
     by (begun_of (known_at s h d) d request) x same p.0 p.1 p.2 rest header
   where
     by : (v : Option Verdict) (x : State) → begun_of (knowledge_of s.domains s.first_generation s.may x.own x.header x.mappings) d request ≡ v → (at : ℕ) → position (has_id d.0) core.domains ≡ Some at → x ≡ get_or core.domains at x
-        → is_some x.underway ≡ false → IsSaid x.header request → IsRight s h (beginning d request (begin_answer v)) × IsReached s (beginning d request (begin_answer v) ∷ h)
+        → is_some x.underway ≡ false → IsSaid x.header request → IsRight s h (beginning d request (begin_answer v)) × CanBeReached s (beginning d request (begin_answer v) ∷ h)
     by (Some v) x is at place here rest header = let b = begin-answers s h core.domains d at x request v (answer_of v) refl place here rest is st.domains in (
       b.1,
       (
@@ -169,7 +169,7 @@ EndsIn fs step x (Done verdict) answer = answer ≡ Some (answer_of verdict)
 
 -- what the step gives
 abbrev Gives : Setting → History → DomId → Step → Option Answer → Type 0
-Gives s h d step answer = IsRight s h (step_after s h d step answer) × IsReached s (step_after s h d step answer ∷ h)
+Gives s h d step answer = IsRight s h (step_after s h d step answer) × CanBeReached s (step_after s h d step answer ∷ h)
 
 -- where the call is after its step, and the call there
 abbrev moved : Setting → List State → State → Open → Phase
@@ -186,7 +186,7 @@ goes-then : (s : Setting) (xs : List State) (x : State) (o : Open)
 goes-then s xs x o = continues (knowledge_of s.domains s.first_generation s.may x.own x.header x.mappings) o.call.caller o.call.request o.call.phase (sees xs x.id o.step) (Some (moved s xs x o)) (action_then s xs x o) refl refl
 
 module _ (s : Setting) (h : History) (xs : List State) (fs : FrameSet) (x : State) (o : Open) (c : Underway) (action : Action) (answer : Option Answer)
-    (st : CoreStands s h (core_of xs fs)) (named : domain_of s.domains x.id ≢ None) (here : state_of xs x.id.0 ≡ Some x) (a : Agrees s h x) (under : x.underway ≡ Some o) (call : open_call h x.id.0 ≡ Some c)
+    (st : CoreStands s h (core_of xs fs)) (named : domain_of s.domains x.id ≢ None) (here : state_of xs x.id.0 ≡ Some x) (a : StateStands s h x) (under : x.underway ≡ Some o) (call : open_call h x.id.0 ≡ Some c)
     (stands : OpenAgrees s h x.id o c) (gs : FrameSet) (wrote : AccessedBy x o.call o.step fs gs) (next : path (known_at s h x.id) x.id c.request (values c ++ seen_by s h x.id o.step ∷ []) ≡ Some action) (ends : EndsIn gs o.step x action answer) where
   ticked : (sees xs x.id o.step ≡ seen_by s h x.id o.step) × Ticks s h xs x o c (call_then s xs x o) (action_then s xs x o)
   ticked = ticks s h xs x o c (sees xs x.id o.step) (call_then s xs x o) (action_then s xs x o) st.legal st.domains here a call stands refl refl refl (goes-then s xs x o)
@@ -220,13 +220,13 @@ module _ (s : Setting) (h : History) (xs : List State) (fs : FrameSet) (x : Stat
       let does = tick-does s fs gs gs xs l.0 x.id p.0 x o saw (call_then s xs x o) (action_then s xs x o) answer (ticked_with o.step saw answer) refl b wrote
       (λ d there. subst (λ (z : State). Settled gs ws p.0 z o.step (call_then s xs x o) (action_then s xs x o) answer l.0) (same_Some y.0 d (sym y.1 ∙ there)) l.1) refl h st in
       let r = subst (λ (z : Element). MayDo s h (Tick x.id) z × CoreStands s (grown h z) (core_of l.0 gs)) (element-of saw answer) does in
-      subst (λ (v : Seen). IsRight s h (stepped x.id o.step v answer) × IsReached s (stepped x.id o.step v answer ∷ h)) ticked.0 (r.0.2, (core_of l.0 gs, r.1))
+      subst (λ (v : Seen). IsRight s h (stepped x.id o.step v answer) × CanBeReached s (stepped x.id o.step v answer ∷ h)) ticked.0 (r.0.2, (core_of l.0 gs, r.1))
 
 -- the states with other handles for the same mappings of one domain
 
 rehandled : (s : Setting) (h : History) (xs : List State) (x : State) (at : ℕ) (m : HandleMap Held) → DomainsStand s h xs → position (has_id x.id.0) xs ≡ Some at → x ≡ get_or xs at x → state_of xs x.id.0 ≡ Some x
-    → domain_of s.domains x.id ≢ None → Agrees s h x → MappingsAgree m (mappings_at h x.id.0) (maps_answered_at h x.id.0)
-    → DomainsStand s h (set xs at (record x { mappings = m })) × (state_of (set xs at (record x { mappings = m })) x.id.0 ≡ Some (record x { mappings = m })) × Agrees s h (record x { mappings = m })
+    → domain_of s.domains x.id ≢ None → StateStands s h x → MappingsAgree m (mappings_at h x.id.0) (maps_answered_at h x.id.0)
+    → DomainsStand s h (set xs at (record x { mappings = m })) × (state_of (set xs at (record x { mappings = m })) x.id.0 ≡ Some (record x { mappings = m })) × StateStands s h (record x { mappings = m })
 rehandled s h xs x at m st place here was named a agrees = (
   record { each = each; tables = st.tables; words = st.words; entries = st.entries; lawful = st.lawful },
   becomes x.id.0 ∙ ap (λ (b : Bool). cond b (Some y) (state_of xs x.id.0)) (eq-eqb x.id.0 x.id.0 refl),
@@ -235,7 +235,7 @@ rehandled s h xs x at m st place here was named a agrees = (
   y : State
   y = record x { mappings = m }
 
-  now : Agrees s h (record x { mappings = m })
+  now : StateStands s h (record x { mappings = m })
   now = record { header = a.header; rows = a.rows; entries = a.entries; generations = a.generations; room = a.room; slots = a.slots; mappings = agrees; call = a.call; given = a.given }
 
   becomes : (q : ℕ) → state_of (set xs at (record x { mappings = m })) q ≡ cond (x.id.0 == q) (Some (record x { mappings = m })) (state_of xs q)
@@ -254,7 +254,7 @@ module _ (s : Setting) (h : History) (core : CoreState) (c : Underway) (step : S
   Needs d = (domain_of s.domains d ≢ None) × (open_call h d.0 ≡ Some c) × (path (known_at s h d) d c.request (values c) ≡ Some (Makes step))
       × (path (known_at s h d) d c.request (values c ++ seen_by s h d step ∷ []) ≡ Some action) × AnsweredSo h d action answer
 
-  goes-on-home : (x : State) → state_of core.domains x.id.0 ≡ Some x → Agrees s h x → Needs x.id → Gives s h x.id step answer
+  goes-on-home : (x : State) → state_of core.domains x.id.0 ≡ Some x → StateStands s h x → Needs x.id → Gives s h x.id step answer
   goes-on-home x here a (named, call, way, next, so) = let u = opened-by s h x.id x.underway (open_call h x.id.0) c a.call call in let o = u.0 in
       let same : o.step ≡ step = same-step o.step step (same_Some (Makes o.step) (Makes step) (sym u.2.follows ∙ way)) in
       let quiet' : IsOnWords o.step = subst IsOnWords (sym same) quiet in
@@ -323,9 +323,9 @@ module _ (s : Setting) (h : History) (fs : FrameSet) (fr : FramesStand s h fs) w
     copy-ends gs from to len (Done (Refused denial)) answer so = absurd so
 
     -- so many bytes of a range that is there
-    long : (from : Place) (len : ℕ) → IsTrue (has_range fs (name_of from) from.off len) → length (bytes_at (frame_at fs (name_of from)) from.off len) ≡ len
-    long from len is = let full = filled (name_of from) in let fits : from.off + len ≤ FRAME_SIZE = grind (arith, nat_tests) in
-        let xs : List ℕ = contents (frame_at fs (name_of from)) in let left = length-drop from.off xs in
+    long : (from : Place) (len : ℕ) → IsTrue (has_range fs (frame_name_at from) from.off len) → length (bytes_at (frame_at fs (frame_name_at from)) from.off len) ≡ len
+    long from len is = let full = filled (frame_name_at from) in let fits : from.off + len ≤ FRAME_SIZE = grind (arith, nat_tests) in
+        let xs : List ℕ = contents (frame_at fs (frame_name_at from)) in let left = length-drop from.off xs in
         let e : from.off + len - from.off ≡ len = omega arith in
         ap (λ (n : ℕ). length (take n (drop from.off xs))) e ∙ length-take-le len (drop from.off xs) (omega (arith, full, left, fits))
 
@@ -336,9 +336,9 @@ module _ (s : Setting) (h : History) (fs : FrameSet) (fr : FramesStand s h fs) w
         let z = can-write fs name w off x.given (may w (refl, refl)) fr.kept (filled name) in
         (z.0, (w, (refl, refl), z.1, z.2), write-ends z.0 dom frame off len action answer so)
     can-access (CopyBytes from to len) action answer is may so =
-        let w : Writ = writ_of x call in let ys : List ℕ = bytes_at (frame_at fs (name_of from)) from.off len in
-        let here : IsTrue (admits fs (name_of to) w to.off (length ys)) = subst (λ (n : ℕ). IsTrue (admits fs (name_of to) w to.off n)) (sym (long from len may.0)) (may.1 w (refl, refl)) in
-        let z = can-write fs (name_of to) w to.off ys here fr.kept (filled (name_of to)) in
+        let w : Writ = writ_of x call in let ys : List ℕ = bytes_at (frame_at fs (frame_name_at from)) from.off len in
+        let here : IsTrue (admits fs (frame_name_at to) w to.off (length ys)) = subst (λ (n : ℕ). IsTrue (admits fs (frame_name_at to) w to.off n)) (sym (long from len may.0)) (may.1 w (refl, refl)) in
+        let z = can-write fs (frame_name_at to) w to.off ys here fr.kept (filled (frame_name_at to)) in
         (z.0, (w, (refl, refl), z.1, z.2), copy-ends z.0 from to len action answer so)
     can-access step action answer is may so = absurd is
 
@@ -348,7 +348,7 @@ module _ (s : Setting) (h : History) (core : CoreState) (c : Underway) (step : S
   Comes d = (domain_of s.domains d ≢ None) × (open_call h d.0 ≡ Some c) × (path (known_at s h d) d c.request (values c) ≡ Some (Makes step))
       × (path (known_at s h d) d c.request (values c ++ Nothing ∷ []) ≡ Some action) × AccessAnsweredSo h step action answer
 
-  accesses-home : (x : State) → state_of core.domains x.id.0 ≡ Some x → Agrees s h x → Comes x.id → Gives s h x.id step answer
+  accesses-home : (x : State) → state_of core.domains x.id.0 ≡ Some x → StateStands s h x → Comes x.id → Gives s h x.id step answer
   accesses-home x here a (named, call, way, next, so) = let u = opened-by s h x.id x.underway (open_call h x.id.0) c a.call call in let o = u.0 in
       let same : o.step ≡ step = same-step o.step step (same_Some (Makes o.step) (Makes step) (sym u.2.follows ∙ way)) in
       let admitted : IsAdmitted core.frames x o.call o.step = open-admitted s h core.domains core.frames x o c st.domains st.frames a call u.2 in

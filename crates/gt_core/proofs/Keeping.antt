@@ -6,9 +6,11 @@ use Rattle.gt_core.proofs.Words.{Header, Half, IsEntry, HandleMap, Held, control
 use Rattle.gt_core.proofs.Words.{Item, changed_at, State, state_of, changed_in, History, Setting, live, entry_at}
 use Rattle.gt_core.proofs.Words.{generation_at, body_at, table_at, reads_at, writes_at, control_at, known_at}
 use Rattle.gt_core.proofs.Words.{mappings_at, maps_answered_at, is_pin_on, open_call, underway_after, Underway}
-use Rattle.gt_core.proofs.Words.{change_at, stored_at, header_stored, stood, first_of_item, IsLawful, FitsTable}
-use Rattle.gt_core.proofs.Words.{FitsWord, SlotAgrees, MappingsAgree, Agrees, StateAgrees, DomainsStand, CallAgrees}
-use Rattle.gt_core.proofs.Words.{GivenAgrees, Dir, by_mapping, slot_after, with_slot, stood_with, MAX_PINS, cond_both}
+use Rattle.gt_core.proofs.Words.{change_at, stored_at, header_stored, stood, first_of_item, IsLawfulPin, FitsTable}
+use Rattle.gt_core.proofs.Words.{FitsWord, SlotAgrees, MappingsAgree, StateStands, StateAgrees, DomainsStand}
+use Rattle.gt_core.proofs.Words.{CallAgrees}
+use Rattle.gt_core.proofs.Words.{GivenAgrees, Dir, mapping_named, slot_after, with_slot, stood_with, MAX_PINS}
+use Rattle.gt_core.proofs.Words.{cond_both}
 use Rattle.gt_core.proofs.Words.{CountsChange, arith}
 use Rattle.gt_core.proofs.{Rows.get-changed, Rows.length-changed, Rows.state-changed, Mappings.mappings-same}
 use Rattle.gt_core.proofs.{Steps.Observers.pulled, Steps.Observers.unstored, Steps.Observers.KeepsKnown}
@@ -19,7 +21,7 @@ use Rattle.gt_core.proofs.{Steps.Observers.other-maps, Steps.Observers.other-rai
 use Rattle.gt_core.proofs.{Steps.Observers.other-table, Steps.Observers.other-known, Staying.place-stays}
 
 -- what a domain itself knows is what the core keeps of it
-pub known-same : (s : Setting) (h : History) (d : State) → Agrees s h d
+pub known-same : (s : Setting) (h : History) (d : State) → StateStands s h d
     → knowledge_of s.domains s.first_generation s.may d.own d.header d.mappings ≡ known_at s h d.id
 known-same s h d a = let m = a.mappings in cc
 
@@ -75,8 +77,8 @@ pub slots-kept : (i : Item) (h : History) (q : ℕ) (slots : List PinCounts) →
 slots-kept i h q slots same bodies was r slot e = grind arith
 
 -- a domain that doesn't act: its pins may have changed, its call stands where it stood
-other-agrees : (s : Setting) (i : Item) (h : History) (x : State) (slots : List PinCounts) → (i.actor.0 == x.id.0) ≡ false → Agrees s h x
-    → length slots ≡ TABLE_ENTRIES → SlotsAgree (i ∷ h) x.id.0 slots → Agrees s (i ∷ h) (record x { slots = slots })
+other-agrees : (s : Setting) (i : Item) (h : History) (x : State) (slots : List PinCounts) → (i.actor.0 == x.id.0) ≡ false → StateStands s h x
+    → length slots ≡ TABLE_ENTRIES → SlotsAgree (i ∷ h) x.id.0 slots → StateStands s (i ∷ h) (record x { slots = slots })
 other-agrees s i h x slots apart a len agree = record {
   header = a.header ∙ sym (other-table s i h x.id apart);
   rows = a.rows;
@@ -84,7 +86,7 @@ other-agrees s i h x slots apart a len agree = record {
   generations = a.generations ∙ fun_ext (λ r. ap (λ (n : ℕ). s.first_generation + n) (sym (other-raises i h x.id.0 r apart)));
   room = len;
   slots = agree;
-  mappings = mappings-same x.mappings _ _ _ _ (sym (other-pins by_mapping i h x.id.0 apart)) (sym (other-maps i h x.id.0 apart)) a.mappings;
+  mappings = mappings-same x.mappings _ _ _ _ (sym (other-pins mapping_named i h x.id.0 apart)) (sym (other-maps i h x.id.0 apart)) a.mappings;
   given = λ c call. a.given c (sym (open_call-other i h x.id.0 apart) ∙ call);
   call = subst (λ (c : Option Underway). CallAgrees s (i ∷ h) x.id x.underway c) (sym (open_call-other i h x.id.0 apart)) (call-stays s i h x.id x.underway (open_call h x.id.0) apart a.call);
 }
@@ -99,10 +101,10 @@ pub same-body : (i : Item) (h : History) (t r : ℕ) (which : Half) → KeepsEnt
 same-body i h t r which q = unstored i h t r which (q.stores r which)
 
 -- the domain that acts: its header, pins, mappings and call may have changed
-pub actor-agrees : (s : Setting) (i : Item) (h : History) (x : State) (header : Header) (slots : List PinCounts) (mappings : HandleMap Held) (o : Option Open) (given : List ℕ) → KeepsAll i → Agrees s h x
+pub actor-agrees : (s : Setting) (i : Item) (h : History) (x : State) (header : Header) (slots : List PinCounts) (mappings : HandleMap Held) (o : Option Open) (given : List ℕ) → KeepsAll i → StateStands s h x
     → header ≡ table_at s (i ∷ h) x.id → length slots ≡ TABLE_ENTRIES → SlotsAgree (i ∷ h) x.id.0 slots → MappingsAgree mappings (mappings_at (i ∷ h) x.id.0) (maps_answered_at (i ∷ h) x.id.0)
     → CallAgrees s (i ∷ h) x.id o (open_call (i ∷ h) x.id.0) → GivenAgrees (i ∷ h) x.id.0 given
-    → Agrees s (i ∷ h) (record x { header = header; slots = slots; mappings = mappings; underway = o; given = given })
+    → StateStands s (i ∷ h) (record x { header = header; slots = slots; mappings = mappings; underway = o; given = given })
 actor-agrees s i h x header slots mappings o given q a head len agree same call bytes = record {
   header = head;
   rows = a.rows;
@@ -159,14 +161,14 @@ Becomes xs zs x new t g = (q : ℕ) → state_of zs q ≡ after_change (t == q) 
 
 -- each domain agrees after an item, where the actor does, and each other one
 each-stands : (s : Setting) (i : Item) (h : History) (xs zs : List State) (x new : State) (t : ℕ) (g : State → State) → DomainsStand s h xs → state_of xs x.id.0 ≡ Some x
-    → Becomes xs zs x new t g → new.id ≡ x.id → ((y : State) → (g y).id ≡ y.id) → Agrees s (i ∷ h) (cond (t == new.id.0) (g new) new)
-    → ((y : State) → (x.id.0 == y.id.0) ≡ false → Agrees s h y → Agrees s (i ∷ h) (cond (t == y.id.0) (g y) y)) → (dom : DomId) → StateAgrees s (i ∷ h) dom (state_of zs dom.0)
+    → Becomes xs zs x new t g → new.id ≡ x.id → ((y : State) → (g y).id ≡ y.id) → StateStands s (i ∷ h) (cond (t == new.id.0) (g new) new)
+    → ((y : State) → (x.id.0 == y.id.0) ≡ false → StateStands s h y → StateStands s (i ∷ h) (cond (t == y.id.0) (g y) y)) → (dom : DomId) → StateAgrees s (i ∷ h) dom (state_of zs dom.0)
 each-stands s i h xs zs x new t g st here becomes same keeps mine others dom =
     subst (StateAgrees s (i ∷ h) dom) (sym (becomes dom.0)) (by (x.id.0 == dom.0) refl (state_of xs dom.0) (st.each dom))
   where
-    moved : (y : State) → y.id ≡ dom → domain_of s.domains dom ≢ None → Agrees s (i ∷ h) (cond (t == y.id.0) (g y) y) → StateAgrees s (i ∷ h) dom (after_change (t == dom.0) g (Some y))
-    moved y is named a = at (t == dom.0) (subst (λ (z : DomId). Agrees s (i ∷ h) (cond (t == z.0) (g y) y)) is a) where
-      at : (b : Bool) → Agrees s (i ∷ h) (cond b (g y) y) → StateAgrees s (i ∷ h) dom (after_change b g (Some y))
+    moved : (y : State) → y.id ≡ dom → domain_of s.domains dom ≢ None → StateStands s (i ∷ h) (cond (t == y.id.0) (g y) y) → StateAgrees s (i ∷ h) dom (after_change (t == dom.0) g (Some y))
+    moved y is named a = at (t == dom.0) (subst (λ (z : DomId). StateStands s (i ∷ h) (cond (t == z.0) (g y) y)) is a) where
+      at : (b : Bool) → StateStands s (i ∷ h) (cond b (g y) y) → StateAgrees s (i ∷ h) dom (after_change b g (Some y))
       at true a = (named, keeps y ∙ is, a)
       at false a = (named, is, a)
 
@@ -178,12 +180,12 @@ each-stands s i h xs zs x new t g st here becomes same keeps mine others dom =
 
 -- the same, where no step changes another state
 pub each-stays : (s : Setting) (i : Item) (h : History) (xs zs : List State) (x new : State) → DomainsStand s h xs → state_of xs x.id.0 ≡ Some x → i.actor ≡ x.id
-    → ((q : ℕ) → state_of zs q ≡ cond (x.id.0 == q) (Some new) (state_of xs q)) → new.id ≡ x.id → Agrees s (i ∷ h) new
+    → ((q : ℕ) → state_of zs q ≡ cond (x.id.0 == q) (Some new) (state_of xs q)) → new.id ≡ x.id → StateStands s (i ∷ h) new
     → ((y : State) → (x.id.0 == y.id.0) ≡ false → SlotsAgree h y.id.0 y.slots → SlotsAgree (i ∷ h) y.id.0 y.slots) → (dom : DomId) → StateAgrees s (i ∷ h) dom (state_of zs dom.0)
 each-stays s i h xs zs x new st here own becomes same mine slots =
     each-stands s i h xs zs x new 0 (λ (y : State). y) st here (λ q. becomes q ∙ sym (plain (0 == q) (cond (x.id.0 == q) (Some new) (state_of xs q)))) same (λ y. refl)
-    (subst (Agrees s (i ∷ h)) (sym (cond-same (0 == new.id.0) new)) mine)
-    (λ y apart a. subst (Agrees s (i ∷ h)) (sym (cond-same (0 == y.id.0) y))
+    (subst (StateStands s (i ∷ h)) (sym (cond-same (0 == new.id.0) new)) mine)
+    (λ y apart a. subst (StateStands s (i ∷ h)) (sym (cond-same (0 == y.id.0) y))
     (other-agrees s i h y y.slots (ap (λ (z : DomId). z.0 == y.id.0) own ∙ apart) a a.room (slots y apart a.slots)))
   where
     plain : (b : Bool) (o : Option State) → after_change b (λ (y : State). y) o ≡ o
@@ -191,12 +193,12 @@ each-stays s i h xs zs x new st here own becomes same mine slots =
     plain b o = refl
 
 -- the domains stand for one item more, where each agrees and each entry's facts fit
-pub all-stand : (s : Setting) (h : History) (xs : List State) → ((dom : DomId) → StateAgrees s h dom (state_of xs dom.0)) → ((dom : DomId) → FitsTable (table_at s h dom)) → All (IsLawful s) (live h)
+pub all-stand : (s : Setting) (h : History) (xs : List State) → ((dom : DomId) → StateAgrees s h dom (state_of xs dom.0)) → ((dom : DomId) → FitsTable (table_at s h dom)) → All (IsLawfulPin s) (live h)
     → ((t r : ℕ) → Fits r (facts_at s h t r)) → DomainsStand s h xs
 all-stand s h xs each tables lawful fit = grind arith
 
 -- for one that changes no entry and stores no word
-pub keeps-stands : (s : Setting) (i : Item) (h : History) (xs zs : List State) → KeepsEntries i → DomainsStand s h xs → ((dom : DomId) → StateAgrees s (i ∷ h) dom (state_of zs dom.0)) → All (IsLawful s) (live (i ∷ h))
+pub keeps-stands : (s : Setting) (i : Item) (h : History) (xs zs : List State) → KeepsEntries i → DomainsStand s h xs → ((dom : DomId) → StateAgrees s (i ∷ h) dom (state_of zs dom.0)) → All (IsLawfulPin s) (live (i ∷ h))
     → ((t r : ℕ) (k : Dir) → r < TABLE_ENTRIES → count_by (is_pin_on t r k) (live (i ∷ h)) < MAX_PINS + 1) → DomainsStand s (i ∷ h) zs
 keeps-stands s i h xs zs q st each lawful counts = all-stand s (i ∷ h) zs each (λ dom. subst FitsTable (sym (kept-table s i h dom q.header)) (st.tables dom)) lawful
     (λ t r. let f = facts-fit s h xs t r st in subst (Fits r) (sym (same t r)) (record {
@@ -218,7 +220,7 @@ mappings-stay i h q kept k a = grind (arith, mappings-same, kept-live, answered-
 
 -- the domains stand for one item more that leaves all words and pins as they are
 pub quiet-stands : (s : Setting) (i : Item) (h : History) (xs zs : List State) (x : State) (o : Option Open) (given : List ℕ) → KeepsEntries i → KeepsKnown i → i.actor ≡ x.id → DomainsStand s h xs
-    → state_of xs x.id.0 ≡ Some x → Agrees s h x → ((q : ℕ) → state_of zs q ≡ cond (x.id.0 == q) (Some (record x { underway = o; given = given })) (state_of xs q))
+    → state_of xs x.id.0 ≡ Some x → StateStands s h x → ((q : ℕ) → state_of zs q ≡ cond (x.id.0 == q) (Some (record x { underway = o; given = given })) (state_of xs q))
     → CallAgrees s (i ∷ h) x.id o (open_call (i ∷ h) x.id.0) → GivenAgrees (i ∷ h) x.id.0 given → DomainsStand s (i ∷ h) zs
 quiet-stands s i h xs zs x o given e k own st here a becomes call bytes = kept-stands s i h xs zs k st (each-stays s i h xs zs x (record x { underway = o; given = given }) st here own becomes refl
     (actor-agrees s i h x x.header x.slots x.mappings o given e.changes a (a.header ∙ sym (kept-table s i h x.id e.header)) a.room (stay x a.slots) (mappings-stay i h x.id.0 x.mappings k a.mappings) call bytes)
@@ -239,15 +241,15 @@ own-changed xs ys x new g keeps was q = grind (arith, becomes-changed xs ys x ne
 
 -- each domain agrees after an item that changes the slot of one entry
 pub slots-stand : (s : Setting) (i : Item) (h : History) (xs zs : List State) (x : State) (kept : HandleMap Held) (o : Option Open) (t r : ℕ) (change : CountsChange) → KeepsAll i → header_stored i.happened ≡ None → i.actor ≡ x.id
-    → DomainsStand s h xs → state_of xs x.id.0 ≡ Some x → Agrees s h x → Becomes xs zs x (record x { mappings = kept; underway = o }) t (with_slot r change) → Moves h (i ∷ h) t r change
+    → DomainsStand s h xs → state_of xs x.id.0 ≡ Some x → StateStands s h x → Becomes xs zs x (record x { mappings = kept; underway = o }) t (with_slot r change) → Moves h (i ∷ h) t r change
     → MappingsAgree kept (mappings_at (i ∷ h) x.id.0) (maps_answered_at (i ∷ h) x.id.0) → CallAgrees s (i ∷ h) x.id o (open_call (i ∷ h) x.id.0) → GivenAgrees (i ∷ h) x.id.0 x.given
     → (dom : DomId) → StateAgrees s (i ∷ h) dom (state_of zs dom.0)
 slots-stand s i h xs zs x kept o t r change keeps none own st here a becomes moves maps call given =
     each-stands s i h xs zs x (record x { mappings = kept; underway = o }) t (with_slot r change) st here becomes refl (λ y. refl)
-    (subst (Agrees s (i ∷ h)) (picked (record x { mappings = kept; underway = o }))
+    (subst (StateStands s (i ∷ h)) (picked (record x { mappings = kept; underway = o }))
     (actor-agrees s i h x x.header (after x) kept o x.given keeps a (a.header ∙ sym (kept-table s i h x.id none))
     (length-slots r (slot_after change) x.slots (t == x.id.0) a.room) (slots-agree h (i ∷ h) t r x.id.0 change x.slots moves a.slots) maps call given))
-    (λ y apart b. subst (Agrees s (i ∷ h)) (picked y) (other-agrees s i h y (after y) (ap (λ (z : DomId). z.0 == y.id.0) own ∙ apart) b
+    (λ y apart b. subst (StateStands s (i ∷ h)) (picked y) (other-agrees s i h y (after y) (ap (λ (z : DomId). z.0 == y.id.0) own ∙ apart) b
     (length-slots r (slot_after change) y.slots (t == y.id.0) b.room) (slots-agree h (i ∷ h) t r y.id.0 change y.slots moves b.slots)))
   where
     after : State → List PinCounts

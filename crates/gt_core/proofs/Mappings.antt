@@ -2,7 +2,7 @@
 use Rattle.gt_core.proofs.Words.{◌≡◌, ◌+◌, ℕ, zero, suc, refl, Bool, true, false, List, [], ◌∷◌, ◌++◌, length, Option}
 use Rattle.gt_core.proofs.Words.{Some, None, cond, sym, ap, ◌∙◌, arith, subst, ◌==◌, fun_ext, eqb-true, true≢false}
 use Rattle.gt_core.proofs.Words.{none-some, length-append, sum_by-cons, Handle, HandleMap, value_of, count_of, Held}
-use Rattle.gt_core.proofs.Words.{mapping_of, same_handle, Adds, taken, MappingsAgree, slice_index_or, slice_set}
+use Rattle.gt_core.proofs.Words.{mapping_of, same_handle, Adds, handle_taken, MappingsAgree, slice_index_or, slice_set}
 use Rattle.gt_core.proofs.Words.{AreApart, Slot}
 use Rattle.std.{proofs.Common.is_some, proofs.Common.count_by, specs.Cmp.both_ways}
 use Rattle.gt_core.proofs.{Steps.Observers.cond-same, Steps.Observers.cond-apart}
@@ -81,7 +81,7 @@ set-none (x ∷ xs) zero (suc at) = grind arith
 set-none (x ∷ xs) (suc key) zero = grind arith
 set-none (x ∷ xs) (suc key) (suc at) = grind (arith, set-none xs key at)
 
-taken-of : (kept : HandleMap Held) (handle other : Handle) (m : Held) → value_of kept handle ≡ Some m → value_of (taken handle kept) other ≡ cond (same_handle other handle) None (value_of kept other)
+taken-of : (kept : HandleMap Held) (handle other : Handle) (m : Held) → value_of kept handle ≡ Some m → value_of (handle_taken handle kept) other ≡ cond (same_handle other handle) None (value_of kept other)
 taken-of kept handle other m has = grind (arith, set-none, eqb-true)
 
 count-set : (slots : List (Option (Slot Held))) (key : ℕ) (slot : Slot Held) → slice_index_or slots key None ≡ Some slot → count_by is_some (slice_set slots key None) + 1 ≡ count_by is_some slots
@@ -91,16 +91,16 @@ count-set (o ∷ os) (suc key) slot e =
     omega (arith, count-set os key slot e, sum_by-cons (λ (o : Option (Slot Held)). cond (is_some o) 1 0) o os, sum_by-cons (λ (o : Option (Slot Held)). cond (is_some o) 1 0) o (slice_set os key None))
 count-set slots key slot e = absurd (none-some slot e)
 
-count-taken : (kept : HandleMap Held) (handle : Handle) (m : Held) → value_of kept handle ≡ Some m → count_of (taken handle kept) + 1 ≡ count_of kept
+count-taken : (kept : HandleMap Held) (handle : Handle) (m : Held) → value_of kept handle ≡ Some m → count_of (handle_taken handle kept) + 1 ≡ count_of kept
 count-taken kept handle m has = grind (arith, count-set)
 
 -- the handles without one mapping are those of the mappings without it
 pub mappings-taken : (kept : HandleMap Held) (handle : Handle) (m : Held) (ms : List (Handle × Held)) (n : ℕ) → mapping_of ms handle ≡ Some m → MappingsAgree kept ms n
-    → MappingsAgree (taken handle kept) (less handle ms) n
+    → MappingsAgree (handle_taken handle kept) (less handle ms) n
 mappings-taken kept handle m ms n found a =
     let has : value_of kept handle ≡ Some m = ap (λ (f : Handle → Option Held). f handle) a.named ∙ found in record {
       named = fun_ext (λ other. taken-of kept handle other m has ∙ ap (λ (f : Handle → Option Held). cond (same_handle other handle) None (f other)) a.named ∙ sym (less-of ms handle other a.apart));
-      count = sums (count_of (taken handle kept)) (count_of kept) (length ms) (length (less handle ms)) (count-taken kept handle m has) a.count (length-less ms handle m found);
+      count = sums (count_of (handle_taken handle kept)) (count_of kept) (length ms) (length (less handle ms)) (count-taken kept handle m has) a.count (length-less ms handle m found);
       given = ap (λ (o : Option Held). (cond (is_some o) (record kept { slots = slice_set kept.slots handle.key None }) kept).given) has ∙ a.given;
       apart = apart-less ms handle a.apart;
     } where

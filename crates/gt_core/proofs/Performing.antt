@@ -8,7 +8,7 @@ use Rattle.gt_core.proofs.Words.{PinStep, Unpin, StoreBody, StoreHeader, Exchang
 use Rattle.gt_core.proofs.Words.{Phase, Storing, StoringSecond, Walking, Aim, Mapping, Source, Dest, Leg, LegNext}
 use Rattle.gt_core.proofs.Words.{Going, LegRefused, Pinned, CallerKnowledge, knowledge_of, phase_after, after_leg}
 use Rattle.gt_core.proofs.Words.{after_source_pin, after_dest_pin, leg_after, action_at, Open, Answer, State}
-use Rattle.gt_core.proofs.Words.{changed_in, applied, with_slot, with_own, with_header, without_mapping, with_underway}
+use Rattle.gt_core.proofs.Words.{changed_in, applied, with_slot, with_own, with_header, without_holder, with_underway}
 use Rattle.gt_core.proofs.Words.{with_mapping, Settled, Closed, FrameSet, Adds, History, Setting, Underway, OpenAgrees}
 use Rattle.gt_core.proofs.Words.{Unpinned, Stored, Holder, ByMapping, ByLeg, GrantRef, Half, FirstHalf, SecondHalf}
 use Rattle.gt_core.proofs.Words.{first_body, second_body, AnswerDone, cond_both, position-Some, slice_get-get_or}
@@ -24,7 +24,7 @@ changed-swap : (xs : List State) (d t : ℕ) (f g : State → State) → ((x : S
 changed-swap [] d t f g a b c = refl
 changed-swap (z ∷ zs) d t f g a b c = grind (arith, changed-swap zs d t f g a b c, a z, b z, c z)
 
-pub kept-id : (holder : Holder) (x : State) → (without_mapping holder x).id ≡ x.id
+pub kept-id : (holder : Holder) (x : State) → (without_holder holder x).id ≡ x.id
 kept-id (ByMapping handle) x = refl
 kept-id (ByLeg n) x = refl
 
@@ -33,10 +33,10 @@ applied-swap : (d : DomId) (step : Step) (seen : Seen) (u : Option Open) (xs : L
 applied-swap d (PinStep p) Taken u xs = changed-swap xs d.0 p.dom.0 (with_underway u) (with_slot p.gref.0 (PinnedCount p.dir)) (λ x. refl) (λ x. refl) (λ x. refl)
 applied-swap d (Exchange gref looked change) Taken u xs = changed-swap xs d.0 d.0 (with_underway u) (with_own gref.0 change) (λ x. refl) (λ x. refl) (λ x. refl)
 applied-swap d (Unpin p holder) seen u xs =
-    changed-swap (changed_in p.dom.0 (with_slot p.gref.0 (Unpinned p.dir)) xs) d.0 d.0 (with_underway u) (without_mapping holder) (λ x. refl) (kept-id holder) (swapped holder)
-    ∙ ap (changed_in d.0 (without_mapping holder)) (changed-swap xs d.0 p.dom.0 (with_underway u) (with_slot p.gref.0 (Unpinned p.dir)) (λ x. refl) (λ x. refl) (λ x. refl))
+    changed-swap (changed_in p.dom.0 (with_slot p.gref.0 (Unpinned p.dir)) xs) d.0 d.0 (with_underway u) (without_holder holder) (λ x. refl) (kept-id holder) (swapped holder)
+    ∙ ap (changed_in d.0 (without_holder holder)) (changed-swap xs d.0 p.dom.0 (with_underway u) (with_slot p.gref.0 (Unpinned p.dir)) (λ x. refl) (λ x. refl) (λ x. refl))
   where
-    swapped : (h : Holder) (x : State) → with_underway u (without_mapping h x) ≡ without_mapping h (with_underway u x)
+    swapped : (h : Holder) (x : State) → with_underway u (without_holder h x) ≡ without_holder h (with_underway u x)
     swapped (ByMapping handle) x = refl
     swapped (ByLeg n) x = refl
 applied-swap d (StoreBody gref half word) seen u xs = changed-swap xs d.0 d.0 (with_underway u) (with_slot gref.0 (Stored half word)) (λ x. refl) (λ x. refl) (λ x. refl)
@@ -57,7 +57,7 @@ place-changed (z ∷ zs) d t g keeps = grind (arith, place-changed zs d t g keep
 place-applied : (d : DomId) (step : Step) (seen : Seen) (xs : List State) → position_or_len (has_id d.0) (applied d step seen xs) ≡ position_or_len (has_id d.0) xs
 place-applied d (PinStep p) Taken xs = place-changed xs d.0 p.dom.0 (with_slot p.gref.0 (PinnedCount p.dir)) (λ x. refl)
 place-applied d (Exchange gref looked change) Taken xs = place-changed xs d.0 d.0 (with_own gref.0 change) (λ x. refl)
-place-applied d (Unpin p holder) seen xs = place-changed (changed_in p.dom.0 (with_slot p.gref.0 (Unpinned p.dir)) xs) d.0 d.0 (without_mapping holder) (kept-id holder)
+place-applied d (Unpin p holder) seen xs = place-changed (changed_in p.dom.0 (with_slot p.gref.0 (Unpinned p.dir)) xs) d.0 d.0 (without_holder holder) (kept-id holder)
     ∙ place-changed xs d.0 p.dom.0 (with_slot p.gref.0 (Unpinned p.dir)) (λ x. refl)
 place-applied d (StoreBody gref half word) seen xs = place-changed xs d.0 d.0 (with_slot gref.0 (Stored half word)) (λ x. refl)
 place-applied d (StoreHeader version frames) seen xs = place-changed xs d.0 d.0 (with_header version frames) (λ x. refl)
@@ -90,7 +90,7 @@ changed-keeps field t g (z ∷ zs) (suc k) y keeps e = cond_both (z.id.0 == t) (
 -- no change of the step touches this part
 abbrev Untouched : {A : Type 0} → (State → A) → Step → Type 0
 Untouched field (PinStep p) = (z : State) (r : ℕ) (c : CountsChange) → field (with_slot r c z) ≡ field z
-Untouched field (Unpin p holder) = ((z : State) (r : ℕ) (c : CountsChange) → field (with_slot r c z) ≡ field z) × ((z : State) → field (without_mapping holder z) ≡ field z)
+Untouched field (Unpin p holder) = ((z : State) (r : ℕ) (c : CountsChange) → field (with_slot r c z) ≡ field z) × ((z : State) → field (without_holder holder z) ≡ field z)
 Untouched field (StoreBody gref half word) = (z : State) (r : ℕ) (c : CountsChange) → field (with_slot r c z) ≡ field z
 Untouched field (StoreHeader version frames) = (z : State) → field (with_header version frames z) ≡ field z
 Untouched field (Exchange gref looked change) = (z : State) → field (with_own gref.0 change z) ≡ field z
@@ -100,7 +100,7 @@ applied-keeps : {A : Type 0} (field : State → A) (d : DomId) (step : Step) (se
 applied-keeps field d (PinStep p) Taken xs k y keeps e = changed-keeps field p.dom.0 (with_slot p.gref.0 (PinnedCount p.dir)) xs k y (λ z. keeps z p.gref.0 (PinnedCount p.dir)) e
 applied-keeps field d (Exchange gref looked change) Taken xs k y keeps e = changed-keeps field d.0 (with_own gref.0 change) xs k y keeps e
 applied-keeps field d (Unpin p holder) seen xs k y keeps e =
-    let a = changed-keeps field d.0 (without_mapping holder) (changed_in p.dom.0 (with_slot p.gref.0 (Unpinned p.dir)) xs) k y keeps.1 e in
+    let a = changed-keeps field d.0 (without_holder holder) (changed_in p.dom.0 (with_slot p.gref.0 (Unpinned p.dir)) xs) k y keeps.1 e in
     let b = changed-keeps field p.dom.0 (with_slot p.gref.0 (Unpinned p.dir)) xs k a.0 (λ z. keeps.0 z p.gref.0 (Unpinned p.dir)) a.1 in (b.0, b.1, a.2 ∙ b.2)
 applied-keeps field d (StoreBody gref half word) seen xs k y keeps e = changed-keeps field d.0 (with_slot gref.0 (Stored half word)) xs k y (λ z. keeps z gref.0 (Stored half word)) e
 applied-keeps field d (StoreHeader version frames) seen xs k y keeps e = changed-keeps field d.0 (with_header version frames) xs k y keeps e
@@ -113,7 +113,7 @@ kept-part field d step seen xs k x y keeps here there = let a = applied-keeps fi
 -- the call under way is
 pub still-underway : (d : DomId) (step : Step) (seen : Seen) (xs : List State) (k : ℕ) (x y : State) → slice_get xs k ≡ Some x → slice_get (applied d step seen xs) k ≡ Some y → y.underway ≡ x.underway
 still-underway d step seen xs k x y = kept-part (λ z. z.underway) d step seen xs k x y (by step) where
-  gone : (holder : Holder) (z : State) → (without_mapping holder z).underway ≡ z.underway
+  gone : (holder : Holder) (z : State) → (without_holder holder z).underway ≡ z.underway
   gone (ByMapping handle) z = refl
   gone (ByLeg n) z = refl
 

@@ -3,9 +3,10 @@ use Rattle.gt_core.proofs.Words.{◌≡◌, ◌+◌, ℕ, refl, Bool, true, List
 use Rattle.gt_core.proofs.Words.{ap, ◌∙◌, subst, ◌==◌, count_by, option_map, eqb-true, sum_by-cons, fun_ext, DomId, Dir}
 use Rattle.gt_core.proofs.Words.{Read, Write, Entry, Handle, Holder, ByMapping, ByLeg, Held, Seen, Taken, PinStep}
 use Rattle.gt_core.proofs.Words.{Unpin, Answer, Happened, Stepped, History, Setting, Pin, live, without, is_holder}
-use Rattle.gt_core.proofs.Words.{same_handle, holder_after, gather, by_leg, by_mapping, pinned_by, unpinned_by}
+use Rattle.gt_core.proofs.Words.{same_handle, holder_after, gather, by_leg, mapping_named, pinned_by, unpinned_by}
 use Rattle.gt_core.proofs.Words.{is_pin_on, reads_at, writes_at, mappings_at, mapping_of, entry_at, generation_at}
-use Rattle.gt_core.proofs.Words.{word_at, known_at, shown_at, subject_at, bare_handle, bare_happened, told, IsGiven}
+use Rattle.gt_core.proofs.Words.{word_at, known_at, shown_at, subject_at, bare_handle, bare_happened, told_part}
+use Rattle.gt_core.proofs.Words.{IsGiven}
 use Rattle.gt_core.proofs.Words.{IsKnown, IsRun, AreAlike, map, map-append, length-map, All-head, All-tail, All, arith}
 use Rattle.gt_core.proofs.{Bare.bare-same, Bare.answer_from, Bare.bare, Bare.bared, Given.HeldGiven, Given.PinsGiven}
 use Rattle.gt_core.proofs.{Given.pins-given, Given.known-tells, Given.unpin-known}
@@ -51,11 +52,11 @@ unfolding gather
 legs-bare d [] = refl
 legs-bare d (p ∷ ps) = grind (arith, legs-bare d ps)
 
-holder-bare : (a : Option Answer) (n : ℕ) → holder_after (option_map answer_from (option_map told a)) n ≡ bare_holder (holder_after a n)
+holder-bare : (a : Option Answer) (n : ℕ) → holder_after (option_map answer_from (option_map told_part a)) n ≡ bare_holder (holder_after a n)
 holder-bare a n = grind arith
 
 pinned-bare : (d : DomId) (x : Happened) (a : Option Answer) (h : History) (ps : List Pin)
-    → pinned_by d (bare_happened x) (option_map answer_from (option_map told a)) (bare h) (bare_pins ps) ≡ bare_pins (pinned_by d x a h ps)
+    → pinned_by d (bare_happened x) (option_map answer_from (option_map told_part a)) (bare h) (bare_pins ps) ≡ bare_pins (pinned_by d x a h ps)
 pinned-bare d (Stepped (PinStep p) Taken) a h ps =
     let l = legs-bare d.0 ps in let b = holder-bare a (length (gather by_leg d.0 ps)) in let e = (bared h).entry p.dom.0 p.gref.0 in cc
 pinned-bare d (Stepped (Unpin p (ByMapping b)) seen) a h ps = refl
@@ -66,7 +67,7 @@ pinned-bare d x a h ps = refl
 pub live-bare : (s : Setting) (h : History) → IsRun s h → live (bare h) ≡ bare_pins (live h)
 unfolding live bare IsRun
 live-bare s [] run = refl
-live-bare s (i ∷ h) run = let a = option_map answer_from (option_map told i.answer) in
+live-bare s (i ∷ h) run = let a = option_map answer_from (option_map told_part i.answer) in
     ap (λ (ps : List Pin). unpinned_by i.actor (bare_happened i.happened) ps ++ pinned_by i.actor (bare_happened i.happened) a (bare h) ps) (live-bare s h run.2)
     ∙ ap (λ (ps : List Pin). ps ++ pinned_by i.actor (bare_happened i.happened) a (bare h) (bare_pins (live h)))
     (unpinned-bare s h i.actor i.happened (live h) run.2 (λ p b seen e. unpin-known s h i p b seen e run.0 run.2) (pins-given h))
@@ -96,27 +97,27 @@ word-bare s h t r run =
 abbrev pub bare_mappings : List (Handle × Held) → List (Handle × Held)
 bare_mappings ms = map (λ (m : Handle × Held). (bare_handle m.0, m.1)) ms
 
-gather-bare : (d : ℕ) (ps : List Pin) → gather by_mapping d (bare_pins ps) ≡ bare_mappings (gather by_mapping d ps)
+gather-bare : (d : ℕ) (ps : List Pin) → gather mapping_named d (bare_pins ps) ≡ bare_mappings (gather mapping_named d ps)
 unfolding gather
 gather-bare d [] = refl
 gather-bare d (p ∷ ps) = grind (arith, gather-bare d ps)
 
 pub mappings-bare : (s : Setting) (h : History) (d : ℕ) → IsRun s h → mappings_at (bare h) d ≡ bare_mappings (mappings_at h d)
-mappings-bare s h d run = ap (λ (ps : List Pin). gather by_mapping d ps) (live-bare s h run) ∙ gather-bare d (live h)
+mappings-bare s h d run = ap (λ (ps : List Pin). gather mapping_named d ps) (live-bare s h run) ∙ gather-bare d (live h)
 
-found-bare : (s : Setting) (h : History) (d : ℕ) (a : Handle) (ps : List Pin) → IsRun s h → IsKnown h d a → PinsGiven h ps → mapping_of (gather by_mapping d (bare_pins ps)) (bare_handle a) ≡ mapping_of (gather by_mapping d ps) a
+found-bare : (s : Setting) (h : History) (d : ℕ) (a : Handle) (ps : List Pin) → IsRun s h → IsKnown h d a → PinsGiven h ps → mapping_of (gather mapping_named d (bare_pins ps)) (bare_handle a) ≡ mapping_of (gather mapping_named d ps) a
 unfolding gather
 found-bare s h d a [] run k g = refl
 found-bare s h d a (p ∷ ps) run k g = let P : Pin → Type 0 = λ q. HeldGiven h q.actor q.holder in by (p.actor == d) refl p.holder (All-head P p ps g) (found-bare s h d a ps run k (All-tail P p ps g)) where
-  by : (b : Bool) → (p.actor == d) ≡ b → (x : Holder) → HeldGiven h p.actor x → mapping_of (gather by_mapping d (bare_pins ps)) (bare_handle a) ≡ mapping_of (gather by_mapping d ps) a
-      → mapping_of (cond b (by_mapping (bare_holder x) p.held) [] ++ gather by_mapping d (bare_pins ps)) (bare_handle a) ≡ mapping_of (cond b (by_mapping x p.held) [] ++ gather by_mapping d ps) a
-  by true own (ByMapping m) given rest = ap (λ (b : Bool). cond b (Some p.held) (mapping_of (gather by_mapping d (bare_pins ps)) (bare_handle a))) (known-tells s h d a m run (subst (λ (n : ℕ). IsGiven h n m) (eqb-true p.actor d own) given) k)
+  by : (b : Bool) → (p.actor == d) ≡ b → (x : Holder) → HeldGiven h p.actor x → mapping_of (gather mapping_named d (bare_pins ps)) (bare_handle a) ≡ mapping_of (gather mapping_named d ps) a
+      → mapping_of (cond b (mapping_named (bare_holder x) p.held) [] ++ gather mapping_named d (bare_pins ps)) (bare_handle a) ≡ mapping_of (cond b (mapping_named x p.held) [] ++ gather mapping_named d ps) a
+  by true own (ByMapping m) given rest = ap (λ (b : Bool). cond b (Some p.held) (mapping_of (gather mapping_named d (bare_pins ps)) (bare_handle a))) (known-tells s h d a m run (subst (λ (n : ℕ). IsGiven h n m) (eqb-true p.actor d own) given) k)
       ∙ ap (cond (same_handle m a) (Some p.held)) rest
   by b own x given rest = rest
 
 -- a known handle finds the same mapping without its key
 pub mapping-bare : (s : Setting) (h : History) (d : ℕ) (a : Handle) → IsRun s h → IsKnown h d a → mapping_of (mappings_at (bare h) d) (bare_handle a) ≡ mapping_of (mappings_at h d) a
-mapping-bare s h d a run k = ap (λ (ps : List Pin). mapping_of (gather by_mapping d ps) (bare_handle a)) (live-bare s h run) ∙ found-bare s h d a (live h) run k (pins-given h)
+mapping-bare s h d a run k = ap (λ (ps : List Pin). mapping_of (gather mapping_named d ps) (bare_handle a)) (live-bare s h run) ∙ found-bare s h d a (live h) run k (pins-given h)
 
 -- what a domain knows by itself is the same, but for the keys of its mappings
 pub known-bare : (s : Setting) (h : History) (d : DomId) → IsRun s h → known_at s (bare h) d ≡ record (known_at s h d) { mapping = mapping_of (mappings_at (bare h) d.0) }

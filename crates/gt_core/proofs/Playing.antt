@@ -2,7 +2,7 @@
 use Rattle.gt_core.proofs.Words.{◌≡◌, ◌<◌, ◌+◌, ℕ, refl, length, get_or, take, List, [], ◌∷◌, ◌++◌, sym, ap, ◌∙◌, subst}
 use Rattle.gt_core.proofs.Words.{take_more, Event, Element, Result, OnErr, DomId, TypeId, Perms, Config, Request}
 use Rattle.gt_core.proofs.Words.{frame_counts, FrameSet, all_zeros, AreKept, Begin, Tick, Begun, State, DomainsStand}
-use Rattle.gt_core.proofs.Words.{CoreStands, Does, setting_of, begun_element, ticked_element, History, Setting}
+use Rattle.gt_core.proofs.Words.{CoreStands, DoesEvent, setting_of, begun_element, ticked_element, History, Setting}
 use Rattle.gt_core.proofs.Words.{LegalAfter, MayDo, grown, history_after, IfOk, Ok, Err, Ticked, CoreState}
 use Rattle.gt_core.proofs.Words.{StandsForSome, DoesAlone, Memory, Bool, zeros, stands, Did, IsLegalHistory}
 use Rattle.gt_core.proofs.{Steps.Write.frames-begun, Steps.Write.frames-start}
@@ -26,9 +26,9 @@ pub record PlaysOn (s : Setting) (es : List Event) (i : ℕ) (trace : List Eleme
 -- a turn of the loop
 pub plays-on : (s s' : Setting) (es : List Event) (i : ℕ) (e : Event) (trace trace' : List Element) (old new : CoreState) (x : Element)
     → PlaysOn s es i trace old → i < length es → e ≡ get_or es i e → trace' ≡ trace ++ x ∷ [] → s' ≡ s
-    → Does s' old e x new → PlaysOn s es (i + 1) trace' new
+    → DoesEvent s' old e x new → PlaysOn s es (i + 1) trace' new
 plays-on s s' es i e trace trace' old new x was within at pushed same turn =
-    let t = subst (λ (z : Setting). Does z old e x new) same turn (history_after [] trace) was.stands in
+    let t = subst (λ (z : Setting). DoesEvent z old e x new) same turn (history_after [] trace) was.stands in
     let front : take (i + 1) es ≡ take i es ++ e ∷ [] = take_more es i e within ∙ ap (λ (y : Event). take i es ++ y ∷ []) (sym at) in
     record {
       legal = subst (λ (fs : List Event). LegalAfter s [] fs trace') (sym front)
@@ -52,13 +52,13 @@ core-starts config may xs fs domains zeros kept = record { legal = tt; domains =
 -- a beginning changes no frame
 begun-stands : (s : Setting) (xs ys : List State) (fs : FrameSet) (dom : DomId) (request : Request) (b : Begun)
     → DoesAlone s xs (Begin dom request) (begun_element dom request b) ys
-    → Does s (core_of xs fs) (Begin dom request) (begun_element dom request b) (core_of ys fs)
+    → DoesEvent s (core_of xs fs) (Begin dom request) (begun_element dom request b) (core_of ys fs)
 begun-stands s xs ys fs dom request b stands h st = let r = stands h st.domains in
     (r.0, record { legal = legal-grows s h (Begin dom request) (begun_element dom request b) r.0 st.legal; domains = r.1; frames = frames-begun s h fs dom request b st.frames })
 
 pub begin-does : (s : Setting) (xs ys : List State) (fs : FrameSet) (dom : DomId) (request : Request) (r : Result Begun Memory)
     → IfOk r (λ b. DoesAlone s xs (Begin dom request) (begun_element dom request b) ys)
-    → IfOk r (λ b. Does s (core_of xs fs) (Begin dom request) (begun_element dom request b) (core_of ys fs))
+    → IfOk r (λ b. DoesEvent s (core_of xs fs) (Begin dom request) (begun_element dom request b) (core_of ys fs))
 begin-does s xs ys fs dom request (Ok b) stands = begun-stands s xs ys fs dom request b stands
 begin-does s xs ys fs dom request (Err e) stands = tt
 
@@ -72,7 +72,7 @@ begun-all s xs ys fs dom request (Err e) some stands err = subst (λ (zs : List 
 
 -- and so it does after a tick
 pub ticked-all : (s : Setting) (old : CoreState) (ys : List State) (gs : FrameSet) (dom : DomId) (r : Result Ticked Memory) → StandsForSome s old
-    → IfOk r (λ t. Does s old (Tick dom) (ticked_element dom t) (core_of ys gs)) → OnErr r (ys ≡ old.domains) → OnErr r (gs ≡ old.frames) → StandsForSome s (core_of ys gs)
+    → IfOk r (λ t. DoesEvent s old (Tick dom) (ticked_element dom t) (core_of ys gs)) → OnErr r (ys ≡ old.domains) → OnErr r (gs ≡ old.frames) → StandsForSome s (core_of ys gs)
 ticked-all s old ys gs dom (Ok t) (h, st) does domains frames = (grown h (ticked_element dom t), (does h st).1)
 ticked-all s old ys gs dom (Err e) some does domains frames =
     subst (λ (zs : List State). StandsForSome s (core_of zs gs)) (sym domains) (subst (λ (fs : FrameSet). StandsForSome s (core_of old.domains fs)) (sym frames) some)

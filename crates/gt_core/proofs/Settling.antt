@@ -1,7 +1,7 @@
 -- How a call that nothing stood against is over, and how long the states are after a step.
 use Rattle.gt_core.proofs.Words.{◌≡◌, ◌++◌, ℕ, refl, List, length, take, ap, ◌∙◌, DomId, Step, PinStep, Unpin}
 use Rattle.gt_core.proofs.Words.{StoreBody, StoreHeader, Exchange, Seen, Taken, Unpinned, Stored, State, changed_in}
-use Rattle.gt_core.proofs.Words.{applied, with_slot, with_own, with_header, without_mapping, take_more, map-append, ◌<◌}
+use Rattle.gt_core.proofs.Words.{applied, with_slot, with_own, with_header, without_holder, take_more, map-append, ◌<◌}
 use Rattle.gt_core.proofs.Words.{◌+◌, ◌%◌, map, get_or, [], ◌∷◌, Some, None, sym, set, replicate, min, HandleMap}
 use Rattle.gt_core.proofs.Words.{DomainConfig, Invalid, ENTRIES, LAST_GENERATION, Own, Held, PinCounts, Asked, Load}
 use Rattle.gt_core.proofs.Words.{Peek, ReadBytes, first_state, IsLoading, with_underway, AnswerDone, Closed, IsLoadOf}
@@ -13,7 +13,7 @@ pub length-applied : (d : DomId) (step : Step) (seen : Seen) (xs : List State) �
 length-applied d (PinStep p) Taken xs = length-changed_in xs p.dom.0 (with_slot p.gref.0 (Pinned p.dir))
 length-applied d (Exchange gref looked change) Taken xs = length-changed_in xs d.0 (with_own gref.0 change)
 length-applied d (Unpin p holder) seen xs =
-    length-changed_in (changed_in p.dom.0 (with_slot p.gref.0 (Unpinned p.dir)) xs) d.0 (without_mapping holder) ∙ length-changed_in xs p.dom.0 (with_slot p.gref.0 (Unpinned p.dir))
+    length-changed_in (changed_in p.dom.0 (with_slot p.gref.0 (Unpinned p.dir)) xs) d.0 (without_holder holder) ∙ length-changed_in xs p.dom.0 (with_slot p.gref.0 (Unpinned p.dir))
 length-applied d (StoreBody gref half word) seen xs = length-changed_in xs d.0 (with_slot gref.0 (Stored half word))
 length-applied d (StoreHeader version frames) seen xs = length-changed_in xs d.0 (with_header version frames)
 length-applied d step seen xs = refl

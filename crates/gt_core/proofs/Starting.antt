@@ -5,8 +5,10 @@ use Rattle.gt_core.proofs.Words.{ltb-false, ltb-true, none-some, same_Some, slic
 use Rattle.gt_core.proofs.Words.{length-replicate, All-tail, fun_ext, ◌==◌, slice_get, All, option_map, domain_of}
 use Rattle.gt_core.proofs.Words.{DomId, TypeId, Perms, Config, DomainConfig, Invalid, Own, PinCounts, ENTRIES}
 use Rattle.gt_core.proofs.Words.{row_entry, row_generation, State, state_of, first_state, Setting, entry_at, raises_at}
-use Rattle.gt_core.proofs.Words.{body_at, live, maps_answered_at, open_call, table_at, control_at, setting_of, Agrees}
-use Rattle.gt_core.proofs.Words.{StateAgrees, SlotAgrees, FitsTable, FitsWord, IsLawful, DomainsStand, LAST_GENERATION}
+use Rattle.gt_core.proofs.Words.{body_at, live, maps_answered_at, open_call, table_at, control_at, setting_of}
+use Rattle.gt_core.proofs.Words.{StateStands}
+use Rattle.gt_core.proofs.Words.{StateAgrees, SlotAgrees, FitsTable, FitsWord, IsLawfulPin, DomainsStand}
+use Rattle.gt_core.proofs.Words.{LAST_GENERATION}
 use Rattle.gt_core.proofs.Words.{gather, get_or-replicate, header_from, LAST_VERSION, MAX_TABLE_FRAMES, cond_both}
 use Rattle.gt_core.proofs.Words.{All-nil, IsWithinLimits}
 use Rattle.gt_core.proofs.{Keeping.given-none, Mappings.no-handles, Steps.Store.room-there}
@@ -51,7 +53,7 @@ slot-starts t n r slot e =
     subst (SlotAgrees [] t r) same (record { reads = refl; writes = refl; first = refl; second = refl })) (λ z k. absurd (none-some slot k))
     (sym (get-replicate n r (record { reads = 0; writes = 0; first = 0; second = 0 })) ∙ e)
 
-rest-agrees : (s : Setting) (d : DomainConfig) → domain_of s.domains d.id ≡ Some d → Fine d → s.first_generation ≤ LAST_GENERATION → Agrees s [] (first_state s.first_generation d)
+rest-agrees : (s : Setting) (d : DomainConfig) → domain_of s.domains d.id ≡ Some d → Fine d → s.first_generation ≤ LAST_GENERATION → StateStands s [] (first_state s.first_generation d)
 unfolding entry_at raises_at live gather maps_answered_at open_call table_at
 rest-agrees s d is f le = let g : min s.first_generation LAST_GENERATION ≡ s.first_generation = omega arith in record {
   header = room-there d.version d.table_frames (record { version = f.0; frames = f.1 }) ∙ sym (ap header_from is);
@@ -92,5 +94,5 @@ starts config may l = let s = setting_of config may in
       tables = λ dom. (table-starts (domain_of s.domains dom) (λ d e. (domain-found Fine s.domains dom d fine e).1));
       words = λ t r within. rest-word s t r l.generation;
       entries = λ t r. tt;
-      lawful = All-nil (IsLawful s);
+      lawful = All-nil (IsLawfulPin s);
     }

@@ -3,13 +3,14 @@ use Rattle.gt_core.proofs.Words.{ℕ, None, Option, Some, arith, refl, subst, sy
 use Rattle.gt_core.proofs.Words.{Rule, entry_of, first_body, control_of, Change, Publish, ToInvalid, ToWithdrawn, Half}
 use Rattle.gt_core.proofs.Words.{FirstHalf, SecondHalf, Entry, Invalid, first, Phase, Accessing, Exchanging, Storing}
 use Rattle.gt_core.proofs.Words.{StoringSecond, Walking, Leg, LegPhase, Body, AtHeader, Look, Pinning, Relook, Second}
-use Rattle.gt_core.proofs.Words.{Asked, History, Setting, change_of, entry_after, generation_at, raise_after, IsSpelled}
-use Rattle.gt_core.proofs.Words.{StepsSoFar, HasLooked, HasRead, IsShown, LegStands, PhaseStands, WhileSame, Item}
+use Rattle.gt_core.proofs.Words.{Asked, History, Setting, change_of, changed_entry_of, generation_at, raise_after}
+use Rattle.gt_core.proofs.Words.{IsSpelled}
+use Rattle.gt_core.proofs.Words.{StepsSoFar, LegHasLooked, LegHasRead, IsShown, LegStands, PhaseStands, WhileSame, Item}
 use Rattle.gt_core.proofs.Words.{body_at, entry_at, raises_at}
 
 same-after : (before first generation : ℕ) (Holds : Entry → Type 0) (entry : Entry) (c : Option Change) → generation ≤ first + before
     → (first + before ≡ generation → entry ≢ Invalid → Holds entry)
-    → first + (before + raise_after c) ≡ generation → entry_after c entry ≢ Invalid → Holds (entry_after c entry)
+    → first + (before + raise_after c) ≡ generation → changed_entry_of c entry ≢ Invalid → Holds (changed_entry_of c entry)
 same-after before first generation Holds entry None le was e valid = was (omega arith) valid
 same-after before first generation Holds entry (Some ToInvalid) le was e valid = absurd (valid refl)
 same-after before first generation Holds entry (Some ToWithdrawn) le was e valid = absurd (valid refl)
@@ -26,13 +27,13 @@ pub reached-keeps : (s : Setting) (i : Item) (h : History) (t r generation : ℕ
 unfolding raises_at
 reached-keeps s i h t r generation le = omega arith
 
-looked-keeps : (s : Setting) (i : Item) (h : History) (l : Leg) (so_far : StepsSoFar) (more word : ℕ) → HasLooked s h l so_far more word → HasLooked s (i ∷ h) l so_far more word
+looked-keeps : (s : Setting) (i : Item) (h : History) (l : Leg) (so_far : StepsSoFar) (more word : ℕ) → LegHasLooked s h l so_far more word → LegHasLooked s (i ∷ h) l so_far more word
 looked-keeps s i h l so_far more word a = let reached = reached-keeps s i h l.dom.0 l.gref.0 (control_of word).generation a.reached in
     let shown = same-keeps s i h l word (IsShown (control_of word)) a.reached a.shown in
     record { within = a.within; turn = a.turn; looked = a.looked; passed = a.passed; reached = reached; shown = shown }
 
 read-keeps : (s : Setting) (i : Item) (h : History) (l : Leg) (so_far : StepsSoFar) (word body second : ℕ) (rule : Option Rule) → (control_of word).generation ≤ generation_at s h l.dom.0 l.gref.0
-    → HasRead s h l so_far word body second rule → HasRead s (i ∷ h) l so_far word body second rule
+    → LegHasRead s h l so_far word body second rule → LegHasRead s (i ∷ h) l so_far word body second rule
 read-keeps s i h l so_far word body second rule le a =
     record { in_body = a.in_body; judged = a.judged; spelled = same-keeps s i h l word (λ (e : Entry). entry_of (control_of word) body second ≡ e) le a.spelled }
 

@@ -8,14 +8,16 @@ use Rattle.gt_core.proofs.Words.{Makes, Done, Call, Phase, knowledge_of, path, a
 use Rattle.gt_core.proofs.Words.{Goes, Open, Item, Answer, Denied, AnswerDone, Mapped, State, state_of, sees, History}
 use Rattle.gt_core.proofs.Words.{Setting, live, word_at, known_at, legs_at, mappings_at, mapping_of, seen_by, Underway}
 use Rattle.gt_core.proofs.Words.{values, open_call, underway_after, holder_after, one_if_mapped, StepsRight, GivesValue}
-use Rattle.gt_core.proofs.Words.{refusal_in, refusal_of, DomainsStand, Agrees, CallAgrees, OpenAgrees, numbered}
+use Rattle.gt_core.proofs.Words.{refusal_in, refusal_of, DomainsStand, StateStands, CallAgrees, OpenAgrees, numbered}
 use Rattle.gt_core.proofs.Words.{position, get_or, set, position-Some, domain_of, Value, FramesTold, BytesAnswer}
 use Rattle.gt_core.proofs.Words.{HandleMap, applied, with_underway, with_mapping, Adds, IsReadable, IsAdmitted}
 use Rattle.gt_core.proofs.Words.{AccessedBy, bytes_at, FrameSet, frame_at, contents_at, IsRight, StepsRightIn}
-use Rattle.gt_core.proofs.Words.{CoreStands, FramesStand, core_of, Settled, IsLawful, IsLawfullyHeld, answer_with}
-use Rattle.gt_core.proofs.Words.{Closed, IsRoomFor, IsMapping, ticked_with, ticked_element, Element, Tick, MayDo, Does}
+use Rattle.gt_core.proofs.Words.{CoreStands, FramesStand, core_of, Settled, IsLawfulPin, IsLawfullyHeld, answer_with}
+use Rattle.gt_core.proofs.Words.{Closed, IsRoomFor, IsMapping, ticked_with, ticked_element, Element, Tick, MayDo}
+use Rattle.gt_core.proofs.Words.{DoesEvent}
 use Rattle.gt_core.proofs.Words.{Did, grown, without, RestsOnRequest, WantsMemoryNow, IsWritingNext, TickTold}
-use Rattle.gt_core.proofs.Words.{IsWriting, cond_both, CallerKnowledge, GivenAgrees, take, drop, asked, told, taken}
+use Rattle.gt_core.proofs.Words.{IsWriting, cond_both, CallerKnowledge, GivenAgrees, take, drop, asked, told_part}
+use Rattle.gt_core.proofs.Words.{handle_taken}
 use Rattle.gt_core.proofs.Words.{IsLegalHistory}
 use Rattle.gt_calls.specs.Following.{IsLeftAlike}
 use Rattle.gt_core.proofs.{Performing.left-alike, Performing.settled-after, Performing.stepped-state}
@@ -41,7 +43,7 @@ abbrev Replaced : List State → List State → State → State → Type 0
 Replaced xs ys x new = (q : ℕ) → state_of ys q ≡ cond (x.id.0 == q) (Some new) (state_of xs q)
 
 -- each step but the pin of a map
-module _ (s : Setting) (h : History) (xs ys : List State) (x : State) (c : Underway) (phase : Phase) (answer : Option Answer) (o' : Option Open) (here : state_of xs x.id.0 ≡ Some x) (a : Agrees s h x) (r : Replaced xs ys x (record x { underway = o' }))
+module _ (s : Setting) (h : History) (xs ys : List State) (x : State) (c : Underway) (phase : Phase) (answer : Option Answer) (o' : Option Open) (here : state_of xs x.id.0 ≡ Some x) (a : StateStands s h x) (r : Replaced xs ys x (record x { underway = o' }))
     (m : one_if_mapped answer ≡ 0) (leg : (n : ℕ) → holder_after answer n ≡ ByLeg n) where
   abbrev CallThen : Step → Seen → Type 0
   CallThen step seen = CallAgrees s (stepped x.id step seen answer ∷ h) x.id o' (open_call (stepped x.id step seen answer ∷ h) x.id.0)
@@ -73,7 +75,7 @@ module _ (s : Setting) (h : History) (xs ys : List State) (x : State) (c : Under
       (subst (λ (n : ℕ). Loses p (live h) (without x.id.0 (ByLeg n) (live h))) (length-reverse l.0 ∙ sym l.2) (loses-leg h x.id (reverse l.0) p legs))
       (unpin-agrees h x.id p place Nothing answer x.mappings m a.mappings) call (given (Unpin p (ByLeg place)) Nothing)
   step-stands (Unpin p (ByMapping handle)) i last store call = let found : mapping_of (mappings_at h x.id.0) handle ≡ Some p = i.rests.1.1 in
-      unpin-stands s h xs _ x p (ByMapping handle) Nothing answer (Rattle.gt_core.specs.Effects.taken handle x.mappings) o' i.st here a (becomes-unpinned xs ys x p (ByMapping handle) o' r)
+      unpin-stands s h xs _ x p (ByMapping handle) Nothing answer (Rattle.gt_core.specs.Effects.handle_taken handle x.mappings) o' i.st here a (becomes-unpinned xs ys x p (ByMapping handle) o' r)
       (loses-mapping h x.id handle p found) (mapping-agrees h x.id p handle Nothing answer x.mappings m found a.mappings) call (given (Unpin p (ByMapping handle)) Nothing)
   step-stands (StoreHeader version frames) i last store call =
       header-stands s h xs ys x version frames answer o' i.st here a r m (header-fits s h xs x.id c.request version frames i.st i.rests.0 i.rests.1) call (given (StoreHeader version frames) Nothing)
@@ -151,7 +153,7 @@ module _ {s : Setting} {h : History} {xs : List State} {x : State} {o : Open} {c
       let j : IsHere s h xs d c.request (values c) (reverse c.steps) t.stands.phase (PinStep held) = subst (IsHere s h xs d c.request (values c) (reverse c.steps) t.stands.phase) m.is t.i in
       let can : CanPin s h d c.request held = can-pin s h xs d c.request (values c) (reverse c.steps) t.stands.phase held j m.taken in
       let law = map-lawful s h d c.request held (values c) (pins_at t.stands.phase) j.rests.0 j.rests.1 m.dom m.gref m.flags m.of_map in
-      let lawful : IsLawful s (new_pin h d held answer) = subst (λ (q : Held). IsLawfullyHeld s (record { actor = d.0; holder = ByMapping handle; held = q }) (ByMapping handle)) (sym can.is) law in
+      let lawful : IsLawfulPin s (new_pin h d held answer) = subst (λ (q : Held). IsLawfullyHeld s (record { actor = d.0; holder = ByMapping handle; held = q }) (ByMapping handle)) (sym can.is) law in
       let legs : legs_at (pins d held answer ∷ h) d.0 ≡ [] = map-legs h d held handle ∙ t.stands.held ∙ ap (λ (l : List Held). numbered 0 (reverse l)) m.none in
       let maps = map-agrees h d held handle x.mappings kept (subst (λ (q : Held). Adds x.mappings kept handle q) (sym can.is) adds) t.agrees.mappings in
       let stands = pin-stands s h xs ys x held answer kept None t.i.st t.here t.agrees r can.few lawful maps (call-over s h d (PinStep held) Taken (Mapped handle) legs) (given-goes-on d (PinStep held) Taken answer h x.given t.agrees.given) in
@@ -197,7 +199,7 @@ module _ {s : Setting} {h : History} {xs : List State} {fs : FrameSet} {x : Stat
 
 -- a domain's open call
 module _ (s : Setting) (h : History) (xs : List State) (dom : DomId) (at : ℕ) (x : State) (o : Open) (place : position (has_id dom.0) xs ≡ Some at) (here : x ≡ get_or xs at x) (under : x.underway ≡ Some o) where
-  open-here : DomainsStand s h xs → (domain_of s.domains dom ≢ None) × (x.id ≡ dom) × Agrees s h x × ((c : Underway) × (open_call h x.id.0 ≡ Some c) × OpenAgrees s h x.id o c)
+  open-here : DomainsStand s h xs → (domain_of s.domains dom ≢ None) × (x.id ≡ dom) × StateStands s h x × ((c : Underway) × (open_call h x.id.0 ≡ Some c) × OpenAgrees s h x.id o c)
   open-here st = let a = agrees-found s h xs dom at x place here st in (a.0, a.1, a.2, by x.underway (open_call h x.id.0) under a.2.call) where
     by : (u : Option Open) (call : Option Underway) → u ≡ Some o → CallAgrees s h x.id u call → (c : Underway) × (call ≡ Some c) × OpenAgrees s h x.id o c
     by None call e a = cc
@@ -313,11 +315,11 @@ ends-by-pin s h xs x o c new action t = tt
 
 -- what a tick does whose step is told so; the frames and the states then are those that its call's settling left, which
 -- began with those that its step left
-pub tick-does : (s : Setting) (fs gs ks : FrameSet) (xs ys : List State) (dom : DomId) (at : ℕ) (x : State) (o : Open) (seen : Seen) (new : Call) (action : Action) (answer : Option Answer) (told : TickTold) → told ≡ ticked_with o.step seen answer
+pub tick-does : (s : Setting) (fs gs ks : FrameSet) (xs ys : List State) (dom : DomId) (at : ℕ) (x : State) (o : Open) (seen : Seen) (new : Call) (action : Action) (answer : Option Answer) (told_part : TickTold) → told_part ≡ ticked_with o.step seen answer
     → Begins s xs dom at x o seen new action → AccessedBy x o.call o.step fs gs → ((d : State) → slice_get (applied dom o.step seen xs) at ≡ Some d → Settled gs (applied dom o.step seen xs) at d o.step new action answer ys) → ks ≡ gs
-    → Does s (core_of xs fs) (Tick dom) (ticked_element dom told) (core_of ys ks)
+    → DoesEvent s (core_of xs fs) (Tick dom) (ticked_element dom told_part) (core_of ys ks)
 unfolding IsLegalHistory
-tick-does s fs gs ks xs ys dom at x o seen new action answer told is b wrote settles same = λ h st.
+tick-does s fs gs ks xs ys dom at x o seen new action answer told_part is b wrote settles same = λ h st.
     let n = begun s h xs dom at x o seen new action st.legal st.domains b in let y = stepped-state dom o.step seen xs at x b.place in
     let z = settled-after gs xs ys at dom x y.0 o.step seen new action answer b.place b.here y.2 (place-at xs dom.0 at x b.place b.here) y.1 (ends-by-pin s h xs x o n.c new action n.ticks) (settles y.0 y.1) in
     let t = action-core s h fs xs z.0 at x o n.c new action answer n.ticks st.frames n.replaced (settled-before fs gs xs z.0 at x x o.call new o.step action answer wrote z.1) in

@@ -9,12 +9,12 @@ use Rattle.gt_core.proofs.Words.{ReadBytes, WriteBytes, CopyBytes, Asked, Copy, 
 use Rattle.gt_core.proofs.Words.{Stepped, Item, History, Setting, Pin, entry_at, live, pinned_by, unpinned_by}
 use Rattle.gt_core.proofs.Words.{is_pin_on, same_dir, reads_at, writes_at, IsRight, IsSafeChange, StepsRightIn}
 use Rattle.gt_core.proofs.Words.{EndIsJustified, CopyIsJustified, Justified, Forwards, IsLegalHistory, open_call}
-use Rattle.gt_core.proofs.Words.{Underway, entry_after, change_of}
+use Rattle.gt_core.proofs.Words.{Underway, changed_entry_of, change_of}
 use Rattle.gt_types.specs.declared.Use.{Use}
 use Rattle.gt_entry.specs.Permits.{is_of_frame}
 use Rattle.gt_core.specs.History.{with_ro, changed_entry}
 use Rattle.gt_core.specs.Justified.{Reaches}
-use Rattle.gt_core.specs.TakenBack.{EndsPins, Grants, IsForeignAccess, IsPinOn, IsTakenBack}
+use Rattle.gt_core.specs.TakenBack.{EndsPinsOn, Grants, IsForeignAccess, IsPinOn, IsTakenBack}
 unfoldable use Rattle.gt_core.specs.TakenBack.{IsTakenSince}
 use Rattle.gt_core.proofs.{Playing.legal-grows, Steps.Observers.all-without, Steps.Observers.stepped}
 use Rattle.gt_core.proofs.{Steps.Observers.exchanged, Steps.Observers.exchanged-live, Steps.Observers.kept-entry}
@@ -94,7 +94,7 @@ none-on h t r reads writes = λ k d lt.
 
 -- at a revocation and at a publication no pin is live
 ended-by : (s : Setting) (h : History) (d : DomId) (x : Happened) (a : Option Answer) (t r : ℕ) → let i : Item = record { actor = d; happened = x; answer = a } in
-    IsRight s h i → EndsPins t r i → (reads_at h t r ≡ 0) × (writes_at h t r ≡ 0)
+    IsRight s h i → EndsPinsOn t r i → (reads_at h t r ≡ 0) × (writes_at h t r ≡ 0)
 ended-by s h d (Stepped (Exchange gref looked ToInvalid) Taken) a t r right ends =
     let safe = of-safe s h (exchanged d gref looked ToInvalid a) _ _ (open_call h d.0) right in
     subst (λ (u : ℕ). (reads_at h u r ≡ 0) × (writes_at h u r ≡ 0)) ends.0 (subst (λ (g : ℕ). (reads_at h d.0 g ≡ 0) × (writes_at h d.0 g ≡ 0)) ends.1 safe)
@@ -104,7 +104,7 @@ ended-by s h d (Stepped (Exchange gref looked (Publish entry)) Taken) a t r righ
 ended-by s h d x a t r right ends = absurd ends.1
 
 -- nor does it take one
-ended-live : (d : DomId) (x : Happened) (a : Option Answer) (h : History) (t r : ℕ) → let i : Item = record { actor = d; happened = x; answer = a } in EndsPins t r i → live (i ∷ h) ≡ live h
+ended-live : (d : DomId) (x : Happened) (a : Option Answer) (h : History) (t r : ℕ) → let i : Item = record { actor = d; happened = x; answer = a } in EndsPinsOn t r i → live (i ∷ h) ≡ live h
 ended-live d (Stepped (Exchange gref looked ToInvalid) Taken) a h t r ends = exchanged-live h d gref looked ToInvalid a
 ended-live d (Stepped (Exchange gref looked (Publish entry)) Taken) a h t r ends = exchanged-live h d gref looked (Publish entry) a
 ended-live d x a h t r ends = absurd ends.1
@@ -121,7 +121,7 @@ since t r (i ∷ later) base none = live-all (IsSince t r (i ∷ later) base) i 
     (All-weaker (λ p. pinned_by i.actor i.happened i.answer (later ++ base) (live (later ++ base)) ≡ p ∷ []) (IsSince t r (i ∷ later) base) (λ p e on. inl e) _
     (pinned-one i.actor i.happened i.answer (later ++ base) (live (later ++ base))))
 
-pub taken-since : (s : Setting) (later before : History) (i : Item) (t r : ℕ) → IsLegalHistory s (later ++ i ∷ before) → EndsPins t r i
+pub taken-since : (s : Setting) (later before : History) (i : Item) (t r : ℕ) → IsLegalHistory s (later ++ i ∷ before) → EndsPinsOn t r i
     → All (λ p. IsPinOn t r p → IsTakenSince later (i ∷ before) p) (live (later ++ i ∷ before))
 taken-since s later before i t r legal ends =
     let counts = ended-by s before i.actor i.happened i.answer t r (last-right s i before (legal-part s later (i ∷ before) legal)) ends in
@@ -154,7 +154,7 @@ kept-fits : (s : Setting) (h : History) (d : DomId) (x : Happened) (a : Option A
     → All (Fits h) (live h) → All (Fits (i ∷ h)) (live h)
 unfolding entry_at
 kept-fits s h d (Stepped (Exchange gref looked change) Taken) a right was = λ k b lt. let p = slice_index_or (live h) k b in
-    at-change (λ (u g : ℕ) (c : Option Change). IsPinOn u g p → IsOfEntry p (entry_after c (entry_at h u g))) d.0 gref.0 change p.held.dom.0 p.held.gref.0
+    at-change (λ (u g : ℕ) (c : Option Change). IsPinOn u g p → IsOfEntry p (changed_entry_of c (entry_at h u g))) d.0 gref.0 change p.held.dom.0 p.held.gref.0
     (λ on. change-fits h d.0 gref.0 change p (of-safe s h (exchanged d gref looked change a) _ _ (open_call h d.0) right) (λ reads writes. none-on h d.0 gref.0 reads writes k b lt) on
     (subst (λ (u : ℕ). IsOfEntry p (entry_at h u gref.0)) on.0 (subst (λ (g : ℕ). IsOfEntry p (entry_at h p.held.dom.0 g)) on.1 (was k b lt))))
     (λ on. was k b lt) (refl, refl)
@@ -209,7 +209,7 @@ entries-out : (d : DomId) (x : Happened) (a : Option Answer) (h : History) (t f 
     (Grants t f i → ⊥) → ((r : ℕ) → is_of_frame (entry_at h t r) f ≡ false) → is_of_frame (entry_at (i ∷ h) t r) f ≡ false
 unfolding entry_at
 entries-out d (Stepped (Exchange gref looked change) Taken) a h t f r silent was =
-    at-change (λ (u g : ℕ) (c : Option Change). u ≡ t → is_of_frame (entry_after c (entry_at h u g)) f ≡ false) d.0 gref.0 change t r
+    at-change (λ (u g : ℕ) (c : Option Change). u ≡ t → is_of_frame (changed_entry_of c (entry_at h u g)) f ≡ false) d.0 gref.0 change t r
     (λ own. change-out change (entry_at h d.0 gref.0) f (granted change silent own) (subst (λ (u : ℕ). is_of_frame (entry_at h u gref.0) f ≡ false) (sym own) (was gref.0)))
     (λ own. was r) refl
   where

@@ -6,12 +6,13 @@ use Rattle.gt_core.proofs.Words.{GrantRef, Denial, Change, Held, Pins, Asked, By
 use Rattle.gt_core.proofs.Words.{Missed, Verdict, Granted, KeptPin, Step, PinStep, Unpin, StoreBody, StoreHeader}
 use Rattle.gt_core.proofs.Words.{Exchange, ReadBytes, WriteBytes, CopyBytes, Action, Makes, Done, Call, Phase, Ending}
 use Rattle.gt_core.proofs.Words.{last_first, no_pins, CallerKnowledge, knowledge_of, path, Rests, phase_after}
-use Rattle.gt_core.proofs.Words.{action_at, next_to_give, StandsAt, pins_at, held_in, Goes, GoesOn, steps_left, Open}
+use Rattle.gt_core.proofs.Words.{action_at, next_to_give, StandsAt, pins_at, held_in, Goes, GoesOnWith, steps_left}
+use Rattle.gt_core.proofs.Words.{Open}
 use Rattle.gt_core.proofs.Words.{Answer, State, state_of, sees, History, Setting, Pin, entry_at, word_at, known_at}
 use Rattle.gt_core.proofs.Words.{legs_at, seen_by, Underway, values, open_call, underway_after, holder_after}
 use Rattle.gt_core.proofs.Words.{one_if_mapped, StepsSoFar, StepsRight, Justified, IsSafe, PinIsSound, AnsweredBy}
 use Rattle.gt_core.proofs.Words.{GivesValue, LeavesAll, gives_back, verdict_in, refusal_in, refusal_of, refusal_if}
-use Rattle.gt_core.proofs.Words.{option_or, first_of_item, first_in_call, stood, most_steps, DomainsStand, Agrees}
+use Rattle.gt_core.proofs.Words.{option_or, first_of_item, first_in_call, stood, most_steps, DomainsStand, StateStands}
 use Rattle.gt_core.proofs.Words.{OpenAgrees, GivenAgrees, FitsGiven, PhaseStands, IsClean, phase_refusal, numbered}
 use Rattle.gt_core.proofs.Words.{exchange_sees, gather, by_leg, reverse-append, FitsNext, HoldsAfter, cond_both}
 use Rattle.gt_core.proofs.Words.{IsLegalHistory}
@@ -37,7 +38,7 @@ call_at d r phase = record { caller = d; request = r; phase = Some phase }
 -- what is known of a step of an open call, which saw what the history left
 pub record Ticks (s : Setting) (h : History) (xs : List State) (x : State) (o : Open) (c : Underway) (new : Call) (action : Action) : Type 0 where
   pub here : state_of xs x.id.0 ≡ Some x
-  pub agrees : Agrees s h x
+  pub agrees : StateStands s h x
   pub call : open_call h x.id.0 ≡ Some c
   pub stands : OpenAgrees s h x.id o c
   pub i : IsHere s h xs x.id c.request (values c) (reverse c.steps) stands.phase o.step
@@ -47,7 +48,7 @@ pub record Ticks (s : Setting) (h : History) (xs : List State) (x : State) (o : 
   pub acts : action ≡ action_at x.id (next_of s h x.id stands.phase o.step)
   pub holds : HoldsAfter o.step (seen_by s h x.id o.step) (held_in stands.phase) (held_in (next_of s h x.id stands.phase o.step)) action
 
-pub ticks : (s : Setting) (h : History) (xs : List State) (x : State) (o : Open) (c : Underway) (seen : Seen) (new : Call) (action : Action) → IsLegalHistory s h → DomainsStand s h xs → state_of xs x.id.0 ≡ Some x → Agrees s h x → open_call h x.id.0 ≡ Some c
+pub ticks : (s : Setting) (h : History) (xs : List State) (x : State) (o : Open) (c : Underway) (seen : Seen) (new : Call) (action : Action) → IsLegalHistory s h → DomainsStand s h xs → state_of xs x.id.0 ≡ Some x → StateStands s h x → open_call h x.id.0 ≡ Some c
     → OpenAgrees s h x.id o c → seen ≡ sees xs x.id o.step → new.caller ≡ o.call.caller → new.request ≡ o.call.request
     → Goes (knowledge_of s.domains s.first_generation s.may x.own x.header x.mappings) o.call seen new action → (seen ≡ seen_by s h x.id o.step) × Ticks s h xs x o c new action
 ticks s h xs x o c seen new action legal st here agrees call a saw caller asks goes = let k = known_at s h x.id in
@@ -200,7 +201,7 @@ module _ {s : Setting} {h : History} {xs : List State} {x : State} {o : Open} {c
         here = ap (λ (z : Call). z.phase) t.new_is;
         at = subst (λ (k : CallerKnowledge). StandsAt k x.id c.request (values u) (phase_then t)) (sym known-after) (subst (λ (vs : List Seen). StandsAt (known_at s h x.id) x.id c.request vs (phase_then t)) shown t.on.at);
         acts = sym t.acts;
-        follows = subst (λ (k : CallerKnowledge). GoesOn k x.id c.request (values u) (Makes z)) (sym known-after) (subst (λ (vs : List Seen). GoesOn (known_at s h x.id) x.id c.request vs (Makes z)) shown t.on.follows);
+        follows = subst (λ (k : CallerKnowledge). GoesOnWith k x.id c.request (values u) (Makes z)) (sym known-after) (subst (λ (vs : List Seen). GoesOnWith (known_at s h x.id) x.id c.request vs (Makes z)) shown t.on.follows);
         rests = subst (λ (k : CallerKnowledge). Rests k x.id c.request (pins_at (phase_then t)) (values u) (Makes z)) (sym known-after)
             (subst (λ (vs : List Seen). Rests (known_at s h x.id) x.id c.request (pins_at (phase_then t)) vs (Makes z)) shown t.on.rests);
         place = subst (λ (so_far : StepsSoFar). PhaseStands s (history_then t None) x.id c.request so_far (phase_then t)) (sym (reverse-append c.steps ((o.step, seen_in t) ∷ []))) (place-after t);

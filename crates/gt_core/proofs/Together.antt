@@ -9,9 +9,9 @@ use Rattle.gt_core.proofs.Words.{ReadBytes, Action, Makes, Verdict, Answer, Even
 use Rattle.gt_core.proofs.Words.{Stepped, Item, Element, Busy, Idle, NoDomain, Did, History, Setting, Underway}
 use Rattle.gt_core.proofs.Words.{open_call, values, known_at, seen_by, exchange_sees, table_at, maps_answered_at}
 use Rattle.gt_core.proofs.Words.{contents_at, mappings_at, mapping_of, MayDo, IsRight, StepsRight, AnsweredBy}
-use Rattle.gt_core.proofs.Words.{refusal_in, verdict_in, bare_handle, bare_request, bare_event, bare_step, told}
+use Rattle.gt_core.proofs.Words.{refusal_in, verdict_in, bare_handle, bare_request, bare_event, bare_step, told_part}
 use Rattle.gt_core.proofs.Words.{told_item, ToldItem, AsksKnown, IsOfKnown, IsRun, Ends, BeginsRight, grown, told_items}
-use Rattle.gt_core.proofs.Words.{SameHistory, HappensKnown, AreAlike, IsOf, SameEvent, SameElement, arith}
+use Rattle.gt_core.proofs.Words.{SameHistory, HappensKnown, AreAlike, IsItemOf, SameEvent, SameElement, arith}
 use Rattle.gt_core.{proofs.Pins.word-bare, proofs.Pins.mapping-bare, proofs.Pins.known-bare, proofs.Bare.bare}
 use Rattle.gt_core.{proofs.Bare.bared, proofs.Bare.bare_asked, proofs.Bare.bare_call, proofs.Bare.asked-bare}
 use Rattle.gt_core.{proofs.Bare.values-bare, proofs.Bare.contents-bare, proofs.Bare.bare-same, proofs.Given.CallKnown}
@@ -90,7 +90,7 @@ answer_told s h d r step None = None
 answer_told s h d r step (Some v) = told_by (refusal_in (Some v)) (value_told s h d r step)
 
 answer-told : (s : Setting) (h : History) (d : DomId) (r : Asked) (step : Option Step) (giving : Bool) (v : Option Verdict) (a : Option Answer) (against : Option Denial)
-    → AnsweredBy s h d r step giving v a against → option_map told a ≡ answer_told s h d r step v
+    → AnsweredBy s h d r step giving v a against → option_map told_part a ≡ answer_told s h d r step v
 answer-told s h d r step giving v a against is = grind arith
 
 answer-at : (s : Setting) (h : History) (d : DomId) (r : Asked) (step : Option Step) (v : Option Verdict) → answer_told s (bare h) d (bare_asked r) step v ≡ answer_told s h d r step v
@@ -200,10 +200,10 @@ does-alike s g h e f one other alike same j k m n = same-element one other
     ∙ ap (λ (l : History). doing s l (bare_event e)) (bare-same g h alike.same) ∙ ap (doing s (bare h)) same
     ∙ does-bare s h f alike.second k ∙ sym (does s h f other n))
 
-item-known : (h : History) (e : Event) (actor : DomId) (x : Happened) (a : Option Answer) → IsOfKnown h e → IsOf e (record { actor = actor; happened = x; answer = a }) → HappensKnown h (record { actor = actor; happened = x; answer = a })
+item-known : (h : History) (e : Event) (actor : DomId) (x : Happened) (a : Option Answer) → IsOfKnown h e → IsItemOf e (record { actor = actor; happened = x; answer = a }) → HappensKnown h (record { actor = actor; happened = x; answer = a })
 item-known h e actor x a k is = grind arith
 
-done-right : (s : Setting) (h : History) (e : Event) (i : Item) → MayDo s h e (Did i) → IsOf e i × IsRight s h i
+done-right : (s : Setting) (h : History) (e : Event) (i : Item) → MayDo s h e (Did i) → IsItemOf e i × IsRight s h i
 done-right s h e i m = grind arith
 
 run-grows : (s : Setting) (h : History) (e : Event) (i : Item) → IsRun s h → IsOfKnown h e → MayDo s h e (Did i) → IsRun s (i ∷ h)

@@ -6,7 +6,7 @@ use Rattle.gt_core.proofs.Words.{Seen, Taken, Missed, Verdict, Granted, Given, R
 use Rattle.gt_core.proofs.Words.{Unpin, StoreBody, Exchange, ReadBytes, Action, Makes, Done, Aim, Mapping, AsksSize}
 use Rattle.gt_core.proofs.Words.{AsksVersion, Phase, Storing, StoringSecond, Exchanging, Looking, Changing, Walking}
 use Rattle.gt_core.proofs.Words.{Accessing, Asking, Last, Ending, Leg, LegPhase, Pinning, Pinned, last_first}
-use Rattle.gt_core.proofs.Words.{pins_so_far, CallerKnowledge, path, held_of, is_stopped, Continuation, IsFor}
+use Rattle.gt_core.proofs.Words.{pins_so_far, CallerKnowledge, path, held_of, is_stopped, Continuation, IsLegFor}
 use Rattle.gt_core.proofs.Words.{RestsOnWord, RestsOnRequest, phase_after, action_at, leg_after, leg_step, after_store}
 use Rattle.gt_core.proofs.Words.{refused_as, next_to_give, HasShown, IsQuiet, IsTurn, held_in, AnswerDone, State}
 use Rattle.gt_core.proofs.Words.{History, Setting, word_at, table_at, known_at, seen_by, StepsSoFar, GivesValue}
@@ -78,7 +78,7 @@ at-end Q a v q e = subst (AtEnd Q) e q
 copy-end : (Q : Verdict → Type 0) (v : Verdict) → EndsCopy v → Plain Q → Q v
 copy-end Q v e plain = grind arith
 
-pinned-leg : (s : Setting) (h : History) (d : DomId) (r : Asked) (so_far : StepsSoFar) (aim : Aim) (l : Leg) (at : LegPhase) (m : Held) → Words s h l → IsFor (known_at s h d) d r aim l → IsLegOf s h d r l (pair_of d aim) → LegStands s h l so_far at
+pinned-leg : (s : Setting) (h : History) (d : DomId) (r : Asked) (so_far : StepsSoFar) (aim : Aim) (l : Leg) (at : LegPhase) (m : Held) → Words s h l → IsLegFor (known_at s h d) d r aim l → IsLegOf s h d r l (pair_of d aim) → LegStands s h l so_far at
     → leg_after l at (seen_by s h d (leg_step l at)) ≡ Pinned m → (leg_step l at ≡ PinStep m) × (word_at s h m.dom.0 m.gref.0 ≡ m.word)
 pinned-leg s h d r so_far aim l (Pinning more word body second) m ws is leg a e = by (word_at s h l.dom.0 l.gref.0 == word) refl where
   q : Held
@@ -92,7 +92,7 @@ pinned-leg s h d r so_far aim l (Pinning more word body second) m ws is leg a e 
   by false same = absurd (subst (ComesTo s h l _ _) e (walk-comes s h d r so_far aim l (Pinning more word body second) ws is leg a same))
 pinned-leg s h d r so_far aim l at m ws is leg a e = absurd (subst (ComesTo s h l _ _) e (walk-comes s h d r so_far aim l at ws is leg a tt))
 
-of-map : (k : CallerKnowledge) (d : DomId) (r : Asked) (aim : Aim) (l : Leg) → IsFor k d r aim l → aim ≡ Mapping → (dom : DomId) × (gref : GrantRef) × (flags : ℕ) × (r ≡ Map dom gref flags)
+of-map : (k : CallerKnowledge) (d : DomId) (r : Asked) (aim : Aim) (l : Leg) → IsLegFor k d r aim l → aim ≡ Mapping → (dom : DomId) × (gref : GrantRef) × (flags : ℕ) × (r ≡ Map dom gref flags)
 of-map k d r aim l a is = grind arith
 
 -- a call that stands here, and is over after its step, ends so
@@ -111,7 +111,7 @@ call-ends s h xs d r shown so_far phase step i = subst (OfAction (Led phase)) i.
   led : (p : Phase) (z : Step) → AtEnd (EndsWith s h d r p z) (action_at d (next_of s h d p z)) → Led p z
   led p z q v n = at-end (EndsWith s h d r p z) _ v q n
 
-  walked : (aim : Aim) (l : Leg) (at : LegPhase) (v : Verdict) → IsFor k d r aim l → IsLegOf s h d r l (pair_of d aim) → LegStands s h l so_far at
+  walked : (aim : Aim) (l : Leg) (at : LegPhase) (v : Verdict) → IsLegFor k d r aim l → IsLegOf s h d r l (pair_of d aim) → LegStands s h l so_far at
       → ((denial : Denial) × (v ≡ Refused denial)) ⊎ ((p : Held) × (v ≡ Mapped p) × (leg_after l at (seen_by s h d (leg_step l at)) ≡ Pinned p) × (aim ≡ Mapping)) → EndsWith s h d r (Walking aim l at) (leg_step l at) v
   walked aim l at v is leg stands (inl x) = subst (EndsWith s h d r (Walking aim l at) (leg_step l at)) (sym x.1) tt
   walked aim l at v is leg stands (inr x) = let g = pinned-leg s h d r so_far aim l at x.0 (words-of s h xs l i.legal i.st) is leg stands x.2 in let map = of-map k d r aim l is x.3 in subst (EndsWith s h d r (Walking aim l at) (leg_step l at)) (sym x.1)

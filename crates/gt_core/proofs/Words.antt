@@ -77,9 +77,9 @@ pub use Rattle.gt_frames.specs.{Sets.FrameSet, Sets.WritesTo, Sets.admits, Sets.
 pub use Rattle.gt_frames.specs.{Sets.has_frame, Sets.has_range, Sets.journal_in, declared.places.FrameName.FrameName}
 pub use Rattle.gt_frames.specs.{declared.writ.Writ.Writ, declared.writ.WriteRecord.WriteRecord}
 unfoldable pub use Rattle.gt_frames.specs.Bytes.{zeros}
-pub use Rattle.gt_calls.specs.{Asking.IsSaid, Asking.asked, Asking.begun_of, Asking.given_by, Counting.most_steps}
+pub use Rattle.gt_calls.specs.{Asking.IsSaid, Asking.asked, Asking.begun_of, Asking.bytes_given_by, Counting.most_steps}
 pub use Rattle.gt_calls.specs.{Counting.steps_left, Counting.steps_to_come, Following.FitsNext, Following.Goes}
-pub use Rattle.gt_calls.specs.{Following.GoesOn, Following.HoldsAfter, Following.Starts, Holding.begun_route}
+pub use Rattle.gt_calls.specs.{Following.GoesOnWith, Following.HoldsAfter, Following.Starts, Holding.begun_route}
 pub use Rattle.gt_calls.specs.{Holding.held_by, Holding.last_first, Holding.no_pins, Holding.owner_by}
 pub use Rattle.gt_calls.specs.{Holding.pins_so_far, Holding.without_last, Machine.action_at, Machine.after_dest_pin}
 pub use Rattle.gt_calls.specs.{Machine.after_leg, Legs.after_look, Legs.after_miss, Machine.after_pin_of}
@@ -89,14 +89,14 @@ pub use Rattle.gt_calls.specs.{Machine.phase_after, Machine.refused_as, Machine.
 pub use Rattle.gt_calls.specs.{Opening.holds-first, Opening.opens, Path.Continuation, Path.FitsStep, Path.IsExchanged}
 pub use Rattle.gt_calls.specs.{Path.after_beginning, Path.dest_pair, Path.end_leg, Path.entry_refusal, Path.held_of}
 pub use Rattle.gt_calls.specs.{Path.idle_word, Path.is_stopped, Path.map_leg, Path.path, Path.rule_of_try}
-pub use Rattle.gt_calls.specs.{Path.second_leg, Path.source_pair, Path.steps_of, Resting.IsFor, Resting.IsMapped}
+pub use Rattle.gt_calls.specs.{Path.second_leg, Path.source_pair, Path.steps_of, Resting.IsLegFor, Resting.IsMapped}
 pub use Rattle.gt_calls.specs.{Resting.IsOnFrom, Resting.IsPermitted, Resting.IsReached, Resting.IsToward}
-pub use Rattle.gt_calls.specs.{Resting.LeadsTo, Resting.Lets, Resting.Rests, Resting.RestsOnGrant}
+pub use Rattle.gt_calls.specs.{Resting.GivesHeld, Resting.Lets, Resting.Rests, Resting.RestsOnGrant}
 pub use Rattle.gt_calls.specs.{Resting.RestsOnRequest, Resting.RestsOnTry, Resting.RestsOnWays, Resting.RestsOnWord}
 pub use Rattle.gt_calls.specs.{Rules.CallerKnowledge, Rules.before_pin, Rules.begun, Rules.control_with}
 pub use Rattle.gt_calls.specs.{Rules.copy_denied, Rules.denied, Rules.entry_in, Rules.first, Rules.first_look}
-pub use Rattle.gt_calls.specs.{Rules.frames_of, Rules.generation_in, Rules.is_dest_granted, Rules.is_kind}
-pub use Rattle.gt_calls.specs.{Rules.is_outside, Rules.is_past_owner, Rules.is_source_granted, Rules.knowledge_of}
+pub use Rattle.gt_calls.specs.{Rules.frame_count_of, Rules.own_generation, Rules.is_dest_granted, Rules.is_kind}
+pub use Rattle.gt_calls.specs.{Rules.is_outside_sub, Rules.is_past_owner, Rules.is_source_granted, Rules.knowledge_of}
 pub use Rattle.gt_calls.specs.{Rules.knows, Rules.map_dir, Rules.pins_of, Rules.refused_when, Rules.rights_to_copy}
 pub use Rattle.gt_calls.specs.{Rules.row_entry, Rules.row_generation, Rules.second_body, Rules.size_of, Rules.stands}
 pub use Rattle.gt_calls.specs.{Rules.via_judged, Standing.HasShown, Standing.IsAt, Standing.IsQuiet, Standing.IsTurn}
@@ -156,17 +156,18 @@ pub use Rattle.gt_calls.specs.{declared.request.Holder.TheVariants.Mapping as By
 pub use Rattle.gt_calls.specs.{declared.request.Request.Request, declared.call.Start.TheVariants.Open as StartOpen}
 pub use Rattle.gt_calls.specs.{declared.call.Start.Start}
 pub use Rattle.gt_core.specs.{Accesses.AccessedBy, Accesses.IsAdmitted, Accesses.IsLoadOf, Accesses.IsReadable}
-pub use Rattle.gt_core.specs.{Accesses.IsWritOf, Accesses.IsWriting, Accesses.ground_of, Accesses.name_of}
+pub use Rattle.gt_core.specs.{Accesses.IsWritOf, Accesses.IsWriting, Accesses.ground_of, Accesses.frame_name_at}
 pub use Rattle.gt_core.specs.{Accesses.route_of, Alike.AreAlike, Alike.AsksKnown, Alike.HappensKnown, Alike.IsKnown}
 pub use Rattle.gt_core.specs.{Alike.IsOfKnown, Alike.SameElement, Alike.SameEvent, Alike.SameHistory, Alike.ToldItem}
 pub use Rattle.gt_core.specs.{Alike.bare_event, Alike.bare_handle, Alike.bare_happened, Alike.bare_request}
-pub use Rattle.gt_core.specs.{Alike.bare_step, Alike.told, Alike.told_item, Effects.Adds, Effects.applied}
-pub use Rattle.gt_core.specs.{Effects.own_after, Effects.slot_after, Effects.taken, Effects.with_call}
+pub use Rattle.gt_core.specs.{Alike.bare_step, Alike.told_part, Alike.told_item, Effects.Adds, Effects.applied}
+pub use Rattle.gt_core.specs.{Effects.own_after, Effects.slot_after, Effects.handle_taken, Effects.with_open_call}
 pub use Rattle.gt_core.specs.{Effects.with_header, Effects.with_mapping, Effects.with_own, Effects.with_slot}
-pub use Rattle.gt_core.specs.{Effects.with_underway, Effects.without_mapping, History.History, History.Pin}
-pub use Rattle.gt_core.specs.{History.Setting, History.Underway, History.Writing, History.by_leg, History.by_mapping}
+pub use Rattle.gt_core.specs.{Effects.with_underway, Effects.without_holder, History.History, History.Pin}
+pub use Rattle.gt_core.specs.{History.Setting, History.Underway, History.WriteMade, History.by_leg}
+pub use Rattle.gt_core.specs.{History.mapping_named}
 pub use Rattle.gt_core.specs.{History.change_at, History.change_of, History.contents_at, History.control_at}
-pub use Rattle.gt_core.specs.{History.entry_after, History.exchange_sees, History.generation_at, History.given_in}
+pub use Rattle.gt_core.specs.{History.changed_entry_of, History.exchange_sees, History.generation_at, History.given_in}
 pub use Rattle.gt_core.specs.{History.header_from, History.header_or, History.header_stored, History.holder_after}
 pub use Rattle.gt_core.specs.{History.is_holder, History.is_pin_on, History.known_at, History.legs_at}
 pub use Rattle.gt_core.specs.{History.mapping_of, History.mappings_at, History.one_if_mapped, History.or_else}
@@ -174,35 +175,44 @@ pub use Rattle.gt_core.specs.{History.patches_by, History.pinned_by, History.rai
 pub use Rattle.gt_core.specs.{History.reads_at, History.same_dir, History.same_handle, History.seen_by}
 pub use Rattle.gt_core.specs.{History.stored_at, History.underway_after, History.underway_with, History.unpinned_by}
 pub use Rattle.gt_core.specs.{History.values, History.word_at, History.writes_at, History.written_by, Legal.AnsweredBy}
-pub use Rattle.gt_core.specs.{Legal.BeginsRight, Justified.CopyIsJustified, Justified.EndIsJustified, Justified.Forwards}
-pub use Rattle.gt_core.specs.{Legal.GivesValue, Justified.IsInFrame, Legal.IsOf, Legal.IsRight, Justified.IsSafe}
-pub use Rattle.gt_core.specs.{Justified.IsSafeChange, Legal.IsSpelled, Justified.Justified, Legal.LeavesAll, FirstRule.LegNow}
+pub use Rattle.gt_core.specs.{Legal.BeginsRight, Justified.CopyIsJustified, Justified.EndIsJustified}
+pub use Rattle.gt_core.specs.{Justified.Forwards}
+pub use Rattle.gt_core.specs.{Legal.GivesValue, Justified.IsInFrame, Legal.IsItemOf, Legal.IsRight, Justified.IsSafe}
+pub use Rattle.gt_core.specs.{Justified.IsSafeChange, Legal.IsSpelled, Justified.Justified, Legal.LeavesAll}
+pub use Rattle.gt_core.specs.{FirstRule.LegNow}
 pub use Rattle.gt_core.specs.{Legal.LegalAfter, Justified.MayAsk, Justified.MayCopy, Legal.MayDo, Justified.MayUse}
-pub use Rattle.gt_core.specs.{Justified.MayUseMapping, Legal.NoneStands, Legal.PinIsSound, Justified.Reaches, Legal.StepsRight}
-pub use Rattle.gt_core.specs.{Legal.StepsRightIn, FirstRule.StepsSoFar, FirstRule.after_source, FirstRule.at_entry, FirstRule.copy_now}
+pub use Rattle.gt_core.specs.{Justified.MayUseMapping, Legal.NoneStands, Legal.PinIsSound, Justified.Reaches}
+pub use Rattle.gt_core.specs.{Legal.StepsRight}
+pub use Rattle.gt_core.specs.{Legal.StepsRightIn, FirstRule.StepsSoFar, FirstRule.after_source, FirstRule.at_entry}
+pub use Rattle.gt_core.specs.{FirstRule.copy_now}
 pub use Rattle.gt_core.specs.{FirstRule.dest_now, FirstRule.first_at, FirstRule.first_in_call, FirstRule.first_of_item}
-pub use Rattle.gt_core.specs.{FirstRule.from_source, Legal.gives_back, Legal.grown, Legal.history_after, FirstRule.is_demote}
-pub use Rattle.gt_core.specs.{FirstRule.is_in_body, FirstRule.is_other, FirstRule.leg_at, FirstRule.leg_now, Legal.refusal_if}
+pub use Rattle.gt_core.specs.{FirstRule.from_source, Legal.gives_back, Legal.grown, Legal.history_after}
+pub use Rattle.gt_core.specs.{FirstRule.is_demote}
+pub use Rattle.gt_core.specs.{FirstRule.is_in_body, FirstRule.is_other, FirstRule.leg_at, FirstRule.leg_now}
+pub use Rattle.gt_core.specs.{Legal.refusal_if}
 pub use Rattle.gt_core.specs.{FirstRule.refusal_in, Legal.refusal_of, FirstRule.rule_at_header, FirstRule.rule_at_look}
-pub use Rattle.gt_core.specs.{FirstRule.rule_at_pin, FirstRule.rule_at_via, FirstRule.rule_before_pin, FirstRule.second_now}
+pub use Rattle.gt_core.specs.{FirstRule.rule_at_pin, FirstRule.rule_at_via, FirstRule.rule_before_pin}
+pub use Rattle.gt_core.specs.{FirstRule.second_now}
 pub use Rattle.gt_core.specs.{FirstRule.source_now, FirstRule.stood_with, FirstRule.toward_source, Legal.verdict_in}
 pub use Rattle.gt_core.specs.{Rows.changed_at, Shown.entry_shown, Shown.shown_at, Shown.shown_in, Sight.body_in}
 pub use Rattle.gt_core.specs.{Sight.body_seen, Sight.control_in, Sight.control_seen, Sight.header_seen, Sight.reads_in}
 pub use Rattle.gt_core.specs.{Sight.sees, Sight.slot_body, Sight.slot_reads, Sight.slot_writes, Sight.writes_in}
-pub use Rattle.gt_core.specs.{Standing.Agrees, Standing.AreApart, Phases.Asks, Standing.CallAgrees, Acting.Closed}
-pub use Rattle.gt_core.specs.{Standing.CoreStands, Standing.Does, Standing.DoesAlone, Standing.DomainsStand}
+pub use Rattle.gt_core.specs.{Standing.StateStands, Standing.AreApart, Phases.AsksTable, Standing.CallAgrees}
+pub use Rattle.gt_core.specs.{Acting.Closed}
+pub use Rattle.gt_core.specs.{Standing.CoreStands, Standing.DoesEvent, Standing.DoesAlone, Standing.DomainsStand}
 pub use Rattle.gt_core.specs.{Phases.EndsAfter, Phases.EndsCopy, Standing.FitsAsked, Standing.FitsGiven}
 pub use Rattle.gt_core.specs.{Standing.FitsTable, Standing.FitsWord, Standing.FramesStand, Standing.GivenAgrees}
-pub use Rattle.gt_core.specs.{Phases.HasLooked, Phases.HasRead, Phases.IsClean, Standing.IsLawful}
-pub use Rattle.gt_core.specs.{Standing.IsLawfullyHeld, Acting.IsOpened, Acting.IsRoomFor, Phases.IsShown}
+pub use Rattle.gt_core.specs.{Phases.LegHasLooked, Phases.LegHasRead, Phases.IsClean, Standing.IsLawfulPin}
+pub use Rattle.gt_core.specs.{Standing.IsLawfullyHeld, Acting.IsOpenCall, Acting.IsRoomFor, Phases.IsShown}
 pub use Rattle.gt_core.specs.{Acting.IsWritingNext, Phases.LegStands, Standing.MappingsAgree, Standing.OpenAgrees}
-pub use Rattle.gt_core.specs.{Acting.Opens, Phases.PhaseStands, Acting.Settled, Standing.SlotAgrees}
+pub use Rattle.gt_core.specs.{Acting.OpensAs, Phases.PhaseStands, Acting.Settled, Standing.SlotAgrees}
 pub use Rattle.gt_core.specs.{Standing.StandsForSome, Standing.StateAgrees, Acting.WantsMemory}
 pub use Rattle.gt_core.specs.{Acting.WantsMemoryNow, Phases.WhileSame, Acting.answer_of, Acting.answer_with}
 pub use Rattle.gt_core.specs.{Acting.begun_element, Standing.core_of, Phases.numbered, Phases.phase_refusal}
 pub use Rattle.gt_core.specs.{Acting.setting_of, Acting.ticked_element, Acting.ticked_with, States.CoreState}
 pub use Rattle.gt_core.specs.{States.IsLoading, States.IsMapping, States.State, States.asked_in, States.asks_memory}
-pub use Rattle.gt_core.specs.{States.changed_in, States.first_state, States.kept_by, States.state_of, Subject.place_of}
+pub use Rattle.gt_core.specs.{States.changed_in, States.first_state, States.kept_by, States.state_of}
+pub use Rattle.gt_core.specs.{Subject.entry_place_of}
 pub use Rattle.gt_core.specs.{Subject.subject_at, declared.core_state.Begun.Begun, declared.core_state.Ticked.Ticked}
 pub use Rattle.gt_core.specs.{declared.core_state.Ticked.Ticked as TickTold}
 pub use Rattle.gt_core.specs.{declared.pin_counts.CountsChange.TheVariants.Stored}

@@ -22,8 +22,8 @@ use Rattle.gt_frames.specs.Sets.{FrameSet, frame_at, has_range, admits, AreKept,
 use Rattle.gt_core.specs.States.{State}
 
 -- the name of the frame of a place
-abbrev pub name_of : Place → FrameName
-name_of at = record { owner = at.owner; number = at.frame }
+abbrev pub frame_name_at : Place → FrameName
+frame_name_at at = record { owner = at.owner; number = at.frame }
 
 -- the ground of a write by a route: the frame is the writer's own, or the entries of the route's pins let it
 abbrev pub ground_of : Route → Ground
@@ -69,8 +69,8 @@ IsAdmitted fs d call (WriteBytes dom frame off len) =
     (w : Writ) → IsWritOf d call w
     → IsTrue (admits fs (record { owner = dom; number = frame }) w off (length d.given))
 IsAdmitted fs d call (CopyBytes from to len) =
-    IsTrue (has_range fs (name_of from) from.off len)
-    × ((w : Writ) → IsWritOf d call w → IsTrue (admits fs (name_of to) w to.off len))
+    IsTrue (has_range fs (frame_name_at from) from.off len)
+    × ((w : Writ) → IsWritOf d call w → IsTrue (admits fs (frame_name_at to) w to.off len))
 IsAdmitted fs d call step = Unit {0}
 
 -- the frames after the domain's call writes these bytes to one of them, by its writ
@@ -84,5 +84,5 @@ abbrev pub AccessedBy : State → Call → Step → FrameSet → FrameSet → Ty
 AccessedBy d call (WriteBytes dom frame off len) old new =
     WritesByRight d call old new (record { owner = dom; number = frame }) off d.given
 AccessedBy d call (CopyBytes from to len) old new =
-    WritesByRight d call old new (name_of to) to.off (bytes_at (frame_at old (name_of from)) from.off len)
+    WritesByRight d call old new (frame_name_at to) to.off (bytes_at (frame_at old (frame_name_at from)) from.off len)
 AccessedBy d call step old new = new ≡ old

@@ -8,7 +8,7 @@ use Rattle.gt_core.specs.Prelude.{FramesAnswer, SizeAnswer, VersionAnswer, Handl
 use Rattle.gt_core.specs.Prelude.{frame_at, HandleMap, Held, set, Began, Stepped, Element, Busy, Idle, NoDomain, Did}
 use Rattle.gt_core.specs.Prelude.{Open, Begun, BegunOpen, BegunDone, BegunBusy, BegunNoDomain, Ticked, TickedStep}
 use Rattle.gt_core.specs.Prelude.{TickedDone, TickedIdle, TickedNoDomain, Machine, Opening, OpeningOpen, OpeningDone}
-use Rattle.gt_core.specs.Prelude.{CallerKnowledge, knowledge_of, begun, path, GoesOn, first_phase, action_at, Rests}
+use Rattle.gt_core.specs.Prelude.{CallerKnowledge, knowledge_of, begun, path, GoesOnWith, first_phase, action_at, Rests}
 use Rattle.gt_core.specs.Prelude.{IsAt, pins_by_call, most_steps, steps_to_come}
 use Rattle.gt_core.specs.declared.trace.Bytes.{Bytes}
 use Rattle.gt_core.specs.Effects.{with_underway, with_mapping, Adds}
@@ -17,7 +17,7 @@ use Rattle.gt_core.specs.States.{State, CoreState, core_of, asks_memory, IsMappi
 use Rattle.gt_core.specs.History.{History, Setting, known_at, Underway, open_call, values}
 
 -- a call opens so: no rule stands at its beginning, and it is about to make its first step
-pub record IsOpened (k : CallerKnowledge) (dom : DomId) (request : Request) (o : Open) : Type 0 where
+pub record IsOpenCall (k : CallerKnowledge) (dom : DomId) (request : Request) (o : Open) : Type 0 where
   pub unanswered : begun_of k dom request ≡ None
   pub said : IsSaid k.header request
   pub caller : o.call.caller ≡ dom
@@ -26,14 +26,14 @@ pub record IsOpened (k : CallerKnowledge) (dom : DomId) (request : Request) (o :
   pub phase : o.call.phase ≡ Some (first_phase k dom (asked request))
   pub at : IsAt k o.call []
   pub acts : action_at dom (first_phase k dom (asked request)) ≡ Makes o.step
-  pub follows : GoesOn k dom (asked request) [] (Makes o.step)
+  pub follows : GoesOnWith k dom (asked request) [] (Makes o.step)
   pub rests : Rests k dom (asked request) (pins_by_call o.call) [] (Makes o.step)
   pub few : steps_to_come o.call ≤ most_steps (asked request)
 
 -- a call begins so: with an answer, or with a first step
-abbrev pub Opens : CallerKnowledge → DomId → Request → Opening → Type 0
-Opens k dom request (OpeningDone verdict) = begun_of k dom request ≡ Some verdict
-Opens k dom request (OpeningOpen o) = IsOpened k dom request o
+abbrev pub OpensAs : CallerKnowledge → DomId → Request → Opening → Type 0
+OpensAs k dom request (OpeningDone verdict) = begun_of k dom request ≡ Some verdict
+OpensAs k dom request (OpeningOpen o) = IsOpenCall k dom request o
 
 -- the answer with this value
 abbrev pub answer_with : Value → Answer

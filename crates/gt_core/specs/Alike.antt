@@ -42,10 +42,10 @@ bare_happened (Began request) = Began (bare_request request)
 bare_happened (Stepped step seen) = Stepped (bare_step step) seen
 
 -- what an answer says: its bytes, or the answer itself, without a key
-abbrev pub told : Answer → Answer ⊎ List ℕ
-told (Mapped handle) = inl (Mapped (bare_handle handle))
-told (Bytes b) = inr b.bytes.items
-told answer = inl answer
+abbrev pub told_part : Answer → Answer ⊎ List ℕ
+told_part (Mapped handle) = inl (Mapped (bare_handle handle))
+told_part (Bytes b) = inr b.bytes.items
+told_part answer = inl answer
 
 -- what an item says but for keys: its domain, what happened, and what its answer says
 pub record ToldItem : Type 0 where
@@ -55,7 +55,7 @@ pub record ToldItem : Type 0 where
 
 -- that of this item
 abbrev pub told_item : Item → ToldItem
-told_item i = record { actor = i.actor; happened = bare_happened i.happened; answer = option_map told i.answer }
+told_item i = record { actor = i.actor; happened = bare_happened i.happened; answer = option_map told_part i.answer }
 
 -- what the items say, each
 unfoldable pub told_items : History → List ToldItem

@@ -35,8 +35,8 @@ abbrev pub with_underway : Option Open → State → State
 with_underway underway x = record x { underway = underway }
 
 -- the state with this call under way, and the bytes given to it
-abbrev pub with_call : Open → List ℕ → State → State
-with_call call given x = record x { underway = Some call; given = given }
+abbrev pub with_open_call : Open → List ℕ → State → State
+with_open_call call given x = record x { underway = Some call; given = given }
 
 -- these handles are the old ones and a new one, under the next serial, which names this mapping
 pub record Adds (old new : HandleMap Held) (handle : Handle) (m : Held) : Type 0 where
@@ -51,21 +51,21 @@ abbrev pub with_mapping : HandleMap Held → State → State
 with_mapping mappings x = record x { mappings = mappings; underway = None }
 
 -- the mapping under this handle goes, if there is one
-abbrev pub taken : Handle → HandleMap Held → HandleMap Held
-taken handle mappings =
+abbrev pub handle_taken : Handle → HandleMap Held → HandleMap Held
+handle_taken handle mappings =
     if is_some (value_of mappings handle) then record mappings { slots = slice_set mappings.slots handle.key None }
     else mappings
 
 -- the state after its holder gave up a pin: a mapping goes, a call has none to lose
-abbrev pub without_mapping : Holder → State → State
-without_mapping (ByMapping handle) x = record x { mappings = taken handle x.mappings }
-without_mapping (ByLeg number) x = x
+abbrev pub without_holder : Holder → State → State
+without_holder (ByMapping handle) x = record x { mappings = handle_taken handle x.mappings }
+without_holder (ByLeg number) x = x
 
 -- the states after a step of domain d that saw this
 abbrev pub applied : DomId → Step → Seen → List State → List State
 applied d (Pin p) Taken xs = changed_in p.dom.0 (with_slot p.gref.0 (Pinned p.dir)) xs
 applied d (Unpin p holder) seen xs =
-    changed_in d.0 (without_mapping holder) (changed_in p.dom.0 (with_slot p.gref.0 (Unpinned p.dir)) xs)
+    changed_in d.0 (without_holder holder) (changed_in p.dom.0 (with_slot p.gref.0 (Unpinned p.dir)) xs)
 applied d (StoreBody gref half word) seen xs = changed_in d.0 (with_slot gref.0 (Stored half word)) xs
 applied d (StoreHeader version frames) seen xs = changed_in d.0 (with_header version frames) xs
 applied d (Exchange gref looked change) Taken xs = changed_in d.0 (with_own gref.0 change) xs

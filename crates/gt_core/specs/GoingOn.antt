@@ -12,10 +12,11 @@ use Rattle.gt_core.specs.Standing.{CoreStands, MappingsAgree}
 use Rattle.gt_core.specs.Acting.{answer_of, setting_of}
 use Rattle.gt_core.specs.States.{CoreState}
 use Rattle.gt_core.specs.declared.trace.Bytes.{Bytes}
+pub use Rattle.gt_calls.specs.Standing.{IsAccess}
 
 -- some core stands for the history, which is a legal one
-abbrev pub IsReached : Setting → History → Type 0
-IsReached s h = (core : CoreState) × CoreStands s h core
+abbrev pub CanBeReached : Setting → History → Type 0
+CanBeReached s h = (core : CoreState) × CoreStands s h core
 
 -- a beginning of a call, with its answer if that ends it
 abbrev pub beginning : DomId → Request → Option Answer → Item
@@ -55,32 +56,25 @@ AnsweredSo h d (Ends verdict) answer = answer ≡ Some (answer_of verdict)
 -- the empty history is one that a core stands for, in each configuration within the limits
 abbrev pub RunsStart : Type 0
 RunsStart = (config : Config) (may : TypeId → TypeId → Perms → Bool) → IsWithinLimits config
-    → IsReached (setting_of config may) []
+    → CanBeReached (setting_of config may) []
 
 -- a domain of the run that is at rest can begin each call: that is right, and a core stands for it
 abbrev pub CallsCanBegin : Type 0
 CallsCanBegin =
-    (s : Setting) (h : History) (d : DomId) (request : Request) → IsReached s h → domain_of s.domains d ≢ None
+    (s : Setting) (h : History) (d : DomId) (request : Request) → CanBeReached s h → domain_of s.domains d ≢ None
     → open_call h d.0 ≡ None → FitsAsked (asked request) → IsSaid (table_at s h d) request
     → let i = beginning d request (begin_answer (begun_of (known_at s h d) d request)) in
-    IsRight s h i × IsReached s (i ∷ h)
+    IsRight s h i × CanBeReached s (i ∷ h)
 
 -- each open call can make its next step on words, and then comes to what its path gives: that is right, and a core stands
 -- for it
 abbrev pub OpenCallsCanGoOn : Type 0
 OpenCallsCanGoOn =
     (s : Setting) (h : History) (d : DomId) (c : Underway) (step : Step) (action : Action) (answer : Option Answer)
-    → IsReached s h → domain_of s.domains d ≢ None → open_call h d.0 ≡ Some c
+    → CanBeReached s h → domain_of s.domains d ≢ None → open_call h d.0 ≡ Some c
     → path (known_at s h d) d c.request (values c) ≡ Some (Makes step) → IsOnWords step
     → next_in s h d c (seen_by s h d step) ≡ Some action → AnsweredSo h d action answer
-    → let i = step_after s h d step answer in IsRight s h i × IsReached s (i ∷ h)
-
--- the step is an access to bytes
-abbrev pub IsAccess : Step → Type 0
-IsAccess (ReadBytes dom frame off len) = Unit {0}
-IsAccess (WriteBytes dom frame off len) = Unit {0}
-IsAccess (CopyBytes from to len) = Unit {0}
-IsAccess step = ⊥
+    → let i = step_after s h d step answer in IsRight s h i × CanBeReached s (i ∷ h)
 
 -- what a call is told that is over with its access: the bytes that the range held, if that was a read
 abbrev pub TellsAccess : History → Step → Answer → Type 0
@@ -100,7 +94,7 @@ AccessAnsweredSo h step (Ends verdict) answer = ⊥
 abbrev pub OpenCallsCanAccess : Type 0
 OpenCallsCanAccess =
     (s : Setting) (h : History) (d : DomId) (c : Underway) (step : Step) (action : Action) (answer : Option Answer)
-    → IsReached s h → domain_of s.domains d ≢ None → open_call h d.0 ≡ Some c
+    → CanBeReached s h → domain_of s.domains d ≢ None → open_call h d.0 ≡ Some c
     → path (known_at s h d) d c.request (values c) ≡ Some (Makes step) → IsAccess step
     → next_in s h d c Nothing ≡ Some action → AccessAnsweredSo h step action answer
-    → let i = step_after s h d step answer in IsRight s h i × IsReached s (i ∷ h)
+    → let i = step_after s h d step answer in IsRight s h i × CanBeReached s (i ∷ h)

@@ -4,8 +4,8 @@ use Rattle.gt_core.specs.Prelude.{resolved, IsAllowed, DomId, FRAME_SIZE, Dir, R
 use Rattle.gt_core.specs.Prelude.{Invalid, permits, forwards, IsSpelled, FirstHalf, SecondHalf, ByMapping, Asked, Unmap}
 use Rattle.gt_core.specs.Prelude.{Load, Store, Copy, Held, Place, Change, Publish, ToInvalid, ToReadOnly, ToWritable}
 use Rattle.gt_core.specs.Prelude.{ToWithdrawn, Step, StoreBody, Unpin, Exchange, ReadBytes, WriteBytes, CopyBytes}
-use Rattle.gt_core.specs.Prelude.{Taken, Item, Happened, Stepped, rights_to_map, rights_to_copy, frames_of}
-use Rattle.gt_core.specs.Prelude.{is_source_granted, is_dest_granted, LeadsTo}
+use Rattle.gt_core.specs.Prelude.{Taken, Item, Happened, Stepped, rights_to_map, rights_to_copy, frame_count_of}
+use Rattle.gt_core.specs.Prelude.{is_source_granted, is_dest_granted, GivesHeld}
 use Rattle.gt_core.specs.History.{History, Setting, entry_at, body_at, reads_at, writes_at, live, Pin, known_at}
 use Rattle.gt_core.specs.History.{frame_of, mappings_at, mapping_of}
 
@@ -24,7 +24,7 @@ pub record Forwards (d : DomId) (dir : Dir) (named : DomId) (p via : Pin) : Type
   pub of_actor : via.actor ≡ d.0
   pub of_named : via.held.dom ≡ named
   pub forwarded : forwards via.held.entry d dir ≡ true
-  pub leads : LeadsTo via.held.entry p.held
+  pub leads : GivesHeld via.held.entry p.held
   pub writes : (dir ≡ Write) → via.held.dir ≡ Write
 
 -- the policy allows domain d a mapping of this kind of a frame of domain t (XSM FLASK)
@@ -37,7 +37,7 @@ MayCopy s pair = IsAllowed s.may (rights_to_copy (known_at s [] pair.0) pair.0 p
 
 -- the frame is one of the domain's, and the range is inside it
 abbrev pub IsInFrame : Setting → Place → ℕ → Type 0
-IsInFrame s at len = (at.frame < frames_of s.domains at.owner) × (at.off + len ≤ FRAME_SIZE)
+IsInFrame s at len = (at.frame < frame_count_of s.domains at.owner) × (at.off + len ≤ FRAME_SIZE)
 
 -- the domain's own frame, or a range that a live pin of a mapping's kind reaches
 abbrev pub MayAccess : History → DomId → Dir → Place → ℕ → Type 0

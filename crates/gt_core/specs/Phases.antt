@@ -24,7 +24,7 @@ IsShown c entry = c ≡ control_with entry c.generation c.reads c.writes
 
 -- a control word of the leg's entry was looked at in this try, no rule on the entry stood, and the entry's generation
 -- was reached
-pub record HasLooked (s : Setting) (h : History) (l : Leg) (so_far : StepsSoFar) (more word : ℕ) : Type 0 where
+pub record LegHasLooked (s : Setting) (h : History) (l : Leg) (so_far : StepsSoFar) (more word : ℕ) : Type 0 where
   pub within : l.gref.0 < TABLE_ENTRIES
   pub turn : misses so_far + more ≡ MORE_TRIES
   pub looked : looked_at so_far ≡ Some word
@@ -33,7 +33,7 @@ pub record HasLooked (s : Setting) (h : History) (l : Leg) (so_far : StepsSoFar)
   pub shown : WhileSame s h l word (IsShown (control_of word))
 
 -- its body words were read too, and this rule stands on them
-pub record HasRead (s : Setting) (h : History) (l : Leg) (so_far : StepsSoFar) (word body second : ℕ)
+pub record LegHasRead (s : Setting) (h : History) (l : Leg) (so_far : StepsSoFar) (word body second : ℕ)
     (rule : Option Rule) : Type 0 where
   pub in_body : is_in_body so_far ≡ true
   pub judged : rule_of_try l word body second ≡ rule
@@ -44,20 +44,20 @@ abbrev pub LegStands : Setting → History → Leg → StepsSoFar → LegPhase �
 LegStands s h l so_far AtHeader = Unit {0}
 LegStands s h l so_far (Look more) =
     (l.gref.0 < TABLE_ENTRIES) × (misses so_far + more ≡ MORE_TRIES) × (is_in_body so_far ≡ false)
-LegStands s h l so_far (Body more word) = HasLooked s h l so_far more word
+LegStands s h l so_far (Body more word) = LegHasLooked s h l so_far more word
 LegStands s h l so_far (Second more word body) =
-    HasLooked s h l so_far more word × WhileSame s h l word (λ entry. first_body entry ≡ body)
+    LegHasLooked s h l so_far more word × WhileSame s h l word (λ entry. first_body entry ≡ body)
     × (is_kind (control_of word).kind KindSub ≡ true)
 LegStands s h l so_far (Pinning more word body second) =
-    HasLooked s h l so_far more word × HasRead s h l so_far word body second None
+    LegHasLooked s h l so_far more word × LegHasRead s h l so_far word body second None
 LegStands s h l so_far (Relook more word rule) =
-    HasLooked s h l so_far more word
-    × ((body : ℕ) × (second : ℕ) × HasRead s h l so_far word body second (Some rule))
+    LegHasLooked s h l so_far more word
+    × ((body : ℕ) × (second : ℕ) × LegHasRead s h l so_far word body second (Some rule))
 
 -- the call asks this of a header
-abbrev pub Asks : DomId → Asked → DomId → Question → Type 0
-Asks d request dom AsksSize = (named : DomId) × (request ≡ QuerySize named) × (dom ≡ resolved d named)
-Asks d request dom AsksVersion = (named : DomId) × (request ≡ GetVersion named) × (dom ≡ resolved d named)
+abbrev pub AsksTable : DomId → Asked → DomId → Question → Type 0
+AsksTable d request dom AsksSize = (named : DomId) × (request ≡ QuerySize named) × (dom ≡ resolved d named)
+AsksTable d request dom AsksVersion = (named : DomId) × (request ≡ GetVersion named) × (dom ≡ resolved d named)
 
 -- the call ends so after its one step: a set up with the frames that it stored, each other one with no value
 abbrev pub EndsAfter : Asked → Step → Verdict → Type 0
@@ -86,7 +86,7 @@ PhaseStands s h d request so_far (Changing gref change more looked) =
     (misses so_far + more ≡ MORE_TRIES) × (looked_at so_far ≡ Some looked)
 PhaseStands s h d request so_far (Walking aim l at) = (domain_of s.domains l.dom ≢ None) × LegStands s h l so_far at
 PhaseStands s h d request so_far (Accessing copy source dest) = Unit {0}
-PhaseStands s h d request so_far (Asking dom question) = Asks d request dom question
+PhaseStands s h d request so_far (Asking dom question) = AsksTable d request dom question
 PhaseStands s h d request so_far (Last step verdict) = EndsAfter request step verdict
 PhaseStands s h d request so_far (Ending pins verdict) =
     (last_first pins ≡ []) ⊎ ((copy : CopyArgs) × (request ≡ Copy copy) × EndsCopy verdict)

@@ -1,15 +1,16 @@
 -- The names of other crates, and of the code, that the definitions here speak of.
-pub use Rattle.gt_calls.specs.Asking.{FitsAsked, IsSaid, asked, begun_of, given_by}
+pub use Rattle.gt_calls.specs.Asking.{FitsAsked, IsSaid, asked, begun_of, bytes_given_by}
 pub use Rattle.gt_calls.specs.Counting.{most_steps, steps_left, steps_to_come}
-pub use Rattle.gt_calls.specs.Following.{GoesOn}
+pub use Rattle.gt_calls.specs.Following.{GoesOnWith}
 pub use Rattle.gt_calls.specs.Holding.{last_first}
 pub use Rattle.gt_calls.specs.Machine.{action_at, first_phase}
 pub use Rattle.gt_calls.specs.Opening.{IsAllowed}
 pub use Rattle.gt_calls.specs.Path.{dest_pair, end_leg, entry_refusal, map_leg, path, rule_of_try, second_leg}
 pub use Rattle.gt_calls.specs.Path.{source_pair}
-pub use Rattle.gt_calls.specs.Resting.{LeadsTo, Rests}
+pub use Rattle.gt_calls.specs.Resting.{GivesHeld, Rests}
 pub use Rattle.gt_calls.specs.Rules.{CallerKnowledge, before_pin, begun, control_with, entry_in, first, first_body}
-pub use Rattle.gt_calls.specs.Rules.{first_look, frames_of, generation_in, is_dest_granted, is_kind, is_source_granted}
+pub use Rattle.gt_calls.specs.Rules.{first_look, frame_count_of, own_generation, is_dest_granted, is_kind}
+pub use Rattle.gt_calls.specs.Rules.{is_source_granted}
 pub use Rattle.gt_calls.specs.Rules.{knowledge_of, rights_to_copy, rights_to_map, size_of, stands, via_judged}
 pub use Rattle.gt_calls.specs.Standing.{IsAt, StandsAt, held_in, pins_at, pins_by_call}
 pub use Rattle.gt_calls.specs.declared.action.Action.{Action}

@@ -14,7 +14,7 @@ use Rattle.gt_calls.specs.declared.action.Seen.TheVariants.{Nothing, Word}
 use Rattle.gt_calls.specs.declared.known.Own.{Own}
 use Rattle.gt_core.specs.declared.pin_counts.PinCounts.{PinCounts}
 use Rattle.gt_core.specs.States.{State}
-use Rattle.gt_calls.specs.Rules.{control_with, entry_in, generation_in}
+use Rattle.gt_calls.specs.Rules.{control_with, entry_in, own_generation}
 pub use Rattle.gt_core.specs.History.{exchange_sees}
 
 -- the read pins in a slot, 0 if there is none
@@ -48,7 +48,7 @@ body_in slots r which = slot_body (slice_get slots r) which
 -- the control word made of an owner's row and a slot
 abbrev pub control_in : List Own → List PinCounts → ℕ → ℕ
 control_in own slots r =
-    control_word (control_with (entry_in own r) (generation_in 0 own r) (reads_in slots r) (writes_in slots r))
+    control_word (control_with (entry_in own r) (own_generation 0 own r) (reads_in slots r) (writes_in slots r))
 
 -- the header word of domain d, 0 if there is no such state
 abbrev pub header_seen : List State → ℕ → ℕ

@@ -6,7 +6,8 @@ use Rattle.gt_core.specs.Prelude.{domain_of, DomId, Dir, TypeId, ForMap, TABLE_E
 use Rattle.gt_core.specs.Prelude.{FRAME_SIZE, Holder, ByMapping, ByLeg, Perms, Config, Asked, FirstHalf, SecondHalf}
 use Rattle.gt_core.specs.Prelude.{Header, Makes, Handle, FrameName, patches, frame_counts, FrameSet, frame_at, AreKept}
 use Rattle.gt_core.specs.Prelude.{HandleMap, mapping_under, count_of, Held, Event, Element, PinCounts, Open, entry_in}
-use Rattle.gt_core.specs.Prelude.{generation_in, frames_of, GoesOn, action_at, Rests, StandsAt, pins_at, held_in}
+use Rattle.gt_core.specs.Prelude.{own_generation, frame_count_of, GoesOnWith, action_at, Rests, StandsAt, pins_at}
+use Rattle.gt_core.specs.Prelude.{held_in}
 use Rattle.gt_core.specs.Prelude.{most_steps, steps_left, Entry, Control, IsInRange, IsEntry, permits, Store, Poke}
 use Rattle.gt_core.specs.Prelude.{Phase}
 pub use Rattle.gt_calls.specs.Asking.{FitsAsked}
@@ -30,7 +31,7 @@ pub record OpenAgrees (s : Setting) (h : History) (id : DomId) (o : Open) (c : U
   pub here : o.call.phase ≡ Some phase
   pub at : StandsAt (known_at s h id) id c.request (values c) phase
   pub acts : action_at id phase ≡ Makes o.step
-  pub follows : GoesOn (known_at s h id) id c.request (values c) (Makes o.step)
+  pub follows : GoesOnWith (known_at s h id) id c.request (values c) (Makes o.step)
   pub rests : Rests (known_at s h id) id c.request (pins_at phase) (values c) (Makes o.step)
   pub place : PhaseStands s h id c.request (reverse c.steps) phase
   pub fair : stood s h id.0 ≡ phase_refusal phase
@@ -78,11 +79,11 @@ pub record MappingsAgree (kept : HandleMap Held) (ms : List (Handle × Held)) (a
   pub apart : AreApart ms
 
 -- a domain is as the history leaves it
-pub record Agrees (s : Setting) (h : History) (d : State) : Type 0 where
+pub record StateStands (s : Setting) (h : History) (d : State) : Type 0 where
   pub header : d.header ≡ table_at s h d.id
   pub rows : length d.own ≡ TABLE_ENTRIES
   pub entries : entry_in d.own ≡ (λ r. entry_at h d.id.0 r)
-  pub generations : generation_in s.first_generation d.own ≡ (λ r. generation_at s h d.id.0 r)
+  pub generations : own_generation s.first_generation d.own ≡ (λ r. generation_at s h d.id.0 r)
   pub room : length d.slots ≡ TABLE_ENTRIES
   pub slots : (r : ℕ) (slot : PinCounts) → slice_get d.slots r ≡ Some slot → SlotAgrees h d.id.0 r slot
   pub mappings : MappingsAgree d.mappings (mappings_at h d.id.0) (maps_answered_at h d.id.0)
@@ -92,12 +93,12 @@ pub record Agrees (s : Setting) (h : History) (d : State) : Type 0 where
 -- a domain of the run has a state that agrees, and no other domain has one
 abbrev pub StateAgrees : Setting → History → DomId → Option State → Type 0
 StateAgrees s h dom None = domain_of s.domains dom ≡ None
-StateAgrees s h dom (Some d) = (domain_of s.domains dom ≢ None) × (d.id ≡ dom) × Agrees s h d
+StateAgrees s h dom (Some d) = (domain_of s.domains dom ≢ None) × (d.id ≡ dom) × StateStands s h d
 
 -- an entry of domain t lets domain d use a frame of domain t by a mapping of this kind, and so does the policy
 abbrev pub LetsUse : Setting → DomId → DomId → Dir → Entry → Type 0
 LetsUse s d t dir entry =
-    (permits entry d dir ForMap 0 0 ≡ true) × MayUse s d t dir × (frame_of entry < frames_of s.domains t)
+    (permits entry d dir ForMap 0 0 ≡ true) × MayUse s d t dir × (frame_of entry < frame_count_of s.domains t)
     × (domain_of s.domains t ≢ None)
 
 -- a mapping's pin was taken by right, on a frame of its owner; of a call's own pin nothing is asked
@@ -108,8 +109,8 @@ IsLawfullyHeld s p (ByLeg number) = Unit {0}
 
 -- the pin of a mapping was taken on an entry that permitted it, for a frame of its owner, and the policy allows what it
 -- is for
-abbrev pub IsLawful : Setting → Pin → Type 0
-IsLawful s p = IsLawfullyHeld s p p.holder
+abbrev pub IsLawfulPin : Setting → Pin → Type 0
+IsLawfulPin s p = IsLawfullyHeld s p p.holder
 
 -- the header of a table, or of none, is within the limits of a run
 pub record FitsTable (header : Header) : Type 0 where
@@ -127,7 +128,7 @@ pub record DomainsStand (s : Setting) (h : History) (domains : List State) : Typ
   pub tables : (dom : DomId) → FitsTable (table_at s h dom)
   pub words : (t r : ℕ) → r < TABLE_ENTRIES → FitsWord (control_at s h t r)
   pub entries : (t r : ℕ) → IsEntry (entry_at h t r)
-  pub lawful : All (IsLawful s) (live h)
+  pub lawful : All (IsLawfulPin s) (live h)
 
 -- there are the frames of the run; each was written as in the history, so that it holds what the history left in it,
 -- and has its size; and each write to it was by right
@@ -149,8 +150,8 @@ StandsForSome s core = (h : History) × CoreStands s h core
 
 -- for each history that the core stood for, the event did what it may do after it, and the core stands for that history
 -- with this element
-abbrev pub Does : Setting → CoreState → Event → Element → CoreState → Type 0
-Does s old event x new = (h : History) → CoreStands s h old → MayDo s h event x × CoreStands s (grown h x) new
+abbrev pub DoesEvent : Setting → CoreState → Event → Element → CoreState → Type 0
+DoesEvent s old event x new = (h : History) → CoreStands s h old → MayDo s h event x × CoreStands s (grown h x) new
 
 -- the same of the domains only
 abbrev pub DoesAlone : Setting → List State → Event → Element → List State → Type 0

@@ -8,11 +8,13 @@ use Rattle.gt_calls.specs.declared.held.Held.{Held}
 use Rattle.gt_core.specs.History.{History, Setting, mapping_of, mappings_at}
 
 -- the entry that a pin is on, by its domain and its reference
-abbrev pub place_of : Held → DomId × GrantRef
-place_of held = (held.dom, held.gref)
+abbrev pub entry_place_of : Held → DomId × GrantRef
+entry_place_of held = (held.dom, held.gref)
 
 -- the entry that the domain has mapped under this handle after these items: none if the handle names no mapping of
 -- it, or for no domain of the run
 abbrev pub subject_at : Setting → History → DomId → Handle → Option (DomId × GrantRef)
 subject_at s h dom handle =
-    if is_some (domain_of s.domains dom) then option_map place_of (mapping_of (mappings_at h dom.0) handle) else None
+    if is_some (domain_of s.domains dom)
+      then option_map entry_place_of (mapping_of (mappings_at h dom.0) handle)
+      else None

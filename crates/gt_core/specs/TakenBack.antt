@@ -23,8 +23,8 @@ LegalTracesAreHistories =
 -- pins of an earlier record
 
 -- the item revokes entry r of domain t, or publishes it
-abbrev pub EndsPins : ℕ → ℕ → Item → Type 0
-EndsPins t r i = (i.actor.0 ≡ t) × ends i.happened
+abbrev pub EndsPinsOn : ℕ → ℕ → Item → Type 0
+EndsPinsOn t r i = (i.actor.0 ≡ t) × ends i.happened
   where
     ends : Happened → Type 0
     ends (Stepped (Exchange gref looked ToInvalid) Taken) = gref.0 ≡ r
@@ -46,7 +46,7 @@ IsTakenSince (i ∷ later) base p =
 abbrev pub PinsAreTakenSince : Type 0
 PinsAreTakenSince =
     (s : Setting) (later before : History) (i : Item) (t r : ℕ) → IsLegalHistory s (later ++ i ∷ before)
-    → EndsPins t r i → All (λ p. IsPinOn t r p → IsTakenSince later (i ∷ before) p) (live (later ++ i ∷ before))
+    → EndsPinsOn t r i → All (λ p. IsPinOn t r p → IsTakenSince later (i ∷ before) p) (live (later ++ i ∷ before))
 
 -- pages
 

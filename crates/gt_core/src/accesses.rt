@@ -2,7 +2,7 @@
 ghost use Rattle.std.specs.Prelude.{◌≡◌, OnOk, OnErr, IsTrue, vec_len};
 ghost use Rattle.gt_frames.specs.Frames.{bytes_at};
 ghost use Rattle.gt_frames.specs.Sets.{frame_at, has_range};
-ghost use Rattle.gt_core.specs.Accesses.{name_of, IsWriting, IsAdmitted, AccessedBy};
+ghost use Rattle.gt_core.specs.Accesses.{frame_name_at, IsWriting, IsAdmitted, AccessedBy};
 
 use crate::state::DomainState;
 use crate::underway::Open;
@@ -11,7 +11,7 @@ use gt_frames::{FrameName, Frames, Spot};
 use gt_types::Memory;
 
 fn spot(at: Place) -> Spot
-    ensures frame { result.frame ≡ name_of at }
+    ensures frame { result.frame ≡ frame_name_at at }
     ensures off { result.off ≡ at.off }
 {
     Spot {

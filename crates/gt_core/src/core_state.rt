@@ -2,7 +2,7 @@
 ghost use Rattle.std.specs.Prelude.{◌≡◌, [], IfOk, IfErr, OnErr, IsOk};
 ghost use Rattle.gt_types.specs.Config.{IsWithinLimits};
 ghost use Rattle.gt_core.specs.Legal.{Legal};
-ghost use Rattle.gt_core.specs.Standing.{Does, setting_in};
+ghost use Rattle.gt_core.specs.Standing.{DoesEvent, setting_in};
 ghost use Rattle.gt_core.specs.Acting.{IsStartFaultOf, setting_of};
 
 use crate::kept::Machine;
@@ -68,7 +68,7 @@ impl<P: Allows> Core<P> {
     ghost use Rattle.gt_core.specs.History.{History};
     ghost use Rattle.gt_core.specs.Shown.{shown_at};
     ghost use Rattle.gt_core.specs.Subject.{subject_at};
-    ghost use Rattle.gt_core.specs.Standing.{CoreStands, Does, setting_in};
+    ghost use Rattle.gt_core.specs.Standing.{CoreStands, DoesEvent, setting_in};
     ghost use Rattle.gt_core.specs.Acting.{WantsMemory, WantsMemoryNow};
     ghost use Rattle.gt_core.specs.Acting.{begun_element, ticked_element};
     ghost use Rattle.gt_core.specs.declared.trace.Event.TheVariants.{Begin, Tick};
@@ -80,7 +80,7 @@ impl<P: Allows> Core<P> {
     /// `Memory`, only for a map, a load, a store, a peek or a poke against which no rule stands, of a domain of the run
     /// that has no call open. The core is as it was then.
     pub fn begin(&mut self, dom: DomId, request: Request<'_>) -> Result<Begun, Memory>
-        ensures stands { IfOk result (λ b. Does (setting_in P.may self.old) self.old.state
+        ensures stands { IfOk result (λ b. DoesEvent (setting_in P.may self.old) self.old.state
             (Begin dom request.entry) (begun_element dom request.entry b) self.new.state) }
         ensures config { self.new.config ≡ self.old.config }
         ensures rights { self.new.rights ≡ self.old.rights }
@@ -100,7 +100,7 @@ impl<P: Allows> Core<P> {
     /// `Memory`, only if that step is the access of a store, a poke or a copy, of which its frame keeps a record.
     /// The core is as it was then, and the next tick tries again.
     pub fn tick(&mut self, dom: DomId) -> Result<Ticked, Memory>
-        ensures stands { IfOk result (λ t. Does (setting_in P.may self.old) self.old.state
+        ensures stands { IfOk result (λ t. DoesEvent (setting_in P.may self.old) self.old.state
             (Tick dom) (ticked_element dom t) self.new.state) }
         ensures config { self.new.config ≡ self.old.config }
         ensures rights { self.new.rights ≡ self.old.rights }
@@ -131,7 +131,7 @@ impl<P: Allows> Core<P> {
 }
 
 fn one_event<'a, P: Allows>(core: &mut Core<P>, event: Event<'a>) -> Result<Element<'a>, Memory>
-    ensures stands { IfOk result (λ x. Does (setting_in P.may core.old) core.old.state
+    ensures stands { IfOk result (λ x. DoesEvent (setting_in P.may core.old) core.old.state
         event.entry x core.new.state) }
     ensures config { core.new.config ≡ core.old.config }
     ensures rights { core.new.rights ≡ core.old.rights }

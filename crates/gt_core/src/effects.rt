@@ -1,7 +1,7 @@
 //! What steps do to the states of the domains.
 ghost use Rattle.std.specs.Prelude.{◌≡◌};
 ghost use Rattle.gt_core.specs.States.{changed_in, IsPlaced};
-ghost use Rattle.gt_core.specs.Effects.{with_slot, applied, without_mapping, with_own, with_header};
+ghost use Rattle.gt_core.specs.Effects.{with_slot, applied, without_holder, with_own, with_header};
 
 use crate::pin_counts::CountsChange;
 use crate::state::{DomainState, find};
@@ -41,7 +41,7 @@ fn change_own(
 
 fn forget(config: &Roster, domains: &mut [DomainState], dom: DomId, holder: Holder)
     requires { IsPlaced config.now.domains.items domains.old }
-    ensures { domains.new ≡ changed_in dom.0 (without_mapping holder) domains.old }
+    ensures { domains.new ≡ changed_in dom.0 (without_holder holder) domains.old }
 {
     if let Some(at) = find(config, domains, dom) {
         domains[at].forget(holder);

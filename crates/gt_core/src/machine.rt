@@ -4,7 +4,7 @@ ghost use Rattle.std.specs.Prelude.{Option, Some, None};
 ghost use Rattle.gt_types.specs.Config.{IsWithinLimits};
 ghost use Rattle.gt_calls.specs.Rules.{CallerKnowledge, knows};
 ghost use Rattle.gt_calls.specs.Following.{Goes, IsLeftAlike};
-ghost use Rattle.gt_calls.specs.Asking.{given_by};
+ghost use Rattle.gt_calls.specs.Asking.{bytes_given_by};
 ghost use Rattle.gt_frames.specs.Sets.{all_zeros, AreKept};
 ghost use Rattle.gt_frames.specs.Places.{frame_counts};
 ghost use Rattle.gt_core.specs.History.{History};
@@ -13,8 +13,8 @@ ghost use Rattle.gt_core.specs.Accesses.{IsReadable, IsAdmitted, AccessedBy, IsW
 ghost use Rattle.gt_core.specs.Effects.{applied};
 ghost use Rattle.gt_core.specs.Sight.{sees};
 ghost use Rattle.gt_core.specs.Shown.{shown_at};
-ghost use Rattle.gt_core.specs.Acting.{Opens, IsStartFaultOf, Closed};
-ghost use Rattle.gt_core.specs.Standing.{DomainsStand, StandsForSome, Does, DoesAlone};
+ghost use Rattle.gt_core.specs.Acting.{OpensAs, IsStartFaultOf, Closed};
+ghost use Rattle.gt_core.specs.Standing.{DomainsStand, StandsForSome, DoesEvent, DoesAlone};
 ghost use Rattle.gt_core.specs.Acting.{Settled};
 ghost use Rattle.gt_core.specs.Acting.{IsRoomFor};
 ghost use Rattle.gt_core.specs.Acting.{WantsMemory, WantsMemoryNow, setting_of, setting_by, state_by, known_by};
@@ -44,7 +44,7 @@ pub enum Opening {
 }
 
 fn open_call<P: Allows>(known: &Known<'_, P>, dom: DomId, request: Request<'_>) -> Opening
-    ensures { Opens (knows P.may known.now) dom request.entry result }
+    ensures { OpensAs (knows P.may known.now) dom request.entry result }
 {
     match Call::begin(dom, request, known) {
         Start::Done(verdict) => Opening::Done(verdict),
@@ -92,7 +92,7 @@ fn told(step: Step, seen: Seen, answer: Option<Answer>) -> Ticked
 
 // The bytes that a request gives to be written.
 fn given_by<'a>(request: Request<'a>) -> &'a [u8]
-    ensures { result.now ≡ given_by request.entry }
+    ensures { result.now ≡ bytes_given_by request.entry }
 {
     match request {
         Request::Store { bytes, .. } | Request::Poke { bytes, .. } => bytes,
@@ -104,7 +104,7 @@ impl<P: Allows> Machine<P> {
     fn open_at(&self, at: usize, dom: DomId, request: Request<'_>) -> Opening
         requires { at < length self.now.domains.items }
         ensures { (d : State) → slice_get self.now.domains.items at ≡ Some d →
-            Opens (known_by P.may self.now d) dom request.entry result }
+            OpensAs (known_by P.may self.now d) dom request.entry result }
     {
         let domain = &self.domains[at];
         let known = Known {
@@ -262,7 +262,7 @@ impl<P: Allows> Machine<P> {
     /// `Memory`, with the domains and frames as they were.
     pub fn tick(&mut self, dom: DomId) -> Result<Ticked, Memory>
         requires { StandsForSome (setting_by P.may self.old) (state_by self.old) }
-        ensures stands { IfOk result (λ t. Does (setting_by P.may self.old) (state_by self.old)
+        ensures stands { IfOk result (λ t. DoesEvent (setting_by P.may self.old) (state_by self.old)
             (Tick dom) (ticked_element dom t) (state_by self.new)) }
         ensures config { self.new.config ≡ self.old.config }
         ensures rights { self.new.rights ≡ self.old.rights }

@@ -88,8 +88,8 @@ impl DomainState {
     ghost use Rattle.gt_core.specs.Accesses.{route_of, IsWritOf};
     ghost use Rattle.gt_core.specs.States.{first_state, asked_in, asks_memory, kept_by, IsMapping, IsLoading};
     ghost use Rattle.gt_core.specs.Shown.{shown_in};
-    ghost use Rattle.gt_core.specs.Effects.{Adds, with_slot, with_own, with_header, with_underway, with_call};
-    ghost use Rattle.gt_core.specs.Effects.{with_mapping, without_mapping};
+    ghost use Rattle.gt_core.specs.Effects.{Adds, with_slot, with_own, with_header, with_underway, with_open_call};
+    ghost use Rattle.gt_core.specs.Effects.{with_mapping, without_holder};
 
     /// A domain at rest: all entries invalid and of the first generation.
     pub fn new(alloc: Global, domain: DomainConfig, first_gen: u32) -> Result<DomainState, Memory>
@@ -120,7 +120,7 @@ impl DomainState {
     /// For a map a serial is left.
     pub fn begin(&mut self, alloc: Global, call: Open, bytes: &[u8]) -> Result<(), Memory>
         requires { IsMapping (Some call.call.request) → self.old.mappings.given + 1 < 2 ^ 64 }
-        ensures opened { OnOk result (self.new ≡ with_call call (kept_by call.call.request bytes.now) self.old) }
+        ensures opened { OnOk result (self.new ≡ with_open_call call (kept_by call.call.request bytes.now) self.old) }
         ensures refused { OnErr result (self.new ≡ self.old) }
         ensures memory { OnErr result (asks_memory call.call.request ≡ true) }
     {
@@ -248,7 +248,7 @@ impl DomainState {
 
     /// Gives up the mapping under this handle.
     pub fn forget(&mut self, holder: Holder)
-        ensures { self.new ≡ without_mapping holder self.old }
+        ensures { self.new ≡ without_holder holder self.old }
     {
         if let Holder::Mapping(handle) = holder {
             let _ = self.mappings.take(handle);

@@ -6,8 +6,8 @@ use Rattle.gt_dump.specs.Prelude.{is_ascii_whitespace, list_all, Appends, Keeps,
 use Rattle.gt_dump.specs.Prelude.{LONGEST_TEXT, Spells, first_refused, entry_size, Entry, AppendsBeginning, Asked}
 use Rattle.gt_dump.specs.Prelude.{DumpFault, Memory, Read, Write, Limit, Syntax}
 use Rattle.gt_dump.specs.Live.{cleared, live_text}
-use Rattle.gt_dump.specs.Showing.{answer_text}
-use Rattle.gt_dump.specs.Script.{call_text}
+use Rattle.gt_dump.specs.Showing.{decoded_text}
+use Rattle.gt_dump.specs.Script.{bytes_call_text}
 
 -- what the decoders answer for the bytes of an entry: the entry that they spell, or the
 -- first field that is refused
@@ -16,21 +16,22 @@ Decodes version bytes (Ok entry) = Spells version bytes entry
 Decodes version bytes (Err field) = first_refused version bytes ≡ Some field
 
 -- `REF ANSWER`, and the live bits
-abbrev pub shown_text : ℕ → List ℕ → Result Entry Field → List ℕ
-shown_text ref bytes answer = decimal ref ++ codes " " ++ answer_text answer ++ live_text bytes ++ codes "\n"
+abbrev pub field_text : ℕ → List ℕ → Result Entry Field → List ℕ
+field_text ref bytes answer = decimal ref ++ codes " " ++ decoded_text answer ++ live_text bytes ++ codes "\n"
 
 -- the line of an entry: as it is shown, or as a call of a script, in which an entry that is
 -- refused is a comment
-abbrev pub line_text : Option DomId → ℕ → ℕ → List ℕ → Result Entry Field → List ℕ
-line_text None version ref bytes answer = shown_text ref bytes answer
-line_text (Some dom) version ref bytes (Ok entry) = call_text dom version ref entry (cleared bytes) (live_text bytes)
-line_text (Some dom) version ref bytes (Err field) = codes "# " ++ shown_text ref bytes (Err field)
+abbrev pub dump_line_text : Option DomId → ℕ → ℕ → List ℕ → Result Entry Field → List ℕ
+dump_line_text None version ref bytes answer = field_text ref bytes answer
+dump_line_text (Some dom) version ref bytes (Ok entry) =
+    bytes_call_text dom version ref entry (cleared bytes) (live_text bytes)
+dump_line_text (Some dom) version ref bytes (Err field) = codes "# " ++ field_text ref bytes (Err field)
 
 -- the line says what the decoders answer for the bytes with the two live bits cleared
-abbrev pub IsLine : Asked → ℕ → List ℕ → List ℕ → Type 0
-IsLine asked ref bytes line =
+abbrev pub IsEntryLine : Asked → ℕ → List ℕ → List ℕ → Type 0
+IsEntryLine asked ref bytes line =
     (answer : Result Entry Field) × Decodes asked.version (cleared bytes) answer
-    × (line ≡ line_text asked.script asked.version ref bytes answer)
+    × (line ≡ dump_line_text asked.script asked.version ref bytes answer)
 
 -- the entry has all its bytes, each of them zero, and such entries are not asked for
 abbrev pub is_left_out : Asked → List ℕ → Bool
@@ -39,7 +40,7 @@ is_left_out asked bytes =
 
 -- the text of an entry: its line, or nothing if it is left out
 abbrev pub TellsEntry : Asked → ℕ → List ℕ → List ℕ → Type 0
-TellsEntry asked ref bytes text = MatchBool (is_left_out asked bytes) (text ≡ []) (IsLine asked ref bytes text)
+TellsEntry asked ref bytes text = MatchBool (is_left_out asked bytes) (text ≡ []) (IsEntryLine asked ref bytes text)
 
 -- the bytes of the entry at this reference: fewer if the dump ends in it (grant_table.h)
 abbrev pub entry_at : ℕ → List ℕ → ℕ → List ℕ
@@ -81,9 +82,9 @@ abbrev pub digits_of : List ℕ → List ℕ
 digits_of input = filter (λ byte. not (is_ascii_whitespace byte)) input
 
 -- the input says these bytes: they are the input, or it is hexadecimal text for them
-abbrev pub Says : Bool → List ℕ → List ℕ → Type 0
-Says false input bytes = bytes ≡ input
-Says true input bytes = decode_of (digits_of input) ≡ Ok bytes
+abbrev pub SaysDump : Bool → List ℕ → List ℕ → Type 0
+SaysDump false input bytes = bytes ≡ input
+SaysDump true input bytes = decode_of (digits_of input) ≡ Ok bytes
 
 -- the input is asked to be hexadecimal text, and is none
 abbrev pub IsNoHex : Bool → List ℕ → Type 0
@@ -100,11 +101,12 @@ IsNoDump hex input Write = ⊥
 -- what was written for an input: what is written for the dump that it says, and nothing if it
 -- says none, or can't be read
 abbrev pub Told : Asked → List ℕ → Option (List ℕ) → Option (List ℕ) → Result (Unit {0}) DumpFault → Type 0
-Told asked input old new (Ok done) = (dump : List ℕ) × Says asked.hex input dump × Dumped asked dump old new (Ok done)
+Told asked input old new (Ok done) =
+    (dump : List ℕ) × SaysDump asked.hex input dump × Dumped asked dump old new (Ok done)
 Told asked input old new (Err Write) =
-    (dump : List ℕ) × Says asked.hex input dump × Dumped asked dump old new (Err Write)
+    (dump : List ℕ) × SaysDump asked.hex input dump × Dumped asked dump old new (Err Write)
 Told asked input old new (Err Limit) =
-    ((LONGEST_TEXT < length input) ⊎ ((dump : List ℕ) × Says asked.hex input dump × (most_bytes < length dump)))
+    ((LONGEST_TEXT < length input) ⊎ ((dump : List ℕ) × SaysDump asked.hex input dump × (most_bytes < length dump)))
     × Keeps old new
 Told asked input old new (Err Syntax) = IsNoHex asked.hex input × Keeps old new
 Told asked input old new (Err Memory) = Keeps old new

@@ -6,9 +6,9 @@ use Rattle.gt_dump.specs.declared.fault.DumpFault.{DumpFault}
 use Rattle.gt_dump.specs.declared.fault.DumpFault.TheVariants as faults
 
 -- the fault of a read
-abbrev pub read_fault : ReadFault → DumpFault
-read_fault reads.Memory = faults.Memory
-read_fault reads.Read = faults.Read
+abbrev pub dump_read_fault : ReadFault → DumpFault
+dump_read_fault reads.Memory = faults.Memory
+dump_read_fault reads.Read = faults.Read
 
 -- the word that is printed
 abbrev pub dump_fault_text : DumpFault → List ℕ

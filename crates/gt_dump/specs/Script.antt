@@ -32,7 +32,7 @@ comment_text [] = []
 comment_text (first ∷ rest) = codes " #" ++ (first ∷ rest)
 
 -- `do DOM bytes REF HEX`, and in a comment the entry's true frame and its live bits
-abbrev pub call_text : DomId → ℕ → ℕ → Entry → List ℕ → List ℕ → List ℕ
-call_text dom version ref entry plain live =
+abbrev pub bytes_call_text : DomId → ℕ → ℕ → Entry → List ℕ → List ℕ → List ℕ
+bytes_call_text dom version ref entry plain live =
     codes "do " ++ decimal dom.0 ++ codes " bytes " ++ decimal ref ++ codes " "
     ++ encode_lower (renumbered version entry plain) ++ comment_text (frame_note entry ++ live) ++ codes "\n"

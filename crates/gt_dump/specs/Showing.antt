@@ -6,6 +6,6 @@ use Rattle.gt_types.specs.declared.denial.Field.{Field}
 use Rattle.gt_entry.specs.declared.entry.Entry.{Entry}
 
 -- what the decoders answer: the entry, or the first field that is refused
-abbrev pub answer_text : Result Entry Field → List ℕ
-answer_text (Ok entry) = entry_text entry
-answer_text (Err field) = codes "refused " ++ field_name field
+abbrev pub decoded_text : Result Entry Field → List ℕ
+decoded_text (Ok entry) = entry_text entry
+decoded_text (Err field) = codes "refused " ++ field_name field

@@ -51,9 +51,9 @@ impl From<AllocError> for DumpFault {
 
 impl From<ReadFault> for DumpFault {
     ghost use Rattle.std.specs.Prelude.{◌≡◌};
-    ghost use Rattle.gt_dump.specs.Faults.{read_fault};
+    ghost use Rattle.gt_dump.specs.Faults.{dump_read_fault};
 
-    ghost from_gives = { λ error fault. fault ≡ read_fault error };
+    ghost from_gives = { λ error fault. fault ≡ dump_read_fault error };
 
     fn from(error: ReadFault) -> DumpFault {
         match error {

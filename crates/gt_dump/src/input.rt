@@ -1,6 +1,6 @@
 //! The bytes of a dump, or hexadecimal text for them.
 ghost use Rattle.std.specs.Prelude.{◌≡◌, ◌≤◌, length, IfOk, IfErr};
-ghost use Rattle.gt_dump.specs.Dumps.{IsNoDump, Says, digits_of};
+ghost use Rattle.gt_dump.specs.Dumps.{IsNoDump, SaysDump, digits_of};
 
 use crate::fault::DumpFault;
 use gt_types::LONGEST_TEXT;
@@ -21,7 +21,7 @@ fn digits_of(alloc: Global, input: &[u8]) -> Result<Vec<u8>, AllocError>
 /// The bytes that the input says: its own, or, if it is `hex`, those that its hexadecimal digits say, two digits for
 /// each. An Err says that it is no such text, that it has more than 1,048,576 bytes, or that memory was refused.
 pub fn bytes_of(alloc: Global, hex: bool, input: Vec<u8>) -> Result<Vec<u8>, DumpFault>
-    ensures says { IfOk result (λ bytes. Says hex input.items bytes.items) }
+    ensures says { IfOk result (λ bytes. SaysDump hex input.items bytes.items) }
     ensures few { IfOk result (λ _. length input.items ≤ LONGEST_TEXT) }
     ensures fault { IfErr result (λ fault. IsNoDump hex input.items fault) }
 {

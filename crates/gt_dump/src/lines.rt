@@ -2,7 +2,7 @@
 ghost use Rattle.std.specs.Prelude.{◌≡◌, ◌==◌, ◌++◌, ℕ, List, OnOk};
 ghost use Rattle.std.specs.List.{list_all};
 ghost use Rattle.gt_entry.specs.Bytes.{entry_size};
-ghost use Rattle.gt_dump.specs.Dumps.{Decodes, IsLine, TellsEntry, is_left_out, line_text, shown_text};
+ghost use Rattle.gt_dump.specs.Dumps.{Decodes, IsEntryLine, TellsEntry, is_left_out, dump_line_text, field_text};
 ghost use Rattle.gt_dump.specs.Live.{cleared};
 
 use crate::asked::Asked;
@@ -28,7 +28,7 @@ fn push_shown(
     bytes: &[u8],
     answer: Result<Entry, Field>,
 ) -> Result<(), AllocError>
-    ensures { OnOk result (out.new.items ≡ out.old.items ++ shown_text gref bytes.now answer) }
+    ensures { OnOk result (out.new.items ≡ out.old.items ++ field_text gref bytes.now answer) }
 {
     push_number(out, gref)?;
     push_text(out, " ")?;
@@ -49,7 +49,7 @@ fn push_answered(
 ) -> Result<(), AllocError>
     requires { plain.items ≡ cleared bytes.now }
     ensures { OnOk result (out.new.items ≡ out.old.items
-        ++ line_text asked.script asked.version gref bytes.now answer) }
+        ++ dump_line_text asked.script asked.version gref bytes.now answer) }
 {
     let Some(dom) = asked.script else {
         return push_shown(out, gref, bytes, answer);
@@ -71,7 +71,7 @@ fn push_line(
     gref: usize,
     bytes: &[u8],
 ) -> Result<(), AllocError>
-    ensures { OnOk result ((line : List ℕ) × IsLine asked gref bytes.now line
+    ensures { OnOk result ((line : List ℕ) × IsEntryLine asked gref bytes.now line
         × (out.new.items ≡ out.old.items ++ line)) }
 {
     let plain = cleared(alloc, bytes)?;

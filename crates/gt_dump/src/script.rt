@@ -2,7 +2,7 @@
 ghost use Rattle.std.specs.Prelude.{◌≡◌, ◌++◌, IfOk, OnOk, codes};
 ghost use Rattle.hex.specs.Hex.{encode_lower};
 ghost use Rattle.gt_dump.specs.Live.{live_text};
-ghost use Rattle.gt_dump.specs.Script.{call_text, comment_text, frame_note, frame_place, renumbered, with_frame};
+ghost use Rattle.gt_dump.specs.Script.{bytes_call_text, comment_text, frame_note, frame_place, renumbered, with_frame};
 
 use crate::live::push_live;
 use gt_entry::Entry;
@@ -99,7 +99,7 @@ pub fn push_call(
     bytes: &[u8],
 ) -> Result<(), AllocError>
     ensures { OnOk result (out.new.items ≡ out.old.items
-        ++ call_text dom version gref entry plain.items (live_text bytes.now)) }
+        ++ bytes_call_text dom version gref entry plain.items (live_text bytes.now)) }
 {
     push_text(out, "do ")?;
     push_number(out, dom.0)?;

@@ -1,6 +1,6 @@
 //! What the decoders answer for an entry's bytes.
 ghost use Rattle.std.specs.Prelude.{◌≡◌, ◌++◌, OnOk, codes};
-ghost use Rattle.gt_dump.specs.Showing.{answer_text};
+ghost use Rattle.gt_dump.specs.Showing.{decoded_text};
 
 use gt_entry::Entry;
 use gt_texts::{push_entry, push_text};
@@ -9,7 +9,7 @@ use std::alloc::AllocError;
 
 /// Appends what the decoders answer for an entry's bytes. After an Err a part of it may be there.
 pub fn push_answer(out: &mut Vec<u8>, answer: Result<Entry, Field>) -> Result<(), AllocError>
-    ensures { OnOk result (out.new.items ≡ out.old.items ++ answer_text answer) }
+    ensures { OnOk result (out.new.items ≡ out.old.items ++ decoded_text answer) }
 {
     match answer {
         Ok(entry) => push_entry(out, entry),

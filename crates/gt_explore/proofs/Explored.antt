@@ -15,7 +15,7 @@ use Rattle.gt_streams.specs.declared.fault.ReadFault.{ReadFault}
 use Rattle.gt_streams.specs.declared.fault.ReadFault.TheVariants as reads
 use Rattle.gt_replay.specs.Orders.{MayGive}
 use Rattle.gt_explore.specs.Exploring.{Explored, Explores, IsMadeBy}
-use Rattle.gt_explore.specs.Telling.{told as told_of}
+use Rattle.gt_explore.specs.Telling.{texts_told as told_of}
 use Rattle.gt_explore.specs.declared.exploring.Made.{Made}
 use Rattle.gt_explore.specs.declared.fault.TextsFault.{TextsFault}
 use Rattle.gt_explore.specs.declared.texts.Given.{Given}

@@ -23,18 +23,19 @@ abbrev pub heading : ℕ → ℕ → List ℕ
 heading number count = codes "text " ++ decimal number ++ codes " of " ++ decimal count ++ codes "\n"
 
 -- a text under its number, if it is asked for
-abbrev pub shown : Option (List ℕ) → ℕ → ℕ → List ℕ → List ℕ
-shown find count number text = if is_wanted find text then heading number count ++ text else []
+abbrev pub text_shown : Option (List ℕ) → ℕ → ℕ → List ℕ → List ℕ
+text_shown find count number text = if is_wanted find text then heading number count ++ text else []
 
 -- those of these texts that are asked for, the first of them under the number after this one
 abbrev pub listed : Option (List ℕ) → ℕ → ℕ → List (List ℕ) → List ℕ
 listed find count before [] = []
-listed find count before (text ∷ texts) = shown find count (before + 1) text ++ listed find count (before + 1) texts
+listed find count before (text ∷ texts) =
+    text_shown find count (before + 1) text ++ listed find count (before + 1) texts
 
 -- the last line
 abbrev pub states_line : ℕ → List ℕ
 states_line states = codes "states " ++ decimal states ++ codes "\n"
 
 -- all that is written of these texts
-abbrev pub told : Option (List ℕ) → ℕ → List (List ℕ) → List ℕ
-told find states texts = listed find (length texts) 0 texts ++ states_line states
+abbrev pub texts_told : Option (List ℕ) → ℕ → List (List ℕ) → List ℕ
+texts_told find states texts = listed find (length texts) 0 texts ++ states_line states

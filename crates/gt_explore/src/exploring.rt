@@ -1,12 +1,12 @@
 //! The command `explore`.
 ghost use Rattle.std.specs.Prelude.{◌≡◌, ℕ, List, IfOk, take, map};
-ghost use Rattle.gt_script.specs.Contents.{told};
+ghost use Rattle.gt_script.specs.Contents.{contents_told};
 ghost use Rattle.gt_script.specs.RunContents.{run_told};
 ghost use Rattle.gt_script.specs.RunScripts.{CanConfigure, RunTells};
 ghost use Rattle.gt_streams.specs.Streams.{ConsumesAtMost, OfInput};
 ghost use Rattle.gt_streams.specs.declared.streams.TheConstants.{READ_LIMIT};
 ghost use Rattle.gt_explore.specs.Exploring.{Explored, Explores, IsMade, word_asked};
-ghost use Rattle.gt_explore.specs.Telling.{told as told_of};
+ghost use Rattle.gt_explore.specs.Telling.{texts_told as told_of};
 
 use crate::fault::{ExploreFault, TextsFault};
 use crate::telling::push_told;
@@ -52,7 +52,7 @@ fn witness_made(
     all: &Texts,
     number: usize,
 ) -> Result<Made, TextsFault>
-    requires { CanConfigure (told script.now.head) }
+    requires { CanConfigure (contents_told script.now.head) }
 {
     let Some(given) = all.texts.get(number.wrapping_sub(1)) else {
         return Err(TextsFault::Witness);
@@ -67,7 +67,7 @@ fn witness_made(
 
 // What is to be written of a script.
 fn make(alloc: Global, asked: &Asked, source: &[u8], script: &RunScript) -> Result<Made, TextsFault>
-    requires { CanConfigure (told script.now.head) }
+    requires { CanConfigure (contents_told script.now.head) }
     ensures { IfOk result (λ made. IsMade (run_told script.now) asked.now made.text.items) }
 {
     let all = texts_of(alloc, script, asked.states)?;
@@ -85,7 +85,7 @@ fn explore_script<W: Write>(
     script: &RunScript,
     writer: &mut W,
 ) -> Result<bool, ExploreFault>
-    requires { CanConfigure (told script.now.head) }
+    requires { CanConfigure (contents_told script.now.head) }
     ensures { Explores (run_told script.now) asked.now (W.contents writer.old) (W.contents writer.new) result }
 {
     match make(alloc, asked, source, script) {

@@ -1,7 +1,8 @@
 //! What is written of the texts that a script may give.
 ghost use Rattle.std.specs.Prelude.{◌≡◌, ◌++◌, OnOk, IfOk, map};
 ghost use Rattle.std.specs.Option.{option_map};
-ghost use Rattle.gt_explore.specs.Telling.{has_word, heading, is_between, is_wanted, shown, states_line, told};
+ghost use Rattle.gt_explore.specs.Telling.{has_word, heading, is_between, is_wanted, text_shown, states_line};
+ghost use Rattle.gt_explore.specs.Telling.{texts_told};
 
 use crate::texts::Given;
 use gt_lines::is;
@@ -52,7 +53,7 @@ fn push_shown(
     text: &[u8],
 ) -> Result<bool, AllocError>
     ensures text { OnOk result (out.new.items
-        ≡ out.old.items ++ shown (option_map (λ word. word.now) find.entry) count number text.now) }
+        ≡ out.old.items ++ text_shown (option_map (λ word. word.now) find.entry) count number text.now) }
     ensures wanted { IfOk result (λ b. b ≡ is_wanted (option_map (λ word. word.now) find.entry) text.now) }
 {
     if !is_wanted(text, find) {
@@ -80,7 +81,7 @@ pub fn push_told(
     texts: &[Given],
 ) -> Result<bool, AllocError>
     ensures text { OnOk result (out.new.items ≡ out.old.items
-        ++ told (option_map (λ word. word.now) find.entry) states (map (λ given. given.text.items) texts.now)) }
+        ++ texts_told (option_map (λ word. word.now) find.entry) states (map (λ given. given.text.items) texts.now)) }
 {
     let mut is_any = false;
     let mut number = 0;

@@ -1,6 +1,6 @@
 //! The texts that a script may give.
 ghost use Rattle.std.specs.Prelude.{◌≤◌, length, All, IfOk, IfSome, OnOk};
-ghost use Rattle.gt_script.specs.Contents.{told};
+ghost use Rattle.gt_script.specs.Contents.{contents_told};
 ghost use Rattle.gt_script.specs.RunContents.{run_told};
 ghost use Rattle.gt_script.specs.RunScripts.{CanConfigure};
 ghost use Rattle.gt_replay.specs.Orders.{MayGive};
@@ -65,7 +65,7 @@ pub fn texts_of<'s, 'a>(
     script: &'s RunScript<'a>,
     limit: usize,
 ) -> Result<Texts, TextsFault>
-    requires { CanConfigure (told script.now.head) }
+    requires { CanConfigure (contents_told script.now.head) }
     ensures { IfOk result (λ all. All (λ given. MayGive (run_told script.now) given.text.items) all.texts.items) }
 {
     let found = search(alloc, script, limit)?;

@@ -1,5 +1,5 @@
 //! A script for `play` that makes the moves of an order.
-ghost use Rattle.gt_script.specs.Contents.{told};
+ghost use Rattle.gt_script.specs.Contents.{contents_told};
 ghost use Rattle.gt_script.specs.RunScripts.{CanConfigure};
 
 use crate::fault::TextsFault;
@@ -87,7 +87,7 @@ pub fn push_witness<'s, 'a>(
     script: &'s RunScript<'a>,
     turns: &[Turn],
 ) -> Result<(), TextsFault>
-    requires { CanConfigure (told script.now.head) }
+    requires { CanConfigure (contents_told script.now.head) }
 {
     let lines = text_lines(alloc, source)?;
     push_head(out, lines.as_slice(), body_of(script.tasks()))?;

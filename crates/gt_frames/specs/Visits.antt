@@ -10,12 +10,12 @@ pub record Visit : Type 0 where
   pub after : FrameState
 
 -- the frame of this name was locked
-abbrev pub IsOf : FrameName → Visit → Type 0
-IsOf name v = name_of v.before ≡ name
+abbrev pub IsVisitOf : FrameName → Visit → Type 0
+IsVisitOf name v = name_of v.before ≡ name
 
 -- the frame of this name was locked, and left as it was
 abbrev pub LeavesIt : FrameName → Visit → Type 0
-LeavesIt name v = IsOf name v × (v.after ≡ v.before)
+LeavesIt name v = IsVisitOf name v × (v.after ≡ v.before)
 
 -- the frame was just locked
 abbrev pub IsFresh : Visit → Type 0

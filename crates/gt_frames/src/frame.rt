@@ -1,5 +1,6 @@
 //! One frame: its bytes and its journal.
-ghost use Rattle.std.specs.Prelude.{◌≡◌, ◌+◌, ◌≤◌, ◌++◌, [], ◌∷◌, None, length, slice_range, vec_capacity, vec_len, IsTrue, IfOk};
+ghost use Rattle.std.specs.Prelude.{◌≡◌, ◌+◌, ◌≤◌, ◌++◌, [], ◌∷◌, None, length, slice_range, vec_capacity, vec_len};
+ghost use Rattle.std.specs.Prelude.{IsTrue, IfOk};
 ghost use Rattle.std.specs.Prelude.{OnOk, OnErr};
 ghost use Rattle.gt_frames.specs.Bytes.{overlay};
 ghost use Rattle.gt_frames.specs.Frames.{recorded};

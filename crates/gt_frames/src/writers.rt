@@ -98,7 +98,8 @@ fn set_all(numbers: &mut [u16], number: u16)
 }
 
 impl Writers {
-    ghost use Rattle.std.specs.Prelude.{◌≡◌, ◌+◌, ◌<◌, ◌≤◌, ◌-◌, ℕ, Some, None, IfOk, OnOk, OnErr, false, true, length, replicate, slice_get, slice_index_or};
+    ghost use Rattle.std.specs.Prelude.{◌≡◌, ◌+◌, ◌<◌, ◌≤◌, ◌-◌, ℕ, Some, None, IfOk, OnOk, OnErr, false, true, length};
+    ghost use Rattle.std.specs.Prelude.{replicate, slice_get, slice_index_or};
     ghost use Rattle.gt_frames.specs.Bytes.{overlay};
     ghost use Rattle.gt_frames.specs.Writers.{AreWriters, HasWrit, IsUsed, ShowsSame, shown};
 

@@ -7,7 +7,7 @@ use Rattle.std.proofs.lemmas.List.{append-nil}
 use Rattle.std.proofs.lemmas.Bool.{eq-eqb, ne_eqb}
 use Rattle.std.specs.Prelude.{◌==◌, option_to_list}
 use Rattle.gt_types.specs.declared.DomId.{DomId}
-use Rattle.gt_calls.specs.Asking.{asked, given_by}
+use Rattle.gt_calls.specs.Asking.{asked, bytes_given_by}
 use Rattle.gt_calls.specs.declared.action.Seen.{Seen}
 use Rattle.gt_calls.specs.declared.action.Step.{Step}
 use Rattle.gt_calls.specs.declared.request.Request.{Request}
@@ -64,7 +64,7 @@ began_told : (s : Setting) (i : Item) (h : History) (d : DomId) (request : Reque
 began_told s i h d request own began none =
     let here : i.actor.0 ≡ d.0 = ap (λ (t : DomId). t.0) own in
     let before : before_call (i ∷ h) d.0 ≡ h = own_before i h d.0 here ∙ ap (λ (e : Happened). before_begun e h (before_call h d.0)) began in
-    let call : open_call (i ∷ h) d.0 ≡ Some (record { request = asked request; given = given_by request; steps = [] }) =
+    let call : open_call (i ∷ h) d.0 ≡ Some (record { request = asked request; given = bytes_given_by request; steps = [] }) =
     own_call i h d.0 here ∙ ap (λ (o : Option Answer). underway_after (record { actor = i.actor; happened = i.happened; answer = o }) (open_call h d.0)) none
     ∙ ap (λ (e : Happened). underway_with e (open_call h d.0)) began in
     ap (λ (b : History). underway_told s d b (open_call (i ∷ h) d.0)) before ∙ ap (λ (o : Option Underway). underway_told s d h o) call

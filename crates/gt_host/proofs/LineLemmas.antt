@@ -17,7 +17,7 @@ use Rattle.gt_core.specs.States.{CoreState}
 use Rattle.gt_core.specs.declared.core_state.Begun.{Begun}
 use Rattle.gt_core.specs.declared.core_state.Begun.TheVariants as begun
 use Rattle.gt_core.specs.declared.core_state.Shown.{Shown}
-use Rattle.gt_calls.specs.Asking.{asked, given_by}
+use Rattle.gt_calls.specs.Asking.{asked, bytes_given_by}
 use Rattle.gt_calls.specs.declared.request.Request.{Request}
 use Rattle.gt_core.specs.declared.trace.Answer.{Answer}
 use Rattle.gt_core.specs.declared.trace.Event.{Event}
@@ -37,10 +37,11 @@ use Rattle.gt_host.specs.Naming.{AreNamed}
 use Rattle.gt_host.specs.OpenCalls.{call_in, told_in}
 use Rattle.gt_host.specs.Printing.{answer_line, busy_line, idle_line}
 use Rattle.gt_host.specs.Runs.{Progress, Named, DoLine, BeginLine, TickLine, ShowLine, history_of, with_events}
-use Rattle.gt_host.specs.Runs.{with_line, after_call, after_ticks, after_beginning, named_after, Asks, call_events}
+use Rattle.gt_host.specs.Runs.{with_line, progress_after, after_ticks, progress_begun, named_after, SaysRequest}
+use Rattle.gt_host.specs.Runs.{call_events}
 use Rattle.gt_host.specs.Recording.{IsAbout}
 use Rattle.gt_host.specs.Showing.{show_line}
-use Rattle.gt_host.specs.Ticking.{Happens, Calls, TicksTo, IsKept, HasCome, IsAppended}
+use Rattle.gt_host.specs.Ticking.{HasHappened, HasCalled, TicksTo, KeepsProgress, HasPlayed, IsAppended}
 use Rattle.gt_host.proofs.AuditLemmas.{AddsRecord, AreTold, Records, audited_begun, audited_busy, audited_call}
 use Rattle.gt_host.proofs.AuditLemmas.{audited_more, audited_ticks, audited_wait}
 use Rattle.gt_host.proofs.EventLemmas.{AreOf, answered_leaves, begins_fresh, event_closes, event_other, events_close}
@@ -73,12 +74,12 @@ some_known None e = cc
 some_known (Some x) e = (x, refl)
 
 -- more has happened
-came : (s : Setting) (audit : Bool) (p : Progress) (events : List Event) (trace : List Element) (named : List Named) (calls : ℕ → Option ScriptStep) (text : List ℕ) (old new : CoreState) (kept next : Kept) → HasCome s audit p old kept → Happens s (history_of p) events trace new
-    → IsKept next (record { events = p.events ++ events; trace = p.trace ++ trace; named = named; open_steps = calls; text = text })
+came : (s : Setting) (audit : Bool) (p : Progress) (events : List Event) (trace : List Element) (named : List Named) (calls : ℕ → Option ScriptStep) (text : List ℕ) (old new : CoreState) (kept next : Kept) → HasPlayed s audit p old kept → HasHappened s (history_of p) events trace new
+    → KeepsProgress next (record { events = p.events ++ events; trace = p.trace ++ trace; named = named; open_steps = calls; text = text })
     → ((n : ℕ) → is_some (calls n) ≡ is_some (open_call (history_after (history_of p) trace) n))
     → next.audit.is_on ≡ kept.audit.is_on
     → (kept.audit.is_on ≡ true → AreTold s (history_of p) (told_in kept.calls) → Records s (history_of p) trace kept.audit.records.items next.audit.records.items (told_in next.calls))
-    → HasCome s audit (record { events = p.events ++ events; trace = p.trace ++ trace; named = named; open_steps = calls; text = text }) new next
+    → HasPlayed s audit (record { events = p.events ++ events; trace = p.trace ++ trace; named = named; open_steps = calls; text = text }) new next
 came s audit p events trace named calls text old new kept next come happens keeps knows same recorded =
     let joined : history_after [] (p.trace ++ trace) ≡ history_after (history_of p) trace = history_after-append [] p.trace trace in
     record {
@@ -90,7 +91,7 @@ came s audit p events trace named calls text old new kept next come happens keep
     }
 
 -- nothing has happened but a line more
-lined : (s : Setting) (audit : Bool) (p : Progress) (line : List ℕ) (domains : CoreState) (kept : Kept) → HasCome s audit p domains kept → HasCome s audit (with_line p line) domains kept
+lined : (s : Setting) (audit : Bool) (p : Progress) (line : List ℕ) (domains : CoreState) (kept : Kept) → HasPlayed s audit p domains kept → HasPlayed s audit (with_line p line) domains kept
 lined s audit p line domains kept come = record {
   legal = come.legal;
   stands = come.stands;
@@ -102,12 +103,12 @@ lined s audit p line domains kept come = record {
 -- `do ID CALL`
 
 pub do_answered : (s : Setting) (audit : Bool) (types : List (List ℕ)) (st : ScriptStep) (call : ScriptCall) (p : Progress) (old new : CoreState) (kept next : Kept) (before after : List ℕ) (request : Request) (said : Outcome) (a : Answer) (told : Option Hypercall)
-    → Asks p.named st.dom call request → said ≡ Answered a → HasCome s audit p old kept → Calls s (history_of p) st.dom request new said
+    → SaysRequest p.named st.dom call request → said ≡ Answered a → HasPlayed s audit p old kept → HasCalled s (history_of p) st.dom request new said
     → (kept.audit.is_on ≡ true → IsAbout s old st.dom request told) → AddsRecord kept next st.dom told a
     → AreNamed next.labels (named_after p.named st.dom st a) → next.calls ≡ kept.calls → after ≡ before ++ answer_line types st.line st.dom a
-    → (q : Progress) × DoLine types st call p q × HasCome s audit q new next × IsAppended p.text q.text before after
+    → (q : Progress) × DoLine types st call p q × HasPlayed s audit q new next × IsAppended p.text q.text before after
 do_answered s audit types st call p old new kept next before after request said a told asks is come made about adds names same line =
-    let made_so = subst (λ (o : Outcome). Calls s (history_of p) st.dom request new o) is made in
+    let made_so = subst (λ (o : Outcome). HasCalled s (history_of p) st.dom request new o) is made in
     let events : List Event = call_events st.dom request made_so.ticks in
     let ends = made_so.comes.3 in
     let first : made_so.trace ≡ Did made_so.comes.0 ∷ made_so.comes.1 = made_so.comes.2 in
@@ -115,7 +116,7 @@ do_answered s audit types st call p old new kept next before after request said 
     let left : (n : ℕ) → open_call (history_after (history_of p) made_so.trace) n ≡ open_call (history_of p) n = λ n.
     subst (λ (l : List Element). open_call (history_after (history_of p) l) n ≡ open_call (history_of p) n) (sym first)
     (answered_leaves s (history_of p) st.dom request made_so.ticks made_so.comes.0 made_so.comes.1 ends.before ends.last a (sym first ∙ ends.order) ends.answers legal n) in (
-      after_call types (with_events p events made_so.trace) st (Answered a),
+      progress_after types (with_events p events made_so.trace) st (Answered a),
       (request, asks, made_so.ticks, made_so.trace, Answered a, made_so.length_of, made_so.comes, refl),
       came s audit p events made_so.trace (named_after p.named st.dom st a) p.open_steps (p.text ++ answer_line types st.line st.dom a) old new kept next come made_so.happens
           (record { names = names; calls = λ n. ap (λ (c : OpenCalls). call_in c n) same ∙ come.keeps.calls n })
@@ -127,12 +128,12 @@ do_answered s audit types st call p old new kept next before after request said 
     )
 
 pub do_busy : (s : Setting) (audit : Bool) (types : List (List ℕ)) (st : ScriptStep) (call : ScriptCall) (p : Progress) (old new : CoreState) (kept : Kept) (before after : List ℕ) (request : Request) (said : Outcome)
-    → Asks p.named st.dom call request → said ≡ IsBusy → HasCome s audit p old kept → Calls s (history_of p) st.dom request new said → after ≡ before ++ busy_line st.line st.dom
-    → (q : Progress) × DoLine types st call p q × HasCome s audit q new kept × IsAppended p.text q.text before after
+    → SaysRequest p.named st.dom call request → said ≡ IsBusy → HasPlayed s audit p old kept → HasCalled s (history_of p) st.dom request new said → after ≡ before ++ busy_line st.line st.dom
+    → (q : Progress) × DoLine types st call p q × HasPlayed s audit q new kept × IsAppended p.text q.text before after
 do_busy s audit types st call p old new kept before after request said asks is come made line =
-    let made_so = subst (λ (o : Outcome). Calls s (history_of p) st.dom request new o) is made in
+    let made_so = subst (λ (o : Outcome). HasCalled s (history_of p) st.dom request new o) is made in
     let events : List Event = call_events st.dom request made_so.ticks in (
-      after_call types (with_events p events made_so.trace) st IsBusy,
+      progress_after types (with_events p events made_so.trace) st IsBusy,
       (request, asks, made_so.ticks, made_so.trace, IsBusy, made_so.length_of, made_so.comes, refl),
       came s audit p events made_so.trace p.named p.open_steps (p.text ++ busy_line st.line st.dom) old new kept kept come made_so.happens
           (record { names = come.keeps.names; calls = come.keeps.calls })
@@ -145,13 +146,13 @@ do_busy s audit types st call p old new kept before after request said asks is c
 
 -- one event of the domain
 begun_once : (s : Setting) (audit : Bool) (types : List (List ℕ)) (st : ScriptStep) (call : ScriptCall) (p : Progress) (request : Request) (x : Element) (named : List Named) (calls : ℕ → Option ScriptStep) (text : List ℕ) (old new : CoreState) (kept next : Kept) (before after : List ℕ)
-    → Asks p.named st.dom call request → HasCome s audit p old kept → MayDo s (history_of p) (Begin st.dom request) x × CoreStands s (grown (history_of p) x) new
-    → after_beginning types (with_events p (Begin st.dom request ∷ []) (x ∷ [])) st x
+    → SaysRequest p.named st.dom call request → HasPlayed s audit p old kept → MayDo s (history_of p) (Begin st.dom request) x × CoreStands s (grown (history_of p) x) new
+    → progress_begun types (with_events p (Begin st.dom request ∷ []) (x ∷ [])) st x
     ≡ record { events = p.events ++ Begin st.dom request ∷ []; trace = p.trace ++ x ∷ []; named = named; open_steps = calls; text = p.text ++ text }
     → AreNamed next.labels named → ((n : ℕ) → call_in next.calls n ≡ calls n) → ((n : ℕ) → (st.dom.0 ≡ n → ⊥) → calls n ≡ p.open_steps n) → is_some (calls st.dom.0) ≡ is_some (open_call (grown (history_of p) x) st.dom.0)
     → next.audit.is_on ≡ kept.audit.is_on
     → (kept.audit.is_on ≡ true → AreTold s (history_of p) (told_in kept.calls) → Records s (history_of p) (x ∷ []) kept.audit.records.items next.audit.records.items (told_in next.calls))
-    → after ≡ before ++ text → (q : Progress) × BeginLine types st call p q × HasCome s audit q new next × IsAppended p.text q.text before after
+    → after ≡ before ++ text → (q : Progress) × BeginLine types st call p q × HasPlayed s audit q new next × IsAppended p.text q.text before after
 begun_once s audit types st call p request x named calls text old new kept next before after asks come told is names known others here on_same recorded line =
     let happens = happens_one s (history_of p) (Begin st.dom request) x new told in (
       record { events = p.events ++ Begin st.dom request ∷ []; trace = p.trace ++ x ∷ []; named = named; open_steps = calls; text = p.text ++ text },
@@ -163,9 +164,9 @@ begun_once s audit types st call p request x named calls text old new kept next 
     )
 
 pub begin_answered : (s : Setting) (audit : Bool) (types : List (List ℕ)) (st : ScriptStep) (call : ScriptCall) (p : Progress) (old new : CoreState) (kept next : Kept) (before after : List ℕ) (request : Request) (said : Begun) (a : Answer) (hyper : Option Hypercall)
-    → Asks p.named st.dom call request → said ≡ begun.Done a → HasCome s audit p old kept → (kept.audit.is_on ≡ true → IsAbout s old st.dom request hyper) → AddsRecord kept next st.dom hyper a → MayDo s (history_of p) (Begin st.dom request) (begun_element st.dom request said) × CoreStands s (grown (history_of p) (begun_element st.dom request said)) new
+    → SaysRequest p.named st.dom call request → said ≡ begun.Done a → HasPlayed s audit p old kept → (kept.audit.is_on ≡ true → IsAbout s old st.dom request hyper) → AddsRecord kept next st.dom hyper a → MayDo s (history_of p) (Begin st.dom request) (begun_element st.dom request said) × CoreStands s (grown (history_of p) (begun_element st.dom request said)) new
     → AreNamed next.labels (named_after p.named st.dom st a) → next.calls ≡ kept.calls → after ≡ before ++ answer_line types st.line st.dom a
-    → (q : Progress) × BeginLine types st call p q × HasCome s audit q new next × IsAppended p.text q.text before after
+    → (q : Progress) × BeginLine types st call p q × HasPlayed s audit q new next × IsAppended p.text q.text before after
 begin_answered s audit types st call p old new kept next before after request said a hyper asks is come about adds told names same line =
     let i : Item = record { actor = st.dom; happened = Began request; answer = Some a } in
     let told_so = subst (λ (b : Begun). MayDo s (history_of p) (Begin st.dom request) (begun_element st.dom request b) × CoreStands s (grown (history_of p) (begun_element st.dom request b)) new) is told in
@@ -178,23 +179,23 @@ begin_answered s audit types st call p old new kept next before after request sa
     line
 
 pub begin_busy : (s : Setting) (audit : Bool) (types : List (List ℕ)) (st : ScriptStep) (call : ScriptCall) (p : Progress) (old new : CoreState) (kept : Kept) (before after : List ℕ) (request : Request) (said : Begun)
-    → Asks p.named st.dom call request → said ≡ begun.Busy → HasCome s audit p old kept → MayDo s (history_of p) (Begin st.dom request) (begun_element st.dom request said) × CoreStands s (grown (history_of p) (begun_element st.dom request said)) new
-    → after ≡ before ++ busy_line st.line st.dom → (q : Progress) × BeginLine types st call p q × HasCome s audit q new kept × IsAppended p.text q.text before after
+    → SaysRequest p.named st.dom call request → said ≡ begun.Busy → HasPlayed s audit p old kept → MayDo s (history_of p) (Begin st.dom request) (begun_element st.dom request said) × CoreStands s (grown (history_of p) (begun_element st.dom request said)) new
+    → after ≡ before ++ busy_line st.line st.dom → (q : Progress) × BeginLine types st call p q × HasPlayed s audit q new kept × IsAppended p.text q.text before after
 begin_busy s audit types st call p old new kept before after request said asks is come told line =
     let told_so = subst (λ (b : Begun). MayDo s (history_of p) (Begin st.dom request) (begun_element st.dom request b) × CoreStands s (grown (history_of p) (begun_element st.dom request b)) new) is told in
     begun_once s audit types st call p request Busy p.named p.open_steps (busy_line st.line st.dom) old new kept kept before after asks come told_so refl come.keeps.names come.keeps.calls (λ n apart. refl) (come.knows st.dom.0) refl
     (λ on known. audited_busy s (history_of p) (Busy ∷ []) kept.audit.records.items (told_in kept.calls) refl known) line
 
 begun_open : (s : Setting) (audit : Bool) (types : List (List ℕ)) (st : ScriptStep) (call : ScriptCall) (p : Progress) (old new : CoreState) (kept next : Kept) (before after : List ℕ) (request : Request) (hyper : Option Hypercall)
-    → Asks p.named st.dom call request → HasCome s audit p old kept → (kept.audit.is_on ≡ true → IsAbout s old st.dom request hyper) → next.audit ≡ kept.audit → ((n : ℕ) → told_in next.calls n ≡ cond (n == st.dom.0) hyper (told_in kept.calls n))
+    → SaysRequest p.named st.dom call request → HasPlayed s audit p old kept → (kept.audit.is_on ≡ true → IsAbout s old st.dom request hyper) → next.audit ≡ kept.audit → ((n : ℕ) → told_in next.calls n ≡ cond (n == st.dom.0) hyper (told_in kept.calls n))
     → MayDo s (history_of p) (Begin st.dom request) (Did (record { actor = st.dom; happened = Began request; answer = None }))
     × CoreStands s (record { actor = st.dom; happened = Began request; answer = None } ∷ history_of p) new
     → next.labels ≡ kept.labels → ((n : ℕ) → call_in next.calls n ≡ cond (n == st.dom.0) (Some st) (call_in kept.calls n)) → after ≡ before
-    → (q : Progress) × BeginLine types st call p q × HasCome s audit q new next × IsAppended p.text q.text before after
+    → (q : Progress) × BeginLine types st call p q × HasPlayed s audit q new next × IsAppended p.text q.text before after
 begun_open s audit types st call p old new kept next before after request hyper asks come about was_so picked told same known line =
     let i : Item = record { actor = st.dom; happened = Began request; answer = None } in
     let calls : ℕ → Option ScriptStep = λ n. cond (n == st.dom.0) (Some st) (p.open_steps n) in
-    let now : open_call (i ∷ history_of p) st.dom.0 ≡ Some (record { request = asked request; given = given_by request; steps = [] }) = own_call i (history_of p) st.dom.0 refl in
+    let now : open_call (i ∷ history_of p) st.dom.0 ≡ Some (record { request = asked request; given = bytes_given_by request; steps = [] }) = own_call i (history_of p) st.dom.0 refl in
     begun_once s audit types st call p request (Did i) p.named calls [] old new kept next before after asks come told
     (ap (λ (text : List ℕ). record { events = p.events ++ Begin st.dom request ∷ []; trace = p.trace ++ Did i ∷ []; named = p.named; open_steps = calls; text = text }) (sym (append-nil p.text)))
     (subst (λ (l : Labels). AreNamed l p.named) (sym same) come.keeps.names)
@@ -205,11 +206,11 @@ begun_open s audit types st call p old new kept next before after request hyper 
     (line ∙ sym (append-nil before))
 
 pub begin_open : (s : Setting) (audit : Bool) (types : List (List ℕ)) (st : ScriptStep) (call : ScriptCall) (p : Progress) (old new : CoreState) (kept next : Kept) (before after : List ℕ) (request : Request) (said : Begun) (hyper : Option Hypercall)
-    → Asks p.named st.dom call request → domain_of s.domains st.dom ≢ None → (said ≡ begun.Open) ⊎ (said ≡ begun.NoDomain) → HasCome s audit p old kept
+    → SaysRequest p.named st.dom call request → domain_of s.domains st.dom ≢ None → (said ≡ begun.Open) ⊎ (said ≡ begun.NoDomain) → HasPlayed s audit p old kept
     → (kept.audit.is_on ≡ true → IsAbout s old st.dom request hyper) → next.audit ≡ kept.audit → ((n : ℕ) → told_in next.calls n ≡ cond (n == st.dom.0) hyper (told_in kept.calls n))
     → MayDo s (history_of p) (Begin st.dom request) (begun_element st.dom request said) × CoreStands s (grown (history_of p) (begun_element st.dom request said)) new
     → next.labels ≡ kept.labels → ((n : ℕ) → call_in next.calls n ≡ cond (n == st.dom.0) (Some st) (call_in kept.calls n)) → after ≡ before
-    → (q : Progress) × BeginLine types st call p q × HasCome s audit q new next × IsAppended p.text q.text before after
+    → (q : Progress) × BeginLine types st call p q × HasPlayed s audit q new next × IsAppended p.text q.text before after
 begin_open s audit types st call p old new kept next before after request said hyper asks configured (inl is) come about was_so picked told same known line =
     begun_open s audit types st call p old new kept next before after request hyper asks come about was_so picked
     (subst (λ (b : Begun). MayDo s (history_of p) (Begin st.dom request) (begun_element st.dom request b) × CoreStands s (grown (history_of p) (begun_element st.dom request b)) new) is told)
@@ -221,9 +222,9 @@ begin_open s audit types st call p old new kept next before after request said h
 
 pub ticks_answered : (s : Setting) (audit : Bool) (types : List (List ℕ)) (st : ScriptStep) (most : ℕ) (begun : ScriptStep) (p : Progress) (old new : CoreState) (kept next : Kept) (before after : List ℕ) (said : Option Answer) (a : Answer) (hyper : Option Hypercall)
     → hyper ≡ told_in kept.calls st.dom.0 → AddsRecord kept next st.dom hyper a → ((n : ℕ) → told_in next.calls n ≡ cond (n == st.dom.0) None (told_in kept.calls n))
-    → call_in kept.calls st.dom.0 ≡ Some begun → said ≡ Some a → HasCome s audit p old kept → TicksTo s (history_of p) st.dom most new said
+    → call_in kept.calls st.dom.0 ≡ Some begun → said ≡ Some a → HasPlayed s audit p old kept → TicksTo s (history_of p) st.dom most new said
     → AreNamed next.labels (named_after p.named st.dom begun a) → ((n : ℕ) → call_in next.calls n ≡ cond (n == st.dom.0) None (call_in kept.calls n)) → after ≡ before ++ answer_line types begun.line st.dom a
-    → (q : Progress) × TickLine types st most (p.open_steps st.dom.0) p q × HasCome s audit q new next × IsAppended p.text q.text before after
+    → (q : Progress) × TickLine types st most (p.open_steps st.dom.0) p q × HasPlayed s audit q new next × IsAppended p.text q.text before after
 ticks_answered s audit types st most begun p old new kept next before after said a hyper about adds picked begins is come ticks names known line =
     let made = subst (λ (o : Option Answer). TicksTo s (history_of p) st.dom most new o) is ticks in
     let events : List Event = replicate made.ticks (Tick st.dom) in
@@ -246,8 +247,8 @@ ticks_answered s audit types st most begun p old new kept next before after said
     )
 
 pub ticks_open : (s : Setting) (audit : Bool) (types : List (List ℕ)) (st : ScriptStep) (most : ℕ) (begun : ScriptStep) (p : Progress) (old new : CoreState) (kept : Kept) (before after : List ℕ) (said : Option Answer)
-    → domain_of s.domains st.dom ≢ None → call_in kept.calls st.dom.0 ≡ Some begun → said ≡ None → HasCome s audit p old kept → TicksTo s (history_of p) st.dom most new said → after ≡ before
-    → (q : Progress) × TickLine types st most (p.open_steps st.dom.0) p q × HasCome s audit q new kept × IsAppended p.text q.text before after
+    → domain_of s.domains st.dom ≢ None → call_in kept.calls st.dom.0 ≡ Some begun → said ≡ None → HasPlayed s audit p old kept → TicksTo s (history_of p) st.dom most new said → after ≡ before
+    → (q : Progress) × TickLine types st most (p.open_steps st.dom.0) p q × HasPlayed s audit q new kept × IsAppended p.text q.text before after
 ticks_open s audit types st most begun p old new kept before after said configured begins is come ticks line =
     let made = subst (λ (o : Option Answer). TicksTo s (history_of p) st.dom most new o) is ticks in
     let events : List Event = replicate made.ticks (Tick st.dom) in
@@ -267,8 +268,8 @@ ticks_open s audit types st most begun p old new kept before after said configur
     )
 
 pub ticks_idle : (s : Setting) (audit : Bool) (types : List (List ℕ)) (st : ScriptStep) (most : ℕ) (p : Progress) (domains : CoreState) (kept : Kept) (before after : List ℕ)
-    → call_in kept.calls st.dom.0 ≡ None → HasCome s audit p domains kept → after ≡ before ++ idle_line st.line st.dom
-    → (q : Progress) × TickLine types st most (p.open_steps st.dom.0) p q × HasCome s audit q domains kept × IsAppended p.text q.text before after
+    → call_in kept.calls st.dom.0 ≡ None → HasPlayed s audit p domains kept → after ≡ before ++ idle_line st.line st.dom
+    → (q : Progress) × TickLine types st most (p.open_steps st.dom.0) p q × HasPlayed s audit q domains kept × IsAppended p.text q.text before after
 ticks_idle s audit types st most p domains kept before after none come line =
     let q : Progress = with_line p (idle_line st.line st.dom) in
     let has : p.open_steps st.dom.0 ≡ None = sym (come.keeps.calls st.dom.0) ∙ none in
@@ -282,8 +283,8 @@ ticks_idle s audit types st most p domains kept before after none come line =
 -- `show ID REF`
 
 pub shows : (s : Setting) (audit : Bool) (st : ScriptStep) (gref : GrantRef) (p : Progress) (domains : CoreState) (kept : Kept) (before after : List ℕ) (shown : Option Shown)
-    → HasCome s audit p domains kept → ((h : History) → CoreStands s h domains → shown ≡ shown_at s h st.dom gref.0) → after ≡ before ++ show_line st.line st.dom gref shown
-    → (q : Progress) × ShowLine s st gref p q × HasCome s audit q domains kept × IsAppended p.text q.text before after
+    → HasPlayed s audit p domains kept → ((h : History) → CoreStands s h domains → shown ≡ shown_at s h st.dom gref.0) → after ≡ before ++ show_line st.line st.dom gref shown
+    → (q : Progress) × ShowLine s st gref p q × HasPlayed s audit q domains kept × IsAppended p.text q.text before after
 shows s audit st gref p domains kept before after shown come told line =
     let text : List ℕ = show_line st.line st.dom gref (shown_at s (history_of p) st.dom gref.0) in (
       with_line p text,

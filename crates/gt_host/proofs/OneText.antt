@@ -12,7 +12,7 @@ use Rattle.gt_lines.specs.declared.calls.ScriptCall.{ScriptCall}
 use Rattle.gt_lines.specs.declared.calls.ScriptAction.{ScriptAction}
 use Rattle.gt_lines.specs.declared.calls.ScriptAction.TheVariants as actions
 use Rattle.gt_script.specs.Contents.{Contents, type_names}
-use Rattle.gt_script.specs.Script.{Tells, Wrong}
+use Rattle.gt_script.specs.Script.{TellsScript, Wrong}
 use Rattle.gt_script.specs.declared.script.ScriptStep.{ScriptStep}
 use Rattle.gt_calls.specs.declared.request.Request.{Request}
 use Rattle.gt_core.specs.declared.trace.Answer.{Answer}
@@ -25,19 +25,19 @@ use Rattle.gt_core.specs.History.{History, Setting}
 use Rattle.gt_core.specs.Legal.{Legal, LegalAfter, grown, history_after}
 use Rattle.gt_core.specs.Shown.{shown_at}
 use Rattle.gt_core.specs.declared.core_state.Shown.{Shown}
-use Rattle.gt_core.specs.Alike.{told, SameEvent, SameElement, IsOfKnown, IsRun, AreAlike}
+use Rattle.gt_core.specs.Alike.{told_part, SameEvent, SameElement, IsOfKnown, IsRun, AreAlike}
 use Rattle.gt_streams.specs.Streams.{AppendsBeginning}
 use Rattle.gt_streams.specs.Laws.{begins_longer}
 use Rattle.gt_host.specs.declared.outcome.Outcome.{Outcome}
 use Rattle.gt_host.specs.declared.outcome.Outcome.TheVariants.{Answered, Busy}
 use Rattle.gt_host.specs.Printing.{answer_text, answer_line, call_text, busy_line, idle_line}
 use Rattle.gt_host.specs.Showing.{show_line}
-use Rattle.gt_host.specs.Playing.{IsLegalRunOf, setting_of_script, whole_text, audited_text, BeginsRun, BeginsEvery}
+use Rattle.gt_host.specs.Playing.{IsLegalRunOf, setting_of_script, play_text, audited_text, BeginsRun, BeginsEvery}
 use Rattle.gt_host.specs.Playing.{Played}
-use Rattle.gt_host.specs.Runs.{Progress, AnswerNothing, EndsWith, ComesTo, TicksComeTo, answer_in, call_events}
-use Rattle.gt_host.specs.Runs.{at_start, history_of, with_events, with_line, with_call, answered, after_call}
-use Rattle.gt_host.specs.Runs.{after_item, after_beginning, after_ticks, DoLine, BeginLine, TickLine, ShowLine}
-use Rattle.gt_host.specs.Runs.{RunsLine, LeadsTo, open_lines}
+use Rattle.gt_host.specs.Runs.{Progress, AnswerNothing, EndsWith, EndsAsOutcome, TicksComeTo, answer_in, call_events}
+use Rattle.gt_host.specs.Runs.{at_start, history_of, with_events, with_line, with_step_of, answered, progress_after}
+use Rattle.gt_host.specs.Runs.{after_item, progress_begun, after_ticks, DoLine, BeginLine, TickLine, ShowLine}
+use Rattle.gt_host.specs.Runs.{RunsLine, PlayLeadsTo, open_lines}
 use Rattle.gt_host.specs.Auditing.{audit_text}
 use Rattle.gt_host.proofs.RecordLemmas.{HasOneSubject, audit-same}
 use Rattle.gt_host.proofs.RunLemmas.{history_after-append}
@@ -119,7 +119,7 @@ with-line t p q one other e w =
       text = ap (λ (l : List ℕ). p.text ++ l) e ∙ ap (λ (l : List ℕ). l ++ other) w.text;
     }
 
-with-call : (t : Setting) (p q : Progress) (dom : DomId) (s : Option ScriptStep) → Together t p q → Together t (with_call p dom s) (with_call q dom s)
+with-call : (t : Setting) (p q : Progress) (dom : DomId) (s : Option ScriptStep) → Together t p q → Together t (with_step_of p dom s) (with_step_of q dom s)
 with-call t p q dom s w =
     record {
       legal = w.legal;
@@ -135,7 +135,7 @@ with-call t p q dom s w =
 line-same : (types : List (List ℕ)) (line : ℕ) (dom : DomId) (a b : Answer) → answer_text types a ≡ answer_text types b → answer_line types line dom a ≡ answer_line types line dom b
 line-same types line dom a b e = ap (λ (l : List ℕ). call_text line dom ++ l ++ codes "\n") e
 
-with-answer : (t : Setting) (types : List (List ℕ)) (p q : Progress) (dom : DomId) (s : ScriptStep) (a b : Answer) → told a ≡ told b → AnswerGiven (history_of p) dom.0 a → AnswerGiven (history_of q) dom.0 b → Together t p q
+with-answer : (t : Setting) (types : List (List ℕ)) (p q : Progress) (dom : DomId) (s : ScriptStep) (a b : Answer) → told_part a ≡ told_part b → AnswerGiven (history_of p) dom.0 a → AnswerGiven (history_of q) dom.0 b → Together t p q
     → Together t (answered types p dom s a) (answered types q dom s b)
 with-answer t types p q dom s a b e one other w =
     record {
@@ -151,7 +151,7 @@ with-answer t types p q dom s a b e one other w =
 
 -- a whole call
 
-call-legal : (t : Setting) (types : List (List ℕ)) (p : Progress) (s : ScriptStep) (o : Outcome) → Legal t (after_call types p s o).events (after_call types p s o).trace → Legal t p.events p.trace
+call-legal : (t : Setting) (types : List (List ℕ)) (p : Progress) (s : ScriptStep) (o : Outcome) → Legal t (progress_after types p s o).events (progress_after types p s o).trace → Legal t p.events p.trace
 call-legal t types p s (Answered a) legal = legal
 call-legal t types p s Busy legal = legal
 
@@ -187,7 +187,7 @@ swapped-calls t p q d one other n m xs ys c =
     }
 
 calls-together : StaysAlike → (t : Setting) (types : List (List ℕ)) (s : ScriptStep) (p q : Progress) (one other : Request) (n m : ℕ) (xs ys : List Element) (o r : Outcome) → Calls t p q s.dom one other n m xs ys
-    → ComesTo xs o → ComesTo ys r → Together t (after_call types (with_events p (call_events s.dom one n) xs) s o) (after_call types (with_events q (call_events s.dom other m) ys) s r)
+    → EndsAsOutcome xs o → EndsAsOutcome ys r → Together t (progress_after types (with_events p (call_events s.dom one n) xs) s o) (progress_after types (with_events q (call_events s.dom other m) ys) s r)
 calls-together law t types s p q one other n m xs ys (Answered a) (Answered b) c (i, more, first, x) (j, rest, second, y) =
     let d = s.dom in
     let j1 = subst (λ (l : List Element). LegalAfter t (history_of p) (call_events d one n) l) x.order (piece t p (call_events d one n) xs c.together.legal c.legal) in
@@ -223,7 +223,7 @@ do-together law t types s call p q one other w (request, asks, n, xs, o, len, co
       lawful = l2;
     } in
     subst (λ (z : Progress). Together t z other) (sym is)
-    (subst (λ (z : Progress). Together t (after_call types (with_events p (call_events s.dom request n) xs) s o) z) (sym so)
+    (subst (λ (z : Progress). Together t (progress_after types (with_events p (call_events s.dom request n) xs) s o) z) (sym so)
     (calls-together law t types s p q request demand n m xs ys o r c comes becomes))
 
 -- a beginning
@@ -232,21 +232,21 @@ item-legal : (t : Setting) (types : List (List ℕ)) (p : Progress) (s : ScriptS
 item-legal t types p s None legal = legal
 item-legal t types p s (Some a) legal = legal
 
-begin-legal : (t : Setting) (types : List (List ℕ)) (p : Progress) (s : ScriptStep) (x : Element) → Legal t (after_beginning types p s x).events (after_beginning types p s x).trace → Legal t p.events p.trace
+begin-legal : (t : Setting) (types : List (List ℕ)) (p : Progress) (s : ScriptStep) (x : Element) → Legal t (progress_begun types p s x).events (progress_begun types p s x).trace → Legal t p.events p.trace
 begin-legal t types p s (elements.Item i) legal = item-legal t types p s i.answer legal
 begin-legal t types p s elements.Busy legal = legal
 begin-legal t types p s elements.Idle legal = legal
 begin-legal t types p s elements.NoDomain legal = legal
 
-item-together : (t : Setting) (types : List (List ℕ)) (s : ScriptStep) (p q : Progress) (a b : Option Answer) → option_map told a ≡ option_map told b → ((x : Answer) → a ≡ Some x → AnswerGiven (history_of p) s.dom.0 x) → ((x : Answer) → b ≡ Some x → AnswerGiven (history_of q) s.dom.0 x)
+item-together : (t : Setting) (types : List (List ℕ)) (s : ScriptStep) (p q : Progress) (a b : Option Answer) → option_map told_part a ≡ option_map told_part b → ((x : Answer) → a ≡ Some x → AnswerGiven (history_of p) s.dom.0 x) → ((x : Answer) → b ≡ Some x → AnswerGiven (history_of q) s.dom.0 x)
     → Together t p q → Together t (after_item types p s a) (after_item types q s b)
 item-together t types s p q None None e one other w = with-call t p q s.dom (Some s) w
-item-together t types s p q None (Some b) e one other w = absurd (none-some (told b) e)
-item-together t types s p q (Some a) None e one other w = absurd (none-some (told a) (sym e))
-item-together t types s p q (Some a) (Some b) e one other w = with-answer t types p q s.dom s a b (same_Some (told a) (told b) e) (one a refl) (other b refl) w
+item-together t types s p q None (Some b) e one other w = absurd (none-some (told_part b) e)
+item-together t types s p q (Some a) None e one other w = absurd (none-some (told_part a) (sym e))
+item-together t types s p q (Some a) (Some b) e one other w = with-answer t types p q s.dom s a b (same_Some (told_part a) (told_part b) e) (one a refl) (other b refl) w
 
 begun-together : (t : Setting) (types : List (List ℕ)) (s : ScriptStep) (p q : Progress) (x y : Element) → SameElement x y → ((a : Answer) → answer_in x ≡ Some a → AnswerGiven (history_of p) s.dom.0 a) → ((a : Answer) → answer_in y ≡ Some a → AnswerGiven (history_of q) s.dom.0 a)
-    → Together t p q → Together t (after_beginning types p s x) (after_beginning types q s y)
+    → Together t p q → Together t (progress_begun types p s x) (progress_begun types q s y)
 begun-together t types s p q (elements.Item i) (elements.Item j) e one other w = item-together t types s p q i.answer j.answer (answers-same (elements.Item i) (elements.Item j) e) one other w
 begun-together t types s p q (elements.Item i) y e one other w = absurd (cc)
 begun-together t types s p q x (elements.Item j) e one other w = absurd (cc)
@@ -266,7 +266,7 @@ begin-together law t types s call p q one other w (request, asks, x, is) (demand
     (ap (λ (z : Request). Begin d z) (asks-same p.named q.named d call request demand w.named asks seeks))
     (asks-known (history_of p) p.named d call request w.given asks) (asks-known (history_of q) q.named d call demand w.known seeks) m1 m2 in
     subst (λ (z : Progress). Together t z other) (sym is)
-    (subst (λ (z : Progress). Together t (after_beginning types (with_events p (Begin d request ∷ []) (x ∷ [])) s x) z) (sym so)
+    (subst (λ (z : Progress). Together t (progress_begun types (with_events p (Begin d request ∷ []) (x ∷ [])) s x) z) (sym so)
     (begun-together t types s (with_events p (Begin d request ∷ []) (x ∷ [])) (with_events q (Begin d demand ∷ []) (y ∷ [])) x y same.0
     (λ a e. subst (λ (l : History). AnswerGiven l d.0 a) (sym (history_after-append [] p.trace (x ∷ []))) (done-given t (history_of p) d (Begin d request) x a m1 refl e))
     (λ a e. subst (λ (l : History). AnswerGiven l d.0 a) (sym (history_after-append [] q.trace (y ∷ []))) (done-given t (history_of q) d (Begin d demand) y a m2 refl e))
@@ -296,7 +296,7 @@ ended-together law t types d s p q n m xs ys a b c x y =
     let same = answers-alike law t d (history_of p) (history_of q) (Tick d) (Tick d) n1.0 n2.0 x.before y.before x.last y.last a b c.together.alike refl tt tt k1 k2 x.quiet y.quiet x.answers y.answers in
     let g1 = ap (history_after (history_of p)) (sym x.order) ∙ sym (history_after-append [] p.trace xs) in
     let g2 = ap (history_after (history_of q)) (sym y.order) ∙ sym (history_after-append [] q.trace ys) in
-    with-answer t types (with_call (with_events p (replicate n (Tick d)) xs) d None) (with_call (with_events q (replicate m (Tick d)) ys) d None) d s a b same.0
+    with-answer t types (with_step_of (with_events p (replicate n (Tick d)) xs) d None) (with_step_of (with_events q (replicate m (Tick d)) ys) d None) d s a b same.0
     (subst (λ (l : History). AnswerGiven l d.0 a) g1 (call-given t d (history_of p) (Tick d) n1.0 x.before x.last a refl k1 x.answers))
     (subst (λ (l : History). AnswerGiven l d.0 b) g2 (call-given t d (history_of q) (Tick d) n2.0 y.before y.last b refl k2 y.answers))
     (with-call t (with_events p (replicate n (Tick d)) xs) (with_events q (replicate m (Tick d)) ys) d None
@@ -377,13 +377,13 @@ line-legal t types s (actions.Tick most) p q x legal = by (p.open_steps s.dom.0)
         (tick-legal t types (with_events p (replicate n (Tick s.dom)) xs) s.dom begun a (subst (λ (z : Progress). Legal t z.events z.trace) is legal))
 line-legal t types s (actions.Show gref) p q is legal = subst (λ (z : Progress). Legal t z.events z.trace) is legal
 
-leads-legal : (t : Setting) (types : List (List ℕ)) (steps : List ScriptStep) (p q : Progress) → LeadsTo t types p steps q → Legal t q.events q.trace → Legal t p.events p.trace
+leads-legal : (t : Setting) (types : List (List ℕ)) (steps : List ScriptStep) (p q : Progress) → PlayLeadsTo t types p steps q → Legal t q.events q.trace → Legal t p.events p.trace
 leads-legal t types [] p q e legal = subst (λ (z : Progress). Legal t z.events z.trace) (sym e) legal
 leads-legal t types (s ∷ steps) p q (r, line, rest) legal = line-legal t types s s.action p r line (leads-legal t types steps r q rest legal)
 
 -- runs
 
-leads-together : StaysAlike → ShowsAlike → (t : Setting) (types : List (List ℕ)) (steps : List ScriptStep) (p q one other : Progress) → Together t p q → LeadsTo t types p steps one → LeadsTo t types q steps other
+leads-together : StaysAlike → ShowsAlike → (t : Setting) (types : List (List ℕ)) (steps : List ScriptStep) (p q one other : Progress) → Together t p q → PlayLeadsTo t types p steps one → PlayLeadsTo t types q steps other
     → Legal t one.events one.trace → Legal t other.events other.trace → Together t one other
 leads-together law shows t types [] p q one other w e f legal lawful =
     subst (λ (z : Progress). Together t z other) e (subst (λ (z : Progress). Together t p z) f w)
@@ -395,7 +395,7 @@ runs-together : StaysAlike → ShowsAlike → (c : Contents) (steps : List Scrip
 runs-together law shows c steps p q x y = leads-together law shows (setting_of_script c) (type_names c) steps at_start at_start p q (start-together (setting_of_script c)) x.0 y.0 x.1 y.1
 
 -- two runs of a script that have come to its end print one text
-pub one-text : StaysAlike → ShowsAlike → (c : Contents) (p q : Progress) → IsLegalRunOf c c.steps p → IsLegalRunOf c c.steps q → whole_text c p ≡ whole_text c q
+pub one-text : StaysAlike → ShowsAlike → (c : Contents) (p q : Progress) → IsLegalRunOf c c.steps p → IsLegalRunOf c c.steps q → play_text c p ≡ play_text c q
 one-text law shows c p q x y =
     let w = runs-together law shows c c.steps p q x y in
     ap (λ (l : List ℕ). l ++ open_lines c.domains p.open_steps) w.text ∙ ap (λ (f : ℕ → Option ScriptStep). q.text ++ open_lines c.domains f) w.opens
@@ -406,17 +406,17 @@ audited-same law shows tells c audit p q x y =
     let t = setting_of_script c in
     let w = runs-together law shows c c.steps p q x y in
     ap (λ (l : List ℕ). l ++ audit_text audit t (type_names c) p.trace) (one-text law shows c p q x y)
-    ∙ ap (λ (l : List ℕ). whole_text c q ++ l) (audit-same tells audit t (type_names c) p.trace q.trace w.alike)
+    ∙ ap (λ (l : List ℕ). play_text c q ++ l) (audit-same tells audit t (type_names c) p.trace q.trace w.alike)
 
 -- beginnings
 
 -- a run goes on from the point to which its first steps led
 record Goes (t : Setting) (types : List (List ℕ)) (steps : List ScriptStep) (n : ℕ) (p q : Progress) : Type 0 where
   pub mid : Progress
-  pub front : LeadsTo t types p (take n steps) mid
-  pub back : LeadsTo t types mid (drop n steps) q
+  pub front : PlayLeadsTo t types p (take n steps) mid
+  pub back : PlayLeadsTo t types mid (drop n steps) q
 
-goes-on : (t : Setting) (types : List (List ℕ)) (steps : List ScriptStep) (n : ℕ) (p q : Progress) → LeadsTo t types p steps q → Goes t types steps n p q
+goes-on : (t : Setting) (types : List (List ℕ)) (steps : List ScriptStep) (n : ℕ) (p q : Progress) → PlayLeadsTo t types p steps q → Goes t types steps n p q
 goes-on t types steps zero p q run = record { mid = p; front = refl; back = run }
 goes-on t types [] (suc n) p q run = record { mid = p; front = refl; back = run }
 goes-on t types (s ∷ steps) (suc n) p q (r, line, rest) =
@@ -433,7 +433,7 @@ grows-none text = ([], sym (append-nil text))
 grows-both : (a b c : List ℕ) → Grows a b → Grows b c → Grows a c
 grows-both a b c (x, e) (y, f) = (x ++ y, f ∙ ap (λ (l : List ℕ). l ++ y) e ∙ append_assoc a x y)
 
-call-grows : (types : List (List ℕ)) (p : Progress) (s : ScriptStep) (o : Outcome) → Grows p.text (after_call types p s o).text
+call-grows : (types : List (List ℕ)) (p : Progress) (s : ScriptStep) (o : Outcome) → Grows p.text (progress_after types p s o).text
 call-grows types p s (Answered a) = (answer_line types s.line s.dom a, refl)
 call-grows types p s Busy = (busy_line s.line s.dom, refl)
 
@@ -441,7 +441,7 @@ item-grows : (types : List (List ℕ)) (p : Progress) (s : ScriptStep) (a : Opti
 item-grows types p s None = grows-none p.text
 item-grows types p s (Some a) = (answer_line types s.line s.dom a, refl)
 
-begin-grows : (types : List (List ℕ)) (p : Progress) (s : ScriptStep) (x : Element) → Grows p.text (after_beginning types p s x).text
+begin-grows : (types : List (List ℕ)) (p : Progress) (s : ScriptStep) (x : Element) → Grows p.text (progress_begun types p s x).text
 begin-grows types p s (elements.Item i) = item-grows types p s i.answer
 begin-grows types p s elements.Busy = (busy_line s.line s.dom, refl)
 begin-grows types p s elements.Idle = grows-none p.text
@@ -464,23 +464,23 @@ line-grows t types s (actions.Begin call) p q (request, asks, x, is) =
 line-grows t types s (actions.Tick most) p q x = tick-grows types s most (p.open_steps s.dom.0) p q x
 line-grows t types s (actions.Show gref) p q is = (show_line s.line s.dom gref (shown_at t (history_of p) s.dom gref.0), ap (λ (z : Progress). z.text) is)
 
-leads-grow : (t : Setting) (types : List (List ℕ)) (steps : List ScriptStep) (p q : Progress) → LeadsTo t types p steps q → Grows p.text q.text
+leads-grow : (t : Setting) (types : List (List ℕ)) (steps : List ScriptStep) (p q : Progress) → PlayLeadsTo t types p steps q → Grows p.text q.text
 leads-grow t types [] p q e = subst (λ (z : Progress). Grows p.text z.text) e (grows-none p.text)
 leads-grow t types (s ∷ steps) p q (r, line, rest) = grows-both p.text r.text q.text (line-grows t types s s.action p r line) (leads-grow t types steps r q rest)
 
 -- what a run printed that came some way is a beginning of what each one prints that comes to the end
-front-text : StaysAlike → ShowsAlike → (c : Contents) (n : ℕ) (p q : Progress) → IsLegalRunOf c (take n c.steps) p → IsLegalRunOf c c.steps q → Grows p.text (whole_text c q)
+front-text : StaysAlike → ShowsAlike → (c : Contents) (n : ℕ) (p q : Progress) → IsLegalRunOf c (take n c.steps) p → IsLegalRunOf c c.steps q → Grows p.text (play_text c q)
 front-text law shows c n p q x y =
     let t = setting_of_script c in
     let types = type_names c in
     let g = goes-on t types c.steps n at_start q y.0 in
     let w = leads-together law shows t types (take n c.steps) at_start at_start p g.mid (start-together t) x.0 g.front x.1 (leads-legal t types (drop n c.steps) g.mid q g.back y.1) in
-    subst (λ (l : List ℕ). Grows l (whole_text c q)) (sym w.text)
-    (grows-both g.mid.text q.text (whole_text c q) (leads-grow t types (drop n c.steps) g.mid q g.back) (open_lines c.domains q.open_steps, refl))
+    subst (λ (l : List ℕ). Grows l (play_text c q)) (sym w.text)
+    (grows-both g.mid.text q.text (play_text c q) (leads-grow t types (drop n c.steps) g.mid q g.back) (open_lines c.domains q.open_steps, refl))
 
 pub begins-every : StaysAlike → ShowsAlike → HasOneSubject → (c : Contents) (audit : Bool) (old new : Option (List ℕ)) → BeginsRun c audit old new → BeginsEvery c audit old new
 begins-every law shows tells c audit old new (inl (n, p, run, some)) q whole =
-    let g = grows-both p.text (whole_text c q) (audited_text c audit q) (front-text law shows c n p q run whole) (audit_text audit (setting_of_script c) (type_names c) q.trace, refl) in
+    let g = grows-both p.text (play_text c q) (audited_text c audit q) (front-text law shows c n p q run whole) (audit_text audit (setting_of_script c) (type_names c) q.trace, refl) in
     subst (λ (l : List ℕ). AppendsBeginning old new l) (sym g.1) (begins_longer old new p.text g.0 some)
 begins-every law shows tells c audit old new (inr (p, run, all)) q whole =
     subst (λ (l : List ℕ). AppendsBeginning old new l) (audited-same law shows tells c audit p q run whole) all
@@ -488,12 +488,12 @@ begins-every law shows tells c audit old new (inr (p, run, all)) q whole =
 -- bytes that are played twice to the end
 
 abbrev TellsOnce : Type 0
-TellsOnce = (bytes : List ℕ) (one other : Result Contents Wrong) → Tells bytes one → Tells bytes other → one ≡ other
+TellsOnce = (bytes : List ℕ) (one other : Result Contents Wrong) → TellsScript bytes one → TellsScript bytes other → one ≡ other
 
 same-contents : (c e : Contents) → ◌≡◌ {A = Result Contents Wrong} (Ok c) (Ok e) → c ≡ e
 same-contents c e is = cc
 
-pub played-once : StaysAlike → ShowsAlike → HasOneSubject → TellsOnce → (input : List ℕ) (audit : Bool) (old one other : List ℕ) → Played (Tells input) audit (Some old) (Some one) (Ok tt) → Played (Tells input) audit (Some old) (Some other) (Ok tt) → one ≡ other
+pub played-once : StaysAlike → ShowsAlike → HasOneSubject → TellsOnce → (input : List ℕ) (audit : Bool) (old one other : List ℕ) → Played (TellsScript input) audit (Some old) (Some one) (Ok tt) → Played (TellsScript input) audit (Some old) (Some other) (Ok tt) → one ≡ other
 played-once law shows tells once input audit old one other (c, said, (p, run, went)) (e, says, (q, way, gone)) =
     let same = same-contents e c (once input (Ok e) (Ok c) says said) in
     let way_of = subst (λ (z : Contents). IsLegalRunOf z z.steps q) same way in

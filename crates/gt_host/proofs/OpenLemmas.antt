@@ -13,7 +13,7 @@ use Rattle.gt_core.specs.States.{CoreState}
 use Rattle.gt_calls.specs.declared.request.Request.{Request}
 use Rattle.gt_calls.specs.declared.request.Asked.{Asked}
 use Rattle.gt_calls.specs.declared.request.Asked.TheVariants as asks
-use Rattle.gt_calls.specs.Asking.{asked, given_by}
+use Rattle.gt_calls.specs.Asking.{asked, bytes_given_by}
 use Rattle.gt_calls.specs.declared.action.Seen.{Seen}
 use Rattle.gt_calls.specs.declared.action.Step.{Step}
 use Rattle.gt_core.specs.declared.trace.Answer.{Answer}
@@ -106,7 +106,7 @@ ticks_stay s h d (suc n) (x ∷ xs) request count known open_now quiet legal =
 pub begins_open : (s : Setting) (h : History) (d : DomId) (request : Request) (said : Begun) → domain_of s.domains d ≢ None → (said ≡ begun.Open) ⊎ (said ≡ begun.NoDomain)
     → MayDo s h (Begin d request) (begun_element d request said) → HasOpen (grown h (begun_element d request said)) d.0 (asked request) 0
 begins_open s h d request begun.Open known is may = record {
-  call = record { request = asked request; given = given_by request; steps = [] };
+  call = record { request = asked request; given = bytes_given_by request; steps = [] };
   is = own_call (record { actor = d; happened = Began request; answer = None }) h d.0 refl;
   asks = refl;
   made = refl;

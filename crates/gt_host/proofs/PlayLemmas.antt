@@ -20,21 +20,21 @@ use Rattle.gt_host.specs.declared.rights.Rights.{Rights}
 use Rattle.gt_host.specs.Rights.{may_by}
 use Rattle.gt_host.specs.OpenCalls.{call_in}
 use Rattle.gt_host.specs.Auditing.{asked_lines, audit_text, before_call, record_lines}
-use Rattle.gt_host.specs.Playing.{StartsFor, BeginsRun, WritesRun, IsLegalRunOf, setting_of_script, whole_text}
+use Rattle.gt_host.specs.Playing.{StartsFor, BeginsRun, WritesRun, IsLegalRunOf, setting_of_script, play_text}
 use Rattle.gt_host.specs.Playing.{audited_text}
 use Rattle.gt_host.specs.Recording.{IsAudited, RecordsNothing}
 use Rattle.gt_core.specs.declared.trace.Element.{Element}
-use Rattle.gt_host.specs.Runs.{Progress, LeadsTo, IsRunOf, RunsLine, at_start, history_of, open_text, open_lines}
+use Rattle.gt_host.specs.Runs.{Progress, PlayLeadsTo, IsRunOf, RunsLine, at_start, history_of, open_text, open_lines}
 use Rattle.gt_streams.specs.Laws.{appends_both, appends_nothing, begins_after}
 use Rattle.gt_streams.specs.Streams.{AppendsBeginning, Sends}
-use Rattle.gt_host.specs.Ticking.{IsReady, IsKept, HasCome, Leads}
+use Rattle.gt_host.specs.Ticking.{IsReadyToCall, KeepsProgress, HasPlayed, Leads}
 use Rattle.gt_host.proofs.StartLemmas.{taken_known}
 
 -- how far a run has come: it stands where these steps led, and of its text some went out and the rest waits
 pub record IsUnderway (c : Contents) (audit : Bool) (steps : List ScriptStep) (domains : CoreState) (kept : Kept) (waiting : List ℕ) (old now : Option (List ℕ)) : Type 0 where
   pub progress : Progress
   pub run : IsRunOf (setting_of_script c) (type_names c) steps progress
-  pub come : HasCome (setting_of_script c) audit progress domains kept
+  pub come : HasPlayed (setting_of_script c) audit progress domains kept
   pub sent : List ℕ
   pub parts : progress.text ≡ sent ++ waiting
   pub went : Appends old now sent
@@ -51,7 +51,7 @@ same_setting_of_script c core starts =
     ∙ ap (λ (may : TypeId → TypeId → Perms → Bool). record { domains = c.domains; first_generation = first_gen c; may = may }) starts.rights
 
 -- nothing has happened yet
-pub starts_underway : (c : Contents) (audit : Bool) (core : CoreModel Rights) (kept : Kept) (waiting : List ℕ) (old : Option (List ℕ)) → StartsFor c core → IsKept kept at_start → kept.audit.is_on ≡ audit → RecordsNothing kept → waiting ≡ []
+pub starts_underway : (c : Contents) (audit : Bool) (core : CoreModel Rights) (kept : Kept) (waiting : List ℕ) (old : Option (List ℕ)) → StartsFor c core → KeepsProgress kept at_start → kept.audit.is_on ≡ audit → RecordsNothing kept → waiting ≡ []
     → IsUnderway c audit [] core.state kept waiting old old
 unfolding open_call before_call
 starts_underway c audit core kept waiting old starts keeps on nothing none = record {
@@ -70,7 +70,7 @@ starts_underway c audit core kept waiting old starts keeps on nothing none = rec
 }
 
 -- a step after the others
-LeadsTo-append : (t : Setting) (types : List (List ℕ)) (p q r : Progress) (steps : List ScriptStep) (s : ScriptStep) → LeadsTo t types p steps q → RunsLine t types s s.action q r → LeadsTo t types p (steps ++ s ∷ []) r
+LeadsTo-append : (t : Setting) (types : List (List ℕ)) (p q r : Progress) (steps : List ScriptStep) (s : ScriptStep) → PlayLeadsTo t types p steps q → RunsLine t types s s.action q r → PlayLeadsTo t types p (steps ++ s ∷ []) r
 LeadsTo-append t types p q r [] s led runs = (r, subst (λ (o : Progress). RunsLine t types s s.action o r) (sym led) runs, refl)
 LeadsTo-append t types p q r (x ∷ steps) s led runs = (led.0, led.1, LeadsTo-append t types led.0 q r steps s led.2 runs)
 
@@ -130,11 +130,11 @@ begins_step c audit t known steps i s domains next kept later w more old mid new
 
 -- the next step finds a core that stands for what was done, and is one of a domain of the run
 pub ready : (c : Contents) (audit : Bool) (t : Setting) (steps : List ScriptStep) (i : ℕ) (s : ScriptStep) (domains : CoreState) (kept : Kept) (w : List ℕ) (old mid : Option (List ℕ))
-    → t ≡ setting_of_script c → steps ≡ c.steps → All (λ (x : ScriptStep). IsTrue (is_taken c.domains x.dom)) c.steps → IsUnderway c audit (take i steps) domains kept w old mid → i < length steps → s ≡ get_or steps i s → IsReady t s.dom domains
+    → t ≡ setting_of_script c → steps ≡ c.steps → All (λ (x : ScriptStep). IsTrue (is_taken c.domains x.dom)) c.steps → IsUnderway c audit (take i steps) domains kept w old mid → i < length steps → s ≡ get_or steps i s → IsReadyToCall t s.dom domains
 ready c audit t steps i s domains kept w old mid setting all configured u within is =
     let every : All (λ (x : ScriptStep). IsTrue (is_taken c.domains x.dom)) steps = subst (λ (l : List ScriptStep). All (λ (x : ScriptStep). IsTrue (is_taken c.domains x.dom)) l) (sym all) configured in
     let taken : IsTrue (is_taken c.domains s.dom) = subst (λ (x : ScriptStep). IsTrue (is_taken c.domains x.dom)) (sym is) (All-get_or (λ (x : ScriptStep). IsTrue (is_taken c.domains x.dom)) steps i s within every) in
-    subst (λ (q : Setting). IsReady q s.dom domains) (sym setting) (record {
+    subst (λ (q : Setting). IsReadyToCall q s.dom domains) (sym setting) (record {
       history = history_of u.progress;
       stands = u.come.stands;
       known = taken_known c.domains s.dom taken;
@@ -157,7 +157,7 @@ last_lines : (c : Contents) (audit : Bool) (domains : CoreState) (kept : Kept) (
     → (u : IsUnderway c audit steps domains kept waiting old mid) → u.sent ++ last ≡ audited_text c audit u.progress
 last_lines c audit domains kept ds names steps waiting more last old mid all called appended added u =
     let lines : List ℕ = audit_text audit (setting_of_script c) (type_names c) u.progress.trace in
-    let whole : u.sent ++ more ≡ whole_text c u.progress =
+    let whole : u.sent ++ more ≡ play_text c u.progress =
     ap (λ (l : List ℕ). u.sent ++ l) (appended ∙ ap (λ (l : List DomainConfig). waiting ++ open_lines l (call_in kept.calls)) all ∙ ap (λ (l : List ℕ). waiting ++ l) (open_lines-same c.domains (call_in kept.calls) u.progress.open_steps u.come.keeps.calls))
     ∙ sym (append_assoc u.sent waiting (open_lines c.domains u.progress.open_steps)) ∙ ap (λ (l : List ℕ). l ++ open_lines c.domains u.progress.open_steps) (sym u.parts) in
     let told : last ≡ more ++ lines =

@@ -27,7 +27,7 @@ use Rattle.gt_core.specs.declared.trace.Element.TheVariants as elements
 use Rattle.gt_core.specs.declared.trace.Happened.{Happened}
 use Rattle.gt_core.specs.declared.trace.Happened.TheVariants.{Began, Stepped}
 use Rattle.gt_core.specs.declared.trace.Item.{Item}
-use Rattle.gt_core.specs.Alike.{bare_handle, bare_request, bare_happened, told, told_item, told_items, ToldItem}
+use Rattle.gt_core.specs.Alike.{bare_handle, bare_request, bare_happened, told_part, told_item, told_items, ToldItem}
 use Rattle.gt_core.specs.Alike.{IsKnown, AsksKnown, HappensKnown, IsRun, AreAlike}
 use Rattle.gt_host.specs.Auditing.{call_told, reply_told, record_with, before_begun, before_call, underway_told}
 use Rattle.gt_host.specs.Auditing.{item_told, record_of, record_in, records_of, asked_lines, audit_text}
@@ -138,14 +138,14 @@ after-alike : (s : Setting) (d : DomId) (g h b e : History) (i j : Item) (c o : 
     → OpensAlike s d (before_begun i.happened g b) (before_begun j.happened h e) (underway_after i c) (underway_after j o)
 after-alike s d g h b e i j c o same own his alike k l w = by i.answer j.answer (ap (λ (t : ToldItem). t.answer) same)
   where
-    by : (a r : Option Answer) → option_map told a ≡ option_map told r
+    by : (a r : Option Answer) → option_map told_part a ≡ option_map told_part r
         → OpensAlike s d (before_begun i.happened g b) (before_begun j.happened h e) (underway_after (record i { answer = a }) c) (underway_after (record j { answer = r }) o)
     by None None is =
         with-alike s d g h b e i.happened j.happened c o (ap (λ (t : ToldItem). t.happened) same) alike
         (subst (λ (z : DomId). HappensKnown g (record { actor = z; happened = i.happened; answer = None })) own k)
         (subst (λ (z : DomId). HappensKnown h (record { actor = z; happened = j.happened; answer = None })) his l) w
-    by None (Some r) is = absurd (none-some (told r) is)
-    by (Some a) None is = absurd (none-some (told a) (sym is))
+    by None (Some r) is = absurd (none-some (told_part r) is)
+    by (Some a) None is = absurd (none-some (told_part a) (sym is))
     by (Some a) (Some r) is = tt
 
 dom-same : (a b : DomId) → a.0 ≡ b.0 → a ≡ b
@@ -190,18 +190,18 @@ abbrev reply_from : Answer ⊎ List ℕ → Reply
 reply_from (inl answer) = reply_told answer
 reply_from (inr bytes) = replies.Done
 
-reply-told : (a : Answer) → reply_told a ≡ reply_from (told a)
+reply-told : (a : Answer) → reply_told a ≡ reply_from (told_part a)
 reply-told (answers.Mapped handle) = refl
 reply-told (answers.Bytes b) = refl
 reply-told a = refl
 
-record-same : (d : DomId) (o : Option Hypercall) (a b : Option Answer) → option_map told a ≡ option_map told b → record_with d o a ≡ record_with d o b
+record-same : (d : DomId) (o : Option Hypercall) (a b : Option Answer) → option_map told_part a ≡ option_map told_part b → record_with d o a ≡ record_with d o b
 record-same d o None None e = refl
-record-same d o None (Some b) e = absurd (none-some (told b) e)
-record-same d o (Some a) None e = absurd (none-some (told a) (sym e))
+record-same d o None (Some b) e = absurd (none-some (told_part b) e)
+record-same d o (Some a) None e = absurd (none-some (told_part a) (sym e))
 record-same d None (Some a) (Some b) e = refl
 record-same d (Some call) (Some a) (Some b) e =
-    ap (λ (r : Reply). Some (record { dom = d; call = call; reply = r })) (reply-told a ∙ ap reply_from (same_Some (told a) (told b) e) ∙ sym (reply-told b))
+    ap (λ (r : Reply). Some (record { dom = d; call = call; reply = r })) (reply-told a ∙ ap reply_from (same_Some (told_part a) (told_part b) e) ∙ sym (reply-told b))
 
 newest-record : HasOneSubject → (s : Setting) (i j : Item) (g h : History) → Newest s i j g h → record_of s g i ≡ record_of s h j
 newest-record law s i j g h n =

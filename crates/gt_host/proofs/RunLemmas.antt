@@ -26,8 +26,8 @@ use Rattle.gt_core.specs.declared.core_state.Begun.TheVariants as begun
 use Rattle.gt_core.specs.declared.core_state.Ticked.{Ticked}
 use Rattle.gt_core.specs.declared.core_state.Ticked.TheVariants as ticked
 use Rattle.gt_host.specs.declared.outcome.Outcome.TheVariants.{Answered, Busy}
-use Rattle.gt_host.specs.Runs.{answer_in, AnswerNothing, EndsWith, ComesTo}
-use Rattle.gt_host.specs.Ticking.{Happens, Calls, TicksTo}
+use Rattle.gt_host.specs.Runs.{answer_in, AnswerNothing, EndsWith, EndsAsOutcome}
+use Rattle.gt_host.specs.Ticking.{HasHappened, HasCalled, TicksTo}
 
 -- the setting of a core is that of one with the same domains and rights
 pub same_setting : {R : Type 0} (may : R → TypeId → TypeId → Perms → Bool) (a b : Config) (x y : R) → a ≡ b → x ≡ y → setting_of a (may x) ≡ setting_of b (may y)
@@ -48,14 +48,14 @@ LegalAfter-append s h (e ∷ es) [] more ys p q = absurd p
 
 -- events, and then others
 pub Happens-append : (s : Setting) (h : History) (es : List Event) (xs : List Element) (more : List Event) (ys : List Element) (mid new : CoreState)
-    → Happens s h es xs mid → Happens s (history_after h xs) more ys new → Happens s h (es ++ more) (xs ++ ys) new
+    → HasHappened s h es xs mid → HasHappened s (history_after h xs) more ys new → HasHappened s h (es ++ more) (xs ++ ys) new
 Happens-append s h es xs more ys mid new p q = record {
   legal = LegalAfter-append s h es xs more ys p.legal q.legal;
   stands = subst (λ (after : History). CoreStands s after new) (sym (history_after-append h xs ys)) q.stands;
 }
 
 -- one event
-pub happens_one : (s : Setting) (h : History) (e : Event) (x : Element) (new : CoreState) → MayDo s h e x × CoreStands s (grown h x) new → Happens s h (e ∷ []) (x ∷ []) new
+pub happens_one : (s : Setting) (h : History) (e : Event) (x : Element) (new : CoreState) → MayDo s h e x × CoreStands s (grown h x) new → HasHappened s h (e ∷ []) (x ∷ []) new
 happens_one s h e x new p = record { legal = (p.0, tt); stands = p.1 }
 
 -- elements that answer nothing, and one more
@@ -75,16 +75,16 @@ pub record IsTicking (s : Setting) (h : History) (dom : DomId) (count : ℕ) (do
   pub trace : List Element
   pub quiet : AnswerNothing trace
   pub length_of : length trace ≡ count
-  pub happens : Happens s h (replicate count (Tick dom)) trace domains
+  pub happens : HasHappened s h (replicate count (Tick dom)) trace domains
 
 pub no_tick : (s : Setting) (h : History) (dom : DomId) (domains : CoreState) → CoreStands s h domains → IsTicking s h dom 0 domains
 no_tick s h dom domains stands = record { trace = []; quiet = tt; length_of = refl; happens = record { legal = tt; stands = stands } }
 
 -- a tick more
 ticked_more : (s : Setting) (h : History) (dom : DomId) (count : ℕ) (mid new : CoreState) (x : Element) → (u : IsTicking s h dom count mid)
-    → MayDo s (history_after h u.trace) (Tick dom) x × CoreStands s (grown (history_after h u.trace) x) new → Happens s h (replicate (count + 1) (Tick dom)) (u.trace ++ x ∷ []) new
+    → MayDo s (history_after h u.trace) (Tick dom) x × CoreStands s (grown (history_after h u.trace) x) new → HasHappened s h (replicate (count + 1) (Tick dom)) (u.trace ++ x ∷ []) new
 ticked_more s h dom count mid new x u told =
-    subst (λ (events : List Event). Happens s h events (u.trace ++ x ∷ []) new) (sym (replicate_next count (Tick dom)))
+    subst (λ (events : List Event). HasHappened s h events (u.trace ++ x ∷ []) new) (sym (replicate_next count (Tick dom)))
     (Happens-append s h (replicate count (Tick dom)) u.trace (Tick dom ∷ []) (x ∷ []) mid new u.happens (happens_one s (history_after h u.trace) (Tick dom) x new told))
 
 one_more : (count : ℕ) (trace : List Element) (x : Element) → length trace ≡ count → length (trace ++ x ∷ []) ≡ count + 1
@@ -134,7 +134,7 @@ tick_none s h dom most count new all u = record {
 
 -- a call that is answered at once
 pub call_done : (s : Setting) (h : History) (dom : DomId) (request : Request) (said : Begun) (answer : Answer) (new : CoreState) → said ≡ begun.Done answer
-    → MayDo s h (Begin dom request) (begun_element dom request said) × CoreStands s (grown h (begun_element dom request said)) new → Calls s h dom request new (Answered answer)
+    → MayDo s h (Begin dom request) (begun_element dom request said) × CoreStands s (grown h (begun_element dom request said)) new → HasCalled s h dom request new (Answered answer)
 call_done s h dom request said answer new is told = record {
   ticks = 0;
   trace = begun_element dom request said ∷ [];
@@ -150,7 +150,7 @@ call_done s h dom request said answer new is told = record {
 
 -- a call that does not begin
 pub call_busy : (s : Setting) (h : History) (dom : DomId) (request : Request) (said : Begun) (new : CoreState) → said ≡ begun.Busy
-    → MayDo s h (Begin dom request) (begun_element dom request said) × CoreStands s (grown h (begun_element dom request said)) new → Calls s h dom request new Busy
+    → MayDo s h (Begin dom request) (begun_element dom request said) × CoreStands s (grown h (begun_element dom request said)) new → HasCalled s h dom request new Busy
 call_busy s h dom request said new is told = record {
   ticks = 0;
   trace = begun_element dom request said ∷ [];
@@ -159,7 +159,7 @@ call_busy s h dom request said new is told = record {
   happens = happens_one s h (Begin dom request) (begun_element dom request said) new told;
 }
 
-comes_after : (i : Item) (trace : List Element) (answer : Answer) → i.answer ≡ None → EndsWith trace answer → ComesTo (Did i ∷ trace) (Answered answer)
+comes_after : (i : Item) (trace : List Element) (answer : Answer) → i.answer ≡ None → EndsWith trace answer → EndsAsOutcome (Did i ∷ trace) (Answered answer)
 comes_after i trace answer none ends = (
   i,
   trace,
@@ -175,7 +175,7 @@ comes_after i trace answer none ends = (
 
 -- a call that began, and then its ticks
 call_with_ticks : (s : Setting) (h : History) (dom : DomId) (most : ℕ) (request : Request) (i : Item) (mid new : CoreState) (answer : Answer) → i.answer ≡ None
-    → MayDo s h (Begin dom request) (Did i) × CoreStands s (i ∷ h) mid → TicksTo s (i ∷ h) dom most new (Some answer) → Calls s h dom request new (Answered answer)
+    → MayDo s h (Begin dom request) (Did i) × CoreStands s (i ∷ h) mid → TicksTo s (i ∷ h) dom most new (Some answer) → HasCalled s h dom request new (Answered answer)
 call_with_ticks s h dom most request i mid new answer none told t = record {
   ticks = t.ticks;
   trace = Did i ∷ t.trace;
@@ -185,7 +185,7 @@ call_with_ticks s h dom most request i mid new answer none told t = record {
 }
 
 pub call_ticked : (s t : Setting) (h : History) (dom : DomId) (most : ℕ) (request : Request) (began : Begun) (mid new : CoreState) (answer : Answer) (said : Option Answer) → t ≡ s → domain_of s.domains dom ≢ None → (began ≡ begun.Open) ⊎ (began ≡ begun.NoDomain)
-    → MayDo s h (Begin dom request) (begun_element dom request began) × CoreStands s (grown h (begun_element dom request began)) mid → ((g : History) → CoreStands t g mid → TicksTo t g dom most new said) → said ≡ Some answer → Calls s h dom request new (Answered answer)
+    → MayDo s h (Begin dom request) (begun_element dom request began) × CoreStands s (grown h (begun_element dom request began)) mid → ((g : History) → CoreStands t g mid → TicksTo t g dom most new said) → said ≡ Some answer → HasCalled s h dom request new (Answered answer)
 call_ticked s t h dom most request began mid new answer said same configured (inl open_now) told ticks is =
     let known = subst (λ (q : Setting). (g : History) → CoreStands q g mid → TicksTo q g dom most new said) same ticks in
     let told_so = subst (λ (b : Begun). MayDo s h (Begin dom request) (begun_element dom request b) × CoreStands s (grown h (begun_element dom request b)) mid) open_now told in

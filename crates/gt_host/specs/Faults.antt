@@ -1,7 +1,7 @@
 -- What ends a run, for its caller.
 use Rattle.std.specs.Prelude.{ℕ, List, Result, Ok, Err, codes}
 use Rattle.gt_policy.specs.Texts.{fault_text as policy_fault_text}
-use Rattle.gt_script.specs.Faults.{fault_text}
+use Rattle.gt_script.specs.Faults.{script_fault_text}
 use Rattle.gt_script.specs.declared.faults.ScriptError.{ScriptError}
 use Rattle.gt_script.specs.declared.faults.ScriptError.TheVariants as errors
 use Rattle.gt_streams.specs.declared.fault.ReadFault.{ReadFault}
@@ -23,14 +23,14 @@ read_fault reads.Memory = faults.Memory
 read_fault reads.Read = faults.Read
 
 -- what ends a run of steps
-abbrev pub ended : Result (Unit {0}) Fault → Result (Unit {0}) PlayFault
-ended (Ok done) = Ok done
-ended (Err runs.Memory) = Err faults.Memory
-ended (Err runs.Write) = Err faults.Write
+abbrev pub play_ended : Result (Unit {0}) Fault → Result (Unit {0}) PlayFault
+play_ended (Ok done) = Ok done
+play_ended (Err runs.Memory) = Err faults.Memory
+play_ended (Err runs.Write) = Err faults.Write
 
 -- what ends a run, as one line: a fault of the script with its line, or a word
 abbrev pub play_fault_text : PlayFault → List ℕ
-play_fault_text (faults.Script fault) = fault_text fault
+play_fault_text (faults.Script fault) = script_fault_text fault
 play_fault_text (faults.Policy fault) = policy_fault_text fault.line fault.kind
 play_fault_text faults.Memory = codes "memory"
 play_fault_text faults.Read = codes "read"

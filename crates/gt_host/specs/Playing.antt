@@ -38,12 +38,12 @@ IsLegalRunOf c steps p =
 
 -- the text of a run that has come to the end of the script: the lines of
 -- its steps, and those of the calls that are open
-abbrev pub whole_text : Contents → Progress → List ℕ
-whole_text c p = p.text ++ open_lines c.domains p.open_steps
+abbrev pub play_text : Contents → Progress → List ℕ
+play_text c p = p.text ++ open_lines c.domains p.open_steps
 
 -- that text, and if the audit is asked for the records of what the run did
 abbrev pub audited_text : Contents → Bool → Progress → List ℕ
-audited_text c audit p = whole_text c p ++ audit_text audit (setting_of_script c) (type_names c) p.trace
+audited_text c audit p = play_text c p ++ audit_text audit (setting_of_script c) (type_names c) p.trace
 
 -- the text of the script's run went out, with its audit if that is asked for
 abbrev pub WritesRun : Contents → Bool → Option (List ℕ) → Option (List ℕ) → Type 0
@@ -55,13 +55,13 @@ BeginsSome c old new =
     (steps : ℕ) × (p : Progress) × IsLegalRunOf c (take steps c.steps) p × AppendsBeginning old new p.text
 
 -- a beginning of the text went out, of a run that came to the end
-abbrev pub BeginsWhole : Contents → Bool → Option (List ℕ) → Option (List ℕ) → Type 0
-BeginsWhole c audit old new =
+abbrev pub BeginsPlay : Contents → Bool → Option (List ℕ) → Option (List ℕ) → Type 0
+BeginsPlay c audit old new =
     (p : Progress) × IsLegalRunOf c c.steps p × AppendsBeginning old new (audited_text c audit p)
 
 -- a beginning of the text went out
 abbrev pub BeginsRun : Contents → Bool → Option (List ℕ) → Option (List ℕ) → Type 0
-BeginsRun c audit old new = BeginsSome c old new ⊎ BeginsWhole c audit old new
+BeginsRun c audit old new = BeginsSome c old new ⊎ BeginsPlay c audit old new
 
 -- what went out is a beginning of the text of each run that comes to the end
 abbrev pub BeginsEvery : Contents → Bool → Option (List ℕ) → Option (List ℕ) → Type 0
@@ -70,8 +70,9 @@ BeginsEvery c audit old new =
 
 -- what the bytes say is a script, and a beginning of its text went out: of a
 -- run of it, and of each one that comes to the end
-abbrev pub Begins : (Result Contents Wrong → Type 0) → Bool → Option (List ℕ) → Option (List ℕ) → Type 0
-Begins Told audit old new = (c : Contents) × Told (Ok c) × BeginsRun c audit old new × BeginsEvery c audit old new
+abbrev pub BeginsPlaying : (Result Contents Wrong → Type 0) → Bool → Option (List ℕ) → Option (List ℕ) → Type 0
+BeginsPlaying Told audit old new =
+    (c : Contents) × Told (Ok c) × BeginsRun c audit old new × BeginsEvery c audit old new
 
 -- what `play` wrote, if it answers so for bytes that say this: at Ok the
 -- text of the run, whole, and its audit if that is asked for;
@@ -83,6 +84,6 @@ Played Told audit old new (Ok done) = (c : Contents) × Told (Ok c) × WritesRun
 Played Told audit old new (Err (Script fault)) = Told (Err (in_script fault)) × Keeps old new
 Played Told audit old new (Err (Policy fault)) =
     (g : policy.TokenFault) × (block_fault_shown fault ≡ Some g) × Told (Err (in_policy g)) × Keeps old new
-Played Told audit old new (Err Memory) = Keeps old new ⊎ Begins Told audit old new
-Played Told audit old new (Err Write) = Begins Told audit old new
+Played Told audit old new (Err Memory) = Keeps old new ⊎ BeginsPlaying Told audit old new
+Played Told audit old new (Err Write) = BeginsPlaying Told audit old new
 Played Told audit old new (Err Read) = Keeps old new

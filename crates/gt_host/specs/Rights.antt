@@ -4,7 +4,7 @@ use Rattle.gt_types.specs.Rights.{is_listed}
 use Rattle.gt_types.specs.declared.TypeId.{TypeId}
 use Rattle.gt_types.specs.declared.perms.Perms.{Perms}
 use Rattle.gt_types.specs.declared.rights.Triple.{Triple}
-use Rattle.gt_allow.specs.Looking.{looks}
+use Rattle.gt_allow.specs.Looking.{looks_up}
 use Rattle.gt_policy.specs.Allowing.{Allowed}
 use Rattle.gt_script.specs.Contents.{Contents}
 use Rattle.gt_host.specs.declared.rights.Rights.{Rights}
@@ -12,7 +12,7 @@ use Rattle.gt_host.specs.declared.rights.Rights.TheVariants as rights
 
 -- what these rights allow
 abbrev pub may_by : Rights → TypeId → TypeId → Perms → Bool
-may_by (rights.Table t) source target perm = looks t source.0 target.0 perm
+may_by (rights.Table t) source target perm = looks_up t source.0 target.0 perm
 may_by (rights.Triples t) source target perm = is_listed t.allowed.items source target perm
 
 -- what a policy allows, or if there is none these triples

@@ -57,13 +57,13 @@ text_said (calls.QuerySize to) = None
 text_said (calls.GetVersion to) = None
 
 -- the bytes of such a text, none if there is none
-abbrev pub bytes_of : Option (List ℕ) → List ℕ
-bytes_of None = []
-bytes_of (Some hex) = hex_bytes hex
+abbrev pub bytes_or_none : Option (List ℕ) → List ℕ
+bytes_or_none None = []
+bytes_or_none (Some hex) = hex_bytes hex
 
 -- the bytes that a call of a script says
 abbrev pub bytes_said : ScriptCall → List ℕ
-bytes_said call = bytes_of (text_said call)
+bytes_said call = bytes_or_none (text_said call)
 
 -- what a call of a script asks of the core, if its labels name these handles and these are its bytes
 unfoldable pub request_of : List Named → DomId → Bor (List ℕ) → ScriptCall → Request
@@ -86,8 +86,8 @@ request_of named dom bytes (calls.QuerySize to) = requests.QuerySize to
 request_of named dom bytes (calls.GetVersion to) = requests.GetVersion to
 
 -- a call of a script asks this of the core, if its labels name these handles
-abbrev pub Asks : List Named → DomId → ScriptCall → Request → Type 0
-Asks named dom call request =
+abbrev pub SaysRequest : List Named → DomId → ScriptCall → Request → Type 0
+SaysRequest named dom call request =
     (bytes : Bor (List ℕ)) × (bytes.now ≡ bytes_said call) × (request ≡ request_of named dom bytes call)
 
 -- the label to which a call gives its handle: that of a map
@@ -111,11 +111,11 @@ label_given (calls.QuerySize to) = None
 label_given (calls.GetVersion to) = None
 
 -- the label to which the call of a line gives its handle
-abbrev pub label_in : ScriptAction → Option (List ℕ)
-label_in (actions.Do call) = label_given call
-label_in (actions.Begin call) = label_given call
-label_in (actions.Tick most) = None
-label_in (actions.Show gref) = None
+abbrev pub label_said : ScriptAction → Option (List ℕ)
+label_said (actions.Do call) = label_given call
+label_said (actions.Begin call) = label_given call
+label_said (actions.Tick most) = None
+label_said (actions.Show gref) = None
 
 -- the handle that an answer gives: that of a map answered Ok
 abbrev pub handle_given : Answer → Option Handle
@@ -131,7 +131,7 @@ with_name named dom None given = named
 -- the labels of the domain once its call of this line has its answer: a
 -- map answered Ok gives its handle to its label
 abbrev pub named_after : List Named → DomId → ScriptStep → Answer → List Named
-named_after named dom s answer = with_name named dom (label_in s.action) (handle_given answer)
+named_after named dom s answer = with_name named dom (label_said s.action) (handle_given answer)
 
 -- answers
 
@@ -157,10 +157,10 @@ pub record EndsWith (trace : List Element) (answer : Answer) : Type 0 where
 
 -- what came of a call, by the elements of its beginning and its ticks: it begins, and goes on up to its answer;
 -- one that its domain can't begin has no tick
-abbrev pub ComesTo : List Element → Outcome → Type 0
-ComesTo trace (Answered answer) =
+abbrev pub EndsAsOutcome : List Element → Outcome → Type 0
+EndsAsOutcome trace (Answered answer) =
     (first : Item) × (more : List Element) × (trace ≡ elements.Item first ∷ more) × EndsWith trace answer
-ComesTo trace Busy = trace ≡ elements.Busy ∷ []
+EndsAsOutcome trace Busy = trace ≡ elements.Busy ∷ []
 
 -- what so many ticks of a domain come to: the last one answers its call, or none of them all does
 abbrev pub TicksComeTo : ℕ → List Element → Option Answer → Type 0
@@ -200,8 +200,8 @@ abbrev pub with_line : Progress → List ℕ → Progress
 with_line p line = record p { text = p.text ++ line }
 
 -- the domain has the call of this line open from now on, or none
-abbrev pub with_call : Progress → DomId → Option ScriptStep → Progress
-with_call p dom step = record p { open_steps = λ d. if d == dom.0 then step else p.open_steps d }
+abbrev pub with_step_of : Progress → DomId → Option ScriptStep → Progress
+with_step_of p dom step = record p { open_steps = λ d. if d == dom.0 then step else p.open_steps d }
 
 -- the domain's call of this line has its answer
 abbrev pub answered : List (List ℕ) → Progress → DomId → ScriptStep → Answer → Progress
@@ -209,39 +209,40 @@ answered types p dom s answer =
     record p { named = named_after p.named dom s answer; text = p.text ++ answer_line types s.line dom answer }
 
 -- a call from its beginning on came to this
-abbrev pub after_call : List (List ℕ) → Progress → ScriptStep → Outcome → Progress
-after_call types p s (Answered answer) = answered types p s.dom s answer
-after_call types p s Busy = with_line p (busy_line s.line s.dom)
+abbrev pub progress_after : List (List ℕ) → Progress → ScriptStep → Outcome → Progress
+progress_after types p s (Answered answer) = answered types p s.dom s answer
+progress_after types p s Busy = with_line p (busy_line s.line s.dom)
 
 -- a call was begun, and not answered or answered at once
 abbrev pub after_item : List (List ℕ) → Progress → ScriptStep → Option Answer → Progress
-after_item types p s None = with_call p s.dom (Some s)
+after_item types p s None = with_step_of p s.dom (Some s)
 after_item types p s (Some answer) = answered types p s.dom s answer
 
 -- the beginning of a call did this; a domain of the run is not idle then
-abbrev pub after_beginning : List (List ℕ) → Progress → ScriptStep → Element → Progress
-after_beginning types p s (elements.Item item) = after_item types p s item.answer
-after_beginning types p s elements.Busy = with_line p (busy_line s.line s.dom)
-after_beginning types p s elements.Idle = p
-after_beginning types p s elements.NoDomain = p
+abbrev pub progress_begun : List (List ℕ) → Progress → ScriptStep → Element → Progress
+progress_begun types p s (elements.Item item) = after_item types p s item.answer
+progress_begun types p s elements.Busy = with_line p (busy_line s.line s.dom)
+progress_begun types p s elements.Idle = p
+progress_begun types p s elements.NoDomain = p
 
 -- ticks of the domain's call, which this line began, came to this
 abbrev pub after_ticks : List (List ℕ) → Progress → DomId → ScriptStep → Option Answer → Progress
-after_ticks types p dom begun (Some answer) = answered types (with_call p dom None) dom begun answer
+after_ticks types p dom begun (Some answer) = answered types (with_step_of p dom None) dom begun answer
 after_ticks types p dom begun None = p
 
 -- the line `do ID CALL`
 abbrev pub DoLine : List (List ℕ) → ScriptStep → ScriptCall → Progress → Progress → Type 0
 DoLine types s call p q =
-    (request : Request) × Asks p.named s.dom call request
-    × (ticks : ℕ) × (trace : List Element) × (outcome : Outcome) × (length trace ≡ 1 + ticks) × ComesTo trace outcome
-    × (q ≡ after_call types (with_events p (call_events s.dom request ticks) trace) s outcome)
+    (request : Request) × SaysRequest p.named s.dom call request
+    × (ticks : ℕ) × (trace : List Element) × (outcome : Outcome) × (length trace ≡ 1 + ticks)
+    × EndsAsOutcome trace outcome
+    × (q ≡ progress_after types (with_events p (call_events s.dom request ticks) trace) s outcome)
 
 -- the line `begin ID CALL`
 abbrev pub BeginLine : List (List ℕ) → ScriptStep → ScriptCall → Progress → Progress → Type 0
 BeginLine types s call p q =
-    (request : Request) × Asks p.named s.dom call request
-    × (x : Element) × (q ≡ after_beginning types (with_events p (Begin s.dom request ∷ []) (x ∷ [])) s x)
+    (request : Request) × SaysRequest p.named s.dom call request
+    × (x : Element) × (q ≡ progress_begun types (with_events p (Begin s.dom request ∷ []) (x ∷ [])) s x)
 
 -- the line `tick ID N`: idle if the domain has no call open, and then nothing happens
 abbrev pub TickLine : List (List ℕ) → ScriptStep → ℕ → Option ScriptStep → Progress → Progress → Type 0
@@ -263,13 +264,13 @@ RunsLine t types s (actions.Tick count) p q = TickLine types s count (p.open_ste
 RunsLine t types s (actions.Show gref) p q = ShowLine t s gref p q
 
 -- the steps, one after the other, lead from one point of a run to another
-abbrev pub LeadsTo : Setting → List (List ℕ) → Progress → List ScriptStep → Progress → Type 0
-LeadsTo t types p [] q = p ≡ q
-LeadsTo t types p (s ∷ steps) q = (r : Progress) × RunsLine t types s s.action p r × LeadsTo t types r steps q
+abbrev pub PlayLeadsTo : Setting → List (List ℕ) → Progress → List ScriptStep → Progress → Type 0
+PlayLeadsTo t types p [] q = p ≡ q
+PlayLeadsTo t types p (s ∷ steps) q = (r : Progress) × RunsLine t types s s.action p r × PlayLeadsTo t types r steps q
 
 -- this is if the steps of a script lead
 abbrev pub IsRunOf : Setting → List (List ℕ) → List ScriptStep → Progress → Type 0
-IsRunOf t types steps p = LeadsTo t types at_start steps p
+IsRunOf t types steps p = PlayLeadsTo t types at_start steps p
 
 -- a domain has a line's call open exactly if it has one open by what happened
 abbrev pub KnowsOpen : Progress → Type 0

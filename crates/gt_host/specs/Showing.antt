@@ -7,7 +7,7 @@ pub use Rattle.gt_texts.specs.Entries.{entry_text}
 use Rattle.gt_types.specs.declared.DomId.{DomId}
 use Rattle.gt_types.specs.declared.GrantRef.{GrantRef}
 use Rattle.gt_entry.specs.Spelling.{control_with}
-use Rattle.gt_entry.specs.Words.{status_of}
+use Rattle.gt_entry.specs.Words.{status_bits_of}
 use Rattle.gt_core.specs.declared.core_state.Shown.{Shown}
 
 -- a status word: four lower-case hexadecimal digits
@@ -25,7 +25,8 @@ abbrev pub shown_text : Option Shown → List ℕ
 shown_text None = codes "none"
 shown_text (Some shown) =
     entry_text shown.entry ++ counts_text shown.generation shown.reads shown.writes
-    ++ codes " status=" ++ status_text (status_of (control_with shown.entry shown.generation shown.reads shown.writes))
+    ++ codes " status="
+    ++ status_text (status_bits_of (control_with shown.entry shown.generation shown.reads shown.writes))
 
 -- `LINE show ID REF SHOWN`
 abbrev pub show_line : ℕ → DomId → GrantRef → Option Shown → List ℕ

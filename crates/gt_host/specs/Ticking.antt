@@ -16,22 +16,22 @@ use Rattle.gt_host.specs.declared.outcome.Outcome.{Outcome}
 use Rattle.gt_host.specs.Naming.{AreNamed}
 use Rattle.gt_host.specs.OpenCalls.{call_in}
 use Rattle.gt_host.specs.Recording.{IsAudited}
-use Rattle.gt_host.specs.Runs.{Progress, ComesTo, TicksComeTo, KnowsOpen, call_events, history_of}
+use Rattle.gt_host.specs.Runs.{Progress, EndsAsOutcome, TicksComeTo, KnowsOpen, call_events, history_of}
 
 -- the events did what they may after the history, and the core stands for what they leave
-pub record Happens (s : Setting) (h : History) (events : List Event) (trace : List Element)
+pub record HasHappened (s : Setting) (h : History) (events : List Event) (trace : List Element)
     (core : CoreState) : Type 0 where
   pub legal : LegalAfter s h events trace
   pub stands : CoreStands s (history_after h trace) core
 
 -- a call comes to this, by its beginning and some ticks
-pub record Calls (s : Setting) (h : History) (dom : DomId) (request : Request) (core : CoreState)
+pub record HasCalled (s : Setting) (h : History) (dom : DomId) (request : Request) (core : CoreState)
     (outcome : Outcome) : Type 0 where
   pub ticks : ℕ
   pub trace : List Element
   pub length_of : length trace ≡ 1 + ticks
-  pub comes : ComesTo trace outcome
-  pub happens : Happens s h (call_events dom request ticks) trace core
+  pub comes : EndsAsOutcome trace outcome
+  pub happens : HasHappened s h (call_events dom request ticks) trace core
 
 -- at most so many ticks of a domain come to this
 pub record TicksTo (s : Setting) (h : History) (dom : DomId) (most : ℕ) (core : CoreState)
@@ -40,25 +40,25 @@ pub record TicksTo (s : Setting) (h : History) (dom : DomId) (most : ℕ) (core 
   pub trace : List Element
   pub length_of : length trace ≡ ticks
   pub comes : TicksComeTo most trace answer
-  pub happens : Happens s h (replicate ticks (Tick dom)) trace core
+  pub happens : HasHappened s h (replicate ticks (Tick dom)) trace core
 
 -- the core stands for some history, and the domain is one of the run
-pub record IsReady (s : Setting) (dom : DomId) (core : CoreState) : Type 0 where
+pub record IsReadyToCall (s : Setting) (dom : DomId) (core : CoreState) : Type 0 where
   pub history : History
   pub stands : CoreStands s history core
   pub known : domain_of s.domains dom ≢ None
 
 -- what is kept beside the core is what a run that has come here knows: what labels name, and the open calls
-pub record IsKept (kept : Kept) (p : Progress) : Type 0 where
+pub record KeepsProgress (kept : Kept) (p : Progress) : Type 0 where
   pub names : AreNamed kept.labels p.named
   pub calls : (dom : ℕ) → call_in kept.calls dom ≡ p.open_steps dom
 
 -- the run has come to this point: what it did is legal, and the core and what is
 -- kept stand for it; it is recorded, if that is asked for
-pub record HasCome (s : Setting) (audit : Bool) (p : Progress) (core : CoreState) (kept : Kept) : Type 0 where
+pub record HasPlayed (s : Setting) (audit : Bool) (p : Progress) (core : CoreState) (kept : Kept) : Type 0 where
   pub legal : Legal s p.events p.trace
   pub stands : CoreStands s (history_of p) core
-  pub keeps : IsKept kept p
+  pub keeps : KeepsProgress kept p
   pub knows : KnowsOpen p
   pub audited : IsAudited s audit p.trace kept
 
@@ -70,5 +70,5 @@ IsAppended was is before after = (text : List ℕ) × (is ≡ was ++ text) × (a
 abbrev pub Leads : Setting → (Progress → Progress → Type 0) → CoreState → CoreState → Kept → Kept → List ℕ → List ℕ
     → Type 0
 Leads s ToNext old_core new_core old_kept new_kept before after =
-    (p : Progress) (audit : Bool) → HasCome s audit p old_core old_kept
-    → (q : Progress) × ToNext p q × HasCome s audit q new_core new_kept × IsAppended p.text q.text before after
+    (p : Progress) (audit : Bool) → HasPlayed s audit p old_core old_kept
+    → (q : Progress) × ToNext p q × HasPlayed s audit q new_core new_kept × IsAppended p.text q.text before after

@@ -124,11 +124,11 @@ impl From<ReadFault> for PlayFault {
 
 impl PlayFault {
     ghost use Rattle.std.specs.Prelude.{◌≡◌};
-    ghost use Rattle.gt_host.specs.Faults.{ended};
+    ghost use Rattle.gt_host.specs.Faults.{play_ended};
 
     /// How a run ended, for its caller.
     pub fn told(outcome: Result<(), Fault>) -> Result<(), PlayFault>
-        ensures { result ≡ ended outcome }
+        ensures { result ≡ play_ended outcome }
     {
         match outcome {
             Ok(()) => Ok(()),

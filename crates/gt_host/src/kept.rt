@@ -16,11 +16,11 @@ impl<'b, 'a> Kept<'b, 'a> {
     ghost use Rattle.std.specs.Prelude.{◌≡◌};
     ghost use Rattle.gt_host.specs.Recording.{RecordsNothing};
     ghost use Rattle.gt_host.specs.Runs.{at_start};
-    ghost use Rattle.gt_host.specs.Ticking.{IsKept};
+    ghost use Rattle.gt_host.specs.Ticking.{KeepsProgress};
 
     /// What is kept before the first line: nothing. Records are asked for, or not.
     pub fn new(alloc: Global, audit: bool) -> Kept<'b, 'a>
-        ensures kept { IsKept result at_start }
+        ensures kept { KeepsProgress result at_start }
         ensures on { result.audit.is_on ≡ audit }
         ensures records { RecordsNothing result }
     {

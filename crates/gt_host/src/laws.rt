@@ -2,7 +2,7 @@
 //! contract is the law.
 ghost use Rattle.std.specs.Prelude.{◌≡◌, ℕ, Bool, List, Option, Some, Ok};
 ghost use Rattle.gt_script.specs.Contents.{Contents};
-ghost use Rattle.gt_script.specs.Script.{Tells};
+ghost use Rattle.gt_script.specs.Script.{TellsScript};
 ghost use Rattle.gt_host.specs.Playing.{BeginsEvery, BeginsRun, IsLegalRunOf, Played, audited_text};
 ghost use Rattle.gt_host.specs.Runs.{Progress};
 
@@ -18,8 +18,8 @@ pub fn every_script_prints_one_text()
     ensures run { (c : Contents) (audit : Bool) (p q : Progress) →
         IsLegalRunOf c c.steps p → IsLegalRunOf c c.steps q → audited_text c audit p ≡ audited_text c audit q }
     ensures played { (input : List ℕ) (audit : Bool) (old one other : List ℕ) →
-        Played (Tells input) audit (Some old) (Some one) (Ok tt) →
-        Played (Tells input) audit (Some old) (Some other) (Ok tt) → one ≡ other }
+        Played (TellsScript input) audit (Some old) (Some one) (Ok tt) →
+        Played (TellsScript input) audit (Some old) (Some other) (Ok tt) → one ≡ other }
 {
     every_alike_event_does_one_thing();
     every_alike_run_shows_one_thing();

@@ -1,8 +1,8 @@
 //! A script in, and the lines of its run out.
 ghost use Rattle.std.specs.Prelude.{◌≡◌, ◌⊎◌, ◌++◌, ℕ, List, take, OnOk, OnErr, IfOk, IfErr};
 ghost use Rattle.std.specs.Option.{option_map};
-ghost use Rattle.gt_script.specs.Contents.{told};
-ghost use Rattle.gt_script.specs.Script.{Tells};
+ghost use Rattle.gt_script.specs.Contents.{contents_told};
+ghost use Rattle.gt_script.specs.Script.{TellsScript};
 ghost use Rattle.gt_host.specs.declared.fault.Fault.TheVariants as faults;
 ghost use Rattle.gt_host.specs.OpenCalls.{call_in};
 ghost use Rattle.gt_host.specs.Runs.{open_text, open_lines};
@@ -26,8 +26,8 @@ use std::io::{Read, Write};
 
 // A core with the domains and the rights of the script.
 fn start<'s, 'a>(alloc: Global, script: &'s Script<'a>) -> Result<Core<Rights>, Fault>
-    requires { CanStart (told script.now) }
-    ensures starts { IfOk result (StartsFor (told script.entry.now)) }
+    requires { CanStart (contents_told script.now) }
+    ensures starts { IfOk result (StartsFor (contents_told script.entry.now)) }
     ensures errors { IfErr result (λ e. e ≡ faults.Memory) }
 {
     let config = Config {
@@ -75,10 +75,11 @@ fn run_lines<'s, 'a, W: Write>(
     writer: &mut W,
     audit: bool,
 ) -> Result<(), Fault>
-    requires can { CanStart (told script.now) }
-    requires starts { StartsFor (told script.now) core.old }
-    ensures whole { OnOk result (WritesRun (told script.now) audit (W.contents writer.old) (W.contents writer.new)) }
-    ensures beginning { OnErr result (BeginsRun (told script.now) audit
+    requires can { CanStart (contents_told script.now) }
+    requires starts { StartsFor (contents_told script.now) core.old }
+    ensures whole { OnOk result (WritesRun (contents_told script.now) audit (W.contents writer.old)
+        (W.contents writer.new)) }
+    ensures beginning { OnErr result (BeginsRun (contents_told script.now) audit
         (W.contents writer.old) (W.contents writer.new)) }
     ensures errors { IfErr result (λ e. (e ≡ faults.Memory) ⊎ (e ≡ faults.Write)) }
 {
@@ -103,9 +104,10 @@ fn run_script<W: Write>(
     writer: &mut W,
     audit: bool,
 ) -> Result<(), Fault>
-    requires { CanStart (told script.now) }
-    ensures whole { OnOk result (WritesRun (told script.now) audit (W.contents writer.old) (W.contents writer.new)) }
-    ensures beginning { OnErr result (BeginsRun (told script.now) audit
+    requires { CanStart (contents_told script.now) }
+    ensures whole { OnOk result (WritesRun (contents_told script.now) audit (W.contents writer.old)
+        (W.contents writer.new)) }
+    ensures beginning { OnErr result (BeginsRun (contents_told script.now) audit
         (W.contents writer.old) (W.contents writer.new)) }
     ensures errors { IfErr result (λ e. (e ≡ faults.Memory) ⊎ (e ≡ faults.Write)) }
 {
@@ -121,7 +123,7 @@ fn play_bytes<W: Write>(
     audit: bool,
 ) -> Result<(), PlayFault>
     ensures { (all : List ℕ) → input.now ≡ take 1048577 all →
-        Played (Tells all) audit (W.contents writer.old) (W.contents writer.new) result }
+        Played (TellsScript all) audit (W.contents writer.old) (W.contents writer.new) result }
 {
     every_beginning_is_of_the_text();
     match parse(alloc, input) {
@@ -145,7 +147,7 @@ pub fn play<R: Read, W: Write>(
     audit: bool,
 ) -> Result<(), PlayFault>
     ensures text { OfInput (R.remaining reader.old) (λ input.
-        Played (Tells input) audit (W.contents writer.old) (W.contents writer.new) result) }
+        Played (TellsScript input) audit (W.contents writer.old) (W.contents writer.new) result) }
     ensures read { ConsumesAtMost READ_LIMIT (R.remaining reader.old) (R.remaining reader.new) }
 {
     match read_text(alloc, reader) {

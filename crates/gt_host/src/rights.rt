@@ -27,12 +27,12 @@ impl Allows for Rights {
 }
 
 impl Rights {
-    ghost use Rattle.gt_script.specs.Contents.{told};
+    ghost use Rattle.gt_script.specs.Contents.{contents_told};
     ghost use Rattle.gt_host.specs.Rights.{may_by, may_in};
 
     /// The rights that the script's head gives.
     pub fn of<'s, 'a>(alloc: Global, script: &'s Script<'a>) -> Result<Rights, Memory>
-        ensures { IfOk result (λ rights. may_by rights ≡ may_in (told script.entry.now)) }
+        ensures { IfOk result (λ rights. may_by rights ≡ may_in (contents_told script.entry.now)) }
     {
         if let Some(policy) = script.policy() {
             return Ok(Rights::Table(AllowTable::compile(alloc, policy)?));

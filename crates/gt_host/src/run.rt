@@ -7,9 +7,9 @@ ghost use Rattle.gt_core.specs.History.{History};
 ghost use Rattle.gt_core.specs.Standing.{CoreStands, setting_in};
 ghost use Rattle.gt_host.specs.Printing.{answer_line};
 ghost use Rattle.gt_host.specs.Runs.{Named, text_said, bytes_said as said_in, request_of};
-ghost use Rattle.gt_host.specs.Runs.{label_given, label_in, DoLine, BeginLine, TickLine, RunsLine};
+ghost use Rattle.gt_host.specs.Runs.{label_given, label_said, DoLine, BeginLine, TickLine, RunsLine};
 ghost use Rattle.gt_host.specs.Naming.{AreNamed, NamesMapping};
-ghost use Rattle.gt_host.specs.Ticking.{IsReady, Calls, TicksTo, Leads};
+ghost use Rattle.gt_host.specs.Ticking.{IsReadyToCall, HasCalled, TicksTo, Leads};
 ghost use Rattle.gt_host.specs.declared.fault.Fault.TheVariants as faults;
 
 use crate::answers::{push_answer_line, push_busy_line, push_idle_line};
@@ -150,7 +150,7 @@ pub fn label_given<'a>(call: &ScriptCall<'a>) -> Option<&'a [u8]>
 
 // The label to which the call of a step gives its handle.
 fn label_in<'a>(action: &ScriptAction<'a>) -> Option<&'a [u8]>
-    ensures { option_map (λ l. l.now) result ≡ label_in action.now }
+    ensures { option_map (λ l. l.now) result ≡ label_said action.now }
 {
     match action {
         ScriptAction::Do(call) | ScriptAction::Begin(call) => label_given(call),
@@ -215,9 +215,9 @@ fn run_call<P: Allows>(
     dom: DomId,
     request: Request<'_>,
 ) -> Result<Outcome, Memory>
-    requires { IsReady (setting_in P.may core.old) dom core.old.state }
+    requires { IsReadyToCall (setting_in P.may core.old) dom core.old.state }
     ensures calls { (h : History) → CoreStands (setting_in P.may core.old) h core.old.state →
-        IfOk result (Calls (setting_in P.may core.old) h dom request.entry core.new.state) }
+        IfOk result (HasCalled (setting_in P.may core.old) h dom request.entry core.new.state) }
     ensures config { core.new.config ≡ core.old.config }
     ensures rights { core.new.rights ≡ core.old.rights }
 {
@@ -242,7 +242,7 @@ fn run_do<'b, 'a, P: Allows>(
     bytes: &[u8],
     out: &mut Vec<u8>,
 ) -> Result<(), Fault>
-    requires ready { IsReady (setting_in P.may core.old) step.now.dom core.old.state }
+    requires ready { IsReadyToCall (setting_in P.may core.old) step.now.dom core.old.state }
     requires said { bytes.now ≡ said_in call.now }
     ensures leads { OnOk result (Leads (setting_in P.may core.old) (DoLine types.now step.now call.now)
         core.old.state core.new.state kept.old kept.new out.old.items out.new.items) }
@@ -342,7 +342,7 @@ pub fn run_step<'b, 'a, P: Allows>(
     step: &'b ScriptStep<'a>,
     out: &mut Vec<u8>,
 ) -> Result<(), Fault>
-    requires { IsReady (setting_in P.may core.old) step.now.dom core.old.state }
+    requires { IsReadyToCall (setting_in P.may core.old) step.now.dom core.old.state }
     ensures leads { OnOk result (Leads (setting_in P.may core.old)
         (λ p q. RunsLine (setting_in P.may core.old) types.now step.now step.now.action p q)
         core.old.state core.new.state kept.old kept.new out.old.items out.new.items) }

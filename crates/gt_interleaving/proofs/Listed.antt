@@ -12,7 +12,7 @@ use Rattle.gt_types.specs.declared.denial.Denial.{Denial}
 use Rattle.gt_words.specs.History.{Layout, Moment}
 use Rattle.gt_words.specs.Laws.{length-ids, own_position}
 use Rattle.gt_words.specs.Rule.{Shows, id_at}
-use Rattle.gt_words.specs.Views.{IsIn}
+use Rattle.gt_words.specs.Views.{IsAmong}
 use Rattle.gt_words.specs.declared.view.View.{View}
 use Rattle.gt_handles.specs.declared.handles.Handle.{Handle}
 use Rattle.gt_calls.specs.declared.action.Verdict.{Verdict}
@@ -25,7 +25,7 @@ use Rattle.gt_core.specs.declared.trace.Answer.TheVariants as answers
 use Rattle.gt_frames.specs.Receipts.{Writing}
 use Rattle.gt_calls.specs.declared.action.Verdict.TheVariants.{Refused}
 use Rattle.gt_live.specs.Accesses.{IsWrittenBy}
-use Rattle.gt_live.specs.Domains.{Accesses, AllowRelation, Answered, HasLeft, IsOf, KeepsPinned, verdict_of}
+use Rattle.gt_live.specs.Domains.{Accesses, AllowRelation, Answered, HasLeft, BelongsTo, KeepsPinned, verdict_of}
 use Rattle.gt_live.specs.Domains.{verdict_of_frames, verdict_of_size, verdict_of_version}
 use Rattle.gt_live.specs.Ending.{IsOfMapping}
 use Rattle.gt_live.specs.Starting.{IsNewDomain}
@@ -39,20 +39,20 @@ use Rattle.gt_order.proofs.Writes.{lost-made, writes-made}
 use Rattle.gt_order.specs.Calling.{IsOutcomeOf, IsStoring, StaysOf, WasMade}
 use Rattle.gt_order.specs.Leaving.{MayUnmapAll}
 use Rattle.gt_order.specs.Runs.{AreCalls, CallMade, FitsTypes, IsAtRest, IsRun, IsSeatRun, KeepsNoPin}
-use Rattle.gt_order.specs.Runs.{Outcome as CallOutcome, SeatRun, domain_after}
-use Rattle.gt_order.specs.Runs.Outcome.{Told, Kept, Starved, Wrote}
+use Rattle.gt_order.specs.Runs.{CallOutcome, SeatRun, domain_after}
+use Rattle.gt_order.specs.Runs.CallOutcome.{Told, Kept, Starved, Wrote}
 use Rattle.gt_lines.specs.declared.calls.ScriptCall.{ScriptCall}
 use Rattle.gt_lines.specs.declared.calls.ScriptCall.TheVariants as calls
-use Rattle.gt_host.specs.Runs.{Asks as SaysRequest, Named, request_of}
+use Rattle.gt_host.specs.Runs.{SaysRequest, Named, request_of}
 use Rattle.gt_script.specs.declared.tasks.Deed.{Deed}
 use Rattle.gt_script.specs.declared.tasks.Deed.TheVariants.{Await, Do, Tell}
 use Rattle.gt_script.specs.declared.tasks.Task.{Task}
 use Rattle.gt_run.specs.Asking.{AnswersCall, Asks, frames_answer, mapped_answer, plain_answer, size_answer}
 use Rattle.gt_run.specs.Asking.{version_answer}
 use Rattle.gt_run.specs.Printing.{Served}
-use Rattle.gt_run.specs.Serving.{DoesDeed, DoesWhere, LeadsTo, MakesCall, Outcome, Progress, at_start}
+use Rattle.gt_run.specs.Serving.{DoesDeed, DoesWhere, ListLeadsTo, MakesCall, Outcome, ListProgress, list_start}
 use Rattle.gt_run.specs.declared.lists.Duty.{Duty}
-use Rattle.gt_interleaving.specs.Texts.{AreCallsOf, AreCallsOfList, AreOfALegalOrder, HasList, IsAnswerOf, IsQuiet}
+use Rattle.gt_interleaving.specs.Texts.{AreCallsOf, AreCallsOfList, AreOfALegalOrder, HasList, IsAnswerOf, IsQuietDuty}
 use Rattle.gt_interleaving.specs.Texts.{IsViewOf, ReadsNoBytes, TextsAreOfALegalOrder}
 
 -- a request that reaches no bytes
@@ -164,15 +164,15 @@ module _ {P : Type 0} (may : P → AllowRelation) (m : Monitor P) where
     is-made (requests.Promote gref) answer quiet fits x = plain (requests.Promote gref) (verdict_of x.0) (plain_answer x.0) answer (λ q. q) fits (plain-pin x.0) (plain-same x.0) x.1 x.2.0 x.2.1
 
   -- a list, as far as it has come
-  module _ (duty : Duty P) (over : duty.monitor.now ≡ m) (quiet : IsQuiet duty) (first : Domain) where
-    record Come (p : Progress) : Type 0 where
+  module _ (duty : Duty P) (over : duty.monitor.now ≡ m) (quiet : IsQuietDuty duty) (first : Domain) where
+    record Come (p : ListProgress) : Type 0 where
       made : List CallMade
       calls_are : AreCalls m.words m.config (may m.rights) first made
       now : domain_after first made ≡ p.domain
       lines : AreCallsOf may duty made p.outcomes
-      mine : IsOf may m p.domain
+      mine : BelongsTo may m p.domain
 
-    one-call : (line : ℕ) (call : ScriptCall) (p q : Progress) → ReadsNoBytes call → ((named : List Named) (request : Request) → SaysRequest named duty.part.dom call request → FitsTypes request)
+    one-call : (line : ℕ) (call : ScriptCall) (p q : ListProgress) → ReadsNoBytes call → ((named : List Named) (request : Request) → SaysRequest named duty.part.dom call request → FitsTypes request)
         → MakesCall may duty line call p q → Come p → Come q
     one-call line call p q none fits x come =
         let says = x.says in
@@ -189,22 +189,22 @@ module _ {P : Type 0} (may : P → AllowRelation) (m : Monitor P) where
           mine = asks.2;
         }
 
-    one-deed : (task : Task) → IsIn task duty.part.tasks.now → (task.dom.0 == duty.part.dom.0) ≡ true → (deed : Deed) → task.deed ≡ deed → (p q : Progress) → DoesDeed may duty task.line deed p q → Come p → Come q
+    one-deed : (task : Task) → IsAmong task duty.part.tasks.now → (task.dom.0 == duty.part.dom.0) ≡ true → (deed : Deed) → task.deed ≡ deed → (p q : ListProgress) → DoesDeed may duty task.line deed p q → Come p → Come q
     unfolding DoesDeed
     one-deed task is-in own (Do call) is p q does come = let a = quiet task call is-in own is in one-call task.line call p q a.0 a.1 does come
     one-deed task is-in own (Tell flag) is p q does come = subst Come (sym does) come
     one-deed task is-in own (Await flag) is p q does come = subst Come (sym does) come
 
-    one-line : (task : Task) → IsIn task duty.part.tasks.now → (b : Bool) → (task.dom.0 == duty.part.dom.0) ≡ b → (p q : Progress) → DoesWhere b may duty task p q → Come p → Come q
+    one-line : (task : Task) → IsAmong task duty.part.tasks.now → (b : Bool) → (task.dom.0 == duty.part.dom.0) ≡ b → (p q : ListProgress) → DoesWhere b may duty task p q → Come p → Come q
     one-line task is-in true own p q does come = one-deed task is-in own task.deed refl p q does come
     one-line task is-in false own p q does come = subst Come (sym does) come
 
-    comes : (tasks : List Task) → ((task : Task) → IsIn task tasks → IsIn task duty.part.tasks.now) → (p q : Progress) → LeadsTo may duty p tasks q → Come p → Come q
+    comes : (tasks : List Task) → ((task : Task) → IsAmong task tasks → IsAmong task duty.part.tasks.now) → (p q : ListProgress) → ListLeadsTo may duty p tasks q → Come p → Come q
     comes [] each p q leads come = subst Come (sym leads) come
     comes (task ∷ tasks) each p q leads come =
         comes tasks (λ t is. each t (inr is)) leads.0 q leads.2 (one-line task (each task (inl refl)) (task.dom.0 == duty.part.dom.0) refl p leads.0 leads.1 come)
 
-  take-in : {A : Type 0} (n : ℕ) (xs : List A) (x : A) → IsIn x (take n xs) → IsIn x xs
+  take-in : {A : Type 0} (n : ℕ) (xs : List A) (x : A) → IsAmong x (take n xs) → IsAmong x xs
   take-in zero xs x is = absurd is
   take-in (suc n) [] x is = absurd is
   take-in (suc n) (y ∷ ys) x (inl e) = inl e
@@ -251,7 +251,7 @@ module _ {P : Type 0} (may : P → AllowRelation) (m : Monitor P) where
       starts = subst (λ (p : ℕ). IsNewDomain m.words m.config (may m.rights) p l.served.domain) (stands-at i l.served.first.position l.served.domain inside fresh (l.served.first.own ∙ l.dom)) fresh
 
       come : Come s.duty l.monitor l.quiet first l.served.left
-      come = comes s.duty l.monitor l.quiet l.served.domain (take l.served.number s.duty.part.tasks.now) (λ t is. take-in l.served.number s.duty.part.tasks.now t is) (at_start l.served.domain) l.served.left l.served.leads
+      come = comes s.duty l.monitor l.quiet l.served.domain (take l.served.number s.duty.part.tasks.now) (λ t is. take-in l.served.number s.duty.part.tasks.now t is) (list_start l.served.domain) l.served.left l.served.leads
           (record { made = []; calls_are = tt; now = refl; lines = refl; mine = fresh.domain })
 
       lines : AreCallsOf may s.duty come.made s.outcomes

@@ -4,7 +4,7 @@ pub use Rattle.gt_calls.specs.declared.request.Request.{Request}
 pub use Rattle.gt_core.specs.Acting.{answer_of}
 pub use Rattle.gt_core.specs.History.{History as Items}
 pub use Rattle.gt_core.specs.declared.trace.Answer.{Answer}
-pub use Rattle.gt_host.specs.Runs.{Asks as SaysRequest, Named}
+pub use Rattle.gt_host.specs.Runs.{SaysRequest, Named}
 pub use Rattle.gt_lines.specs.declared.calls.ScriptCall.{ScriptCall}
 pub use Rattle.gt_live.specs.Accesses.{IsOfAccess}
 pub use Rattle.gt_live.specs.Domains.{AllowRelation, HasLeft}
@@ -13,19 +13,19 @@ pub use Rattle.gt_live.specs.declared.domain.Left.{Left}
 pub use Rattle.gt_live.specs.declared.monitor.Monitor.{Monitor}
 pub use Rattle.gt_order.specs.Leaving.{AreUnmaps, MayUnmapAll}
 pub use Rattle.gt_order.specs.Ordering.{IsLegalOrder}
-pub use Rattle.gt_order.specs.Runs.{CallMade, FitsTypes, Outcome as CallOutcome, SeatRun}
-pub use Rattle.gt_order.specs.Runs.Outcome.{Kept, Starved, Told, Wrote}
+pub use Rattle.gt_order.specs.Runs.{CallMade, FitsTypes, CallOutcome, SeatRun}
+pub use Rattle.gt_order.specs.Runs.CallOutcome.{Kept, Starved, Told, Wrote}
 pub use Rattle.gt_run.specs.Printing.{Served}
-pub use Rattle.gt_run.specs.Serving.{IsServed, MakesCall, Outcome, Progress}
+pub use Rattle.gt_run.specs.Serving.{IsServed, MakesCall, Outcome, ListProgress}
 pub use Rattle.gt_run.specs.declared.lists.Duty.{Duty}
 pub use Rattle.gt_script.specs.declared.tasks.Deed.TheVariants.{Do}
 pub use Rattle.gt_script.specs.declared.tasks.Task.{Task}
 pub use Rattle.gt_types.specs.declared.config.Config.{Config}
 pub use Rattle.gt_types.specs.declared.denial.Denial.{Denial}
 pub use Rattle.gt_words.specs.Conditions.{Board}
-pub use Rattle.gt_words.specs.History.{History}
+pub use Rattle.gt_words.specs.History.{StepHistory}
 pub use Rattle.gt_words.specs.Rule.{Shows, id_at}
-pub use Rattle.gt_words.specs.Views.{IsIn}
+pub use Rattle.gt_words.specs.Views.{IsAmong}
 pub use Rattle.gt_words.specs.declared.view.View.{View}
 pub use lib.ListN.{get_elem?}
 pub use mathlib.Core.Option.{some}

@@ -1,11 +1,12 @@
 -- The lists of a run that read and copy no bytes, and the legal order whose answers they print.
 use Rattle.std.specs.Prelude.{◌≡◌, ◌⊎◌, ℕ, ◌<◌, ◌==◌, true, List, [], ◌∷◌, ◌++◌, length}
-use Rattle.gt_interleaving.specs.Prelude.{some, get_elem?, State, Config, Denial, Board, History, Shows, id_at, IsIn}
+use Rattle.gt_interleaving.specs.Prelude.{some, get_elem?, State, Config, Denial, Board, StepHistory, Shows, id_at}
+use Rattle.gt_interleaving.specs.Prelude.{IsAmong}
 use Rattle.gt_interleaving.specs.Prelude.{View, Request, Items, answer_of, Answer, IsOfAccess, AllowRelation, HasLeft}
 use Rattle.gt_interleaving.specs.Prelude.{Domain, Left, Monitor, AreUnmaps, MayUnmapAll, IsLegalOrder, CallMade}
 use Rattle.gt_interleaving.specs.Prelude.{FitsTypes, CallOutcome, SeatRun, Told, Kept, Starved, Wrote, ScriptCall}
 use Rattle.gt_interleaving.specs.Prelude.{SaysRequest, Named, Do, Task, Duty, Served, IsServed, MakesCall, Outcome}
-use Rattle.gt_interleaving.specs.Prelude.{Progress}
+use Rattle.gt_interleaving.specs.Prelude.{ListProgress}
 use Rattle.gt_core.specs.declared.trace.Answer.TheVariants as answers
 use Rattle.gt_lines.specs.declared.calls.ScriptCall.TheVariants as calls
 
@@ -18,9 +19,9 @@ ReadsNoBytes call = Unit {0}
 
 -- Each call of the duty's list reads no bytes and copies none, and what it asks has the numbers that its types can hold,
 -- whatever its labels name
-abbrev pub IsQuiet : {P : Type 0} → Duty P → Type 0
-IsQuiet duty =
-    (task : Task) (call : ScriptCall) → IsIn task duty.part.tasks.now → (task.dom.0 == duty.part.dom.0) ≡ true
+abbrev pub IsQuietDuty : {P : Type 0} → Duty P → Type 0
+IsQuietDuty duty =
+    (task : Task) (call : ScriptCall) → IsAmong task duty.part.tasks.now → (task.dom.0 == duty.part.dom.0) ≡ true
     → task.deed ≡ Do call
     → ReadsNoBytes call
     × ((named : List Named) (request : Request) → SaysRequest named duty.part.dom call request → FitsTypes request)
@@ -37,8 +38,8 @@ IsAnswerOf Wrote answer = answer ≡ answers.Done
 pub record IsCallOf {P : Type 0} (may : P → AllowRelation) (duty : Duty P) (m : CallMade) (o : Outcome)
     : Type 0 where
   pub call : ScriptCall
-  pub before : Progress
-  pub afterwards : Progress
+  pub before : ListProgress
+  pub afterwards : ListProgress
   pub made : MakesCall may duty o.line call before afterwards
   pub request : m.request ≡ made.request
   pub old : m.old ≡ before.domain
@@ -58,7 +59,7 @@ pub record HasList {P : Type 0} (may : P → AllowRelation) (m : Monitor P) (i :
   pub monitor : s.duty.monitor.now ≡ m
   pub dom : s.duty.part.dom ≡ id_at m.words.layout.ids i
   pub served : IsServed may s.duty s.outcomes s.text
-  pub quiet : IsQuiet s.duty
+  pub quiet : IsQuietDuty s.duty
 
 -- the view is that of the domain where its list ended; or the domain has left since, and the policy
 -- lets it give each of its mappings up
@@ -76,7 +77,8 @@ pub record AreCallsOfList {P : Type 0} (may : P → AllowRelation) (s : Served P
 
 -- The text of the lists is that of a legal order: one list of items is legal for the run, has the steps of the history in
 -- their order, and has of each domain the calls of its list, with the answers that its lines print
-pub record AreOfALegalOrder {P : Type 0} (may : P → AllowRelation) (m : Monitor P) (h : History) (lists : ℕ → Served P)
+pub record AreOfALegalOrder {P : Type 0} (may : P → AllowRelation) (m : Monitor P) (h : StepHistory)
+    (lists : ℕ → Served P)
     : Type 0 where
   pub items : Items
   pub seats : ℕ → SeatRun

@@ -12,8 +12,8 @@ use Rattle.std.proofs.lemmas.Option.{same_Some, none-some}
 use Rattle.std.proofs.lemmas.Slice.Eq.{bytes_eq-Decides}
 use Rattle.gt_json.specs.Words.{at_equals}
 use Rattle.gt_json.specs.Places.{next, name_at, start, is_fact, is_mark}
-use Rattle.gt_json.specs.Lines.{said, all_said, words, object_line, json_text}
-use Rattle.gt_json.specs.Strings.{Spells, escaped, hex_digit, ends, itself, quote, backslash, number}
+use Rattle.gt_json.specs.Lines.{said, all_said, json_words, object_line, json_text}
+use Rattle.gt_json.specs.Strings.{SpellsString, escaped, hex_digit, ends, itself, quote, backslash, number}
 use Rattle.gt_json.specs.declared.places.Place.{Place}
 use Rattle.gt_json.specs.declared.places.Printed.{Printed}
 
@@ -73,22 +73,22 @@ words_said p [] = refl
 words_said p (w ∷ ws) =
     ap (λ (v : List ℕ). v ∷ all_said (next p w) ws) (word_said p w) ∙ ap (λ (l : List (List ℕ)). w ∷ l) (words_said (next p w) ws)
 
-pub line_said : (p : Place) (line : List ℕ) → join_with_byte 32 (all_said p (words line)) ≡ line
-line_said p line = ap (λ (l : List (List ℕ)). join_with_byte 32 l) (words_said p (words line)) ∙ join_with_byte-slice_split 32 line
+pub line_said : (p : Place) (line : List ℕ) → join_with_byte 32 (all_said p (json_words line)) ≡ line
+line_said p line = ap (λ (l : List (List ℕ)). join_with_byte 32 l) (words_said p (json_words line)) ∙ join_with_byte-slice_split 32 line
 
 -- strings
 
 spells_more : (b : ℕ) (xs text : List ℕ) (quotes slash low : Bool) → (quotes ≡ true → b ≡ 34) → (quotes ≡ false → b ≢ 34)
-    → (slash ≡ true → b ≡ 92) → (slash ≡ false → b ≢ 92) → (low ≡ true → b < 32) → (low ≡ false → 32 ≤ b) → Spells xs text
-    → Spells ((if quotes || slash then 92 ∷ b ∷ [] else (if low then 92 ∷ 117 ∷ 48 ∷ 48 ∷ hex_digit (b / 16) ∷ hex_digit (b % 16) ∷ [] else b ∷ [])) ++ xs) (b ∷ text)
+    → (slash ≡ true → b ≡ 92) → (slash ≡ false → b ≢ 92) → (low ≡ true → b < 32) → (low ≡ false → 32 ≤ b) → SpellsString xs text
+    → SpellsString ((if quotes || slash then 92 ∷ b ∷ [] else (if low then 92 ∷ 117 ∷ 48 ∷ 48 ∷ hex_digit (b / 16) ∷ hex_digit (b % 16) ∷ [] else b ∷ [])) ++ xs) (b ∷ text)
 spells_more b xs text true slash low q n s m l h rest =
-    subst (λ (c : ℕ). Spells (92 ∷ c ∷ xs) (c ∷ text)) (sym (q refl)) (quote xs text rest)
+    subst (λ (c : ℕ). SpellsString (92 ∷ c ∷ xs) (c ∷ text)) (sym (q refl)) (quote xs text rest)
 spells_more b xs text false true low q n s m l h rest =
-    subst (λ (c : ℕ). Spells (92 ∷ c ∷ xs) (c ∷ text)) (sym (s refl)) (backslash xs text rest)
+    subst (λ (c : ℕ). SpellsString (92 ∷ c ∷ xs) (c ∷ text)) (sym (s refl)) (backslash xs text rest)
 spells_more b xs text false false true q n s m l h rest = number b xs text (let k : b < 32 = l refl in omega (arith, k)) rest
 spells_more b xs text false false false q n s m l h rest = itself b xs text (h refl) (n refl) (m refl) rest
 
-pub string_spells : (text : List ℕ) → Spells (flat_map escaped text) text
+pub string_spells : (text : List ℕ) → SpellsString (flat_map escaped text) text
 string_spells [] = ends
 string_spells (b ∷ bs) =
     spells_more b (flat_map escaped bs) bs (b == 34) (b == 92) (nat_lt b 32)

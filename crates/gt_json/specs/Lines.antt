@@ -37,12 +37,12 @@ pieces p [] = []
 pieces p (w ∷ ws) = piece p w ++ pieces (next p w) ws
 
 -- the words of a line, parted by one blank each (own)
-abbrev pub words : List ℕ → List (List ℕ)
-words line = slice_split (λ b. b == 32) line
+abbrev pub json_words : List ℕ → List (List ℕ)
+json_words line = slice_split (λ b. b == 32) line
 
 -- a line as an object on a line of its own: nothing of an empty line (JSON Lines)
 unfoldable pub object_line : Printed → List ℕ → List ℕ
-object_line printed line = if length line == 0 then [] else pieces (start printed) (words line) ++ codes "}\n"
+object_line printed line = if length line == 0 then [] else pieces (start printed) (json_words line) ++ codes "}\n"
 
 -- a text as objects, one for each of its lines (JSON Lines)
 abbrev pub json_text : Printed → List ℕ → List ℕ

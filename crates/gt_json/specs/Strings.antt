@@ -21,13 +21,14 @@ quoted text = codes "\"" ++ flat_map escaped text ++ codes "\""
 -- What is between the quotes of a string spells a text: a byte from 32 on stands for itself, if it is no quote and
 -- no backslash; a backslash before a quote or a backslash stands for that, and one before `u00` and two
 -- hexadecimal digits for the byte of that number (RFC 8259, section 7)
-pub data Spells : List ℕ → List ℕ → Type 0 where
-  ends : Spells [] []
-  itself : (b : ℕ) (xs text : List ℕ) → 32 ≤ b → b ≢ 34 → b ≢ 92 → Spells xs text → Spells (b ∷ xs) (b ∷ text)
-  quote : (xs text : List ℕ) → Spells xs text → Spells (92 ∷ 34 ∷ xs) (34 ∷ text)
-  backslash : (xs text : List ℕ) → Spells xs text → Spells (92 ∷ 92 ∷ xs) (92 ∷ text)
-  number : (b : ℕ) (xs text : List ℕ) → b < 256 → Spells xs text
-      → Spells (92 ∷ 117 ∷ 48 ∷ 48 ∷ hex_digit (b / 16) ∷ hex_digit (b % 16) ∷ xs) (b ∷ text)
+pub data SpellsString : List ℕ → List ℕ → Type 0 where
+  ends : SpellsString [] []
+  itself : (b : ℕ) (xs text : List ℕ) → 32 ≤ b → b ≢ 34 → b ≢ 92 → SpellsString xs text
+    → SpellsString (b ∷ xs) (b ∷ text)
+  quote : (xs text : List ℕ) → SpellsString xs text → SpellsString (92 ∷ 34 ∷ xs) (34 ∷ text)
+  backslash : (xs text : List ℕ) → SpellsString xs text → SpellsString (92 ∷ 92 ∷ xs) (92 ∷ text)
+  number : (b : ℕ) (xs text : List ℕ) → b < 256 → SpellsString xs text
+      → SpellsString (92 ∷ 117 ∷ 48 ∷ 48 ∷ hex_digit (b / 16) ∷ hex_digit (b % 16) ∷ xs) (b ∷ text)
 
 -- a word as a value: a number where it is one and is not hexadecimal, null for `-`, and else a string (own)
 abbrev pub value_text : Bool → List ℕ → List ℕ

@@ -1,19 +1,19 @@
 //! That the JSON of a text tells what the text does.
 ghost use Rattle.std.specs.Prelude.{◌≡◌, ◌<◌, ℕ, List, All};
 ghost use Rattle.std.specs.List.{flat_map, join_with_byte};
-ghost use Rattle.gt_json.specs.Lines.{all_said, words};
+ghost use Rattle.gt_json.specs.Lines.{all_said, json_words};
 ghost use Rattle.gt_json.specs.Places.{start};
-ghost use Rattle.gt_json.specs.Strings.{Spells, escaped};
+ghost use Rattle.gt_json.specs.Strings.{SpellsString, escaped};
 ghost use Rattle.gt_json.specs.declared.places.Printed.{Printed};
 
 /// A law: a line is what its members say, parted by blanks. So nothing is lost and nothing added: two lines with the
 /// same members are the same.
 pub fn every_line_is_told()
     ensures { (printed : Printed) (line : List ℕ) →
-        join_with_byte 32 (all_said (start printed) (words line)) ≡ line }
+        join_with_byte 32 (all_said (start printed) (json_words line)) ≡ line }
 {}
 
 /// A law: what stands between the quotes of a string spells its text, by the rules of JSON, for bytes of any value.
 pub fn every_string_spells_its_text()
-    ensures { (text : List ℕ) → Spells (flat_map escaped text) text }
+    ensures { (text : List ℕ) → SpellsString (flat_map escaped text) text }
 {}

@@ -3,7 +3,7 @@ ghost use Rattle.std.specs.Prelude.{◌≡◌, ◌==◌, ◌++◌, IfOk, OnOk, O
 ghost use Rattle.std.specs.Io.KnownBytes.{Appends};
 ghost use Rattle.std.specs.List.{slice_split, flat_map};
 ghost use Rattle.gt_streams.specs.Streams.{AppendsBeginning};
-ghost use Rattle.gt_json.specs.Lines.{pieces, words, object_line, json_text};
+ghost use Rattle.gt_json.specs.Lines.{pieces, json_words, object_line, json_text};
 ghost use Rattle.gt_json.specs.Places.{start};
 
 use crate::fault::JsonFault;
@@ -15,7 +15,7 @@ use std::io::Write;
 
 // The words of a line.
 fn words_of<'l>(alloc: Global, line: &'l [u8]) -> Result<Vec<&'l [u8]>, AllocError>
-    ensures { IfOk result (λ v. map (λ word. word.now) v.items ≡ words line.entry.now) }
+    ensures { IfOk result (λ v. map (λ word. word.now) v.items ≡ json_words line.entry.now) }
 {
     line.split(|byte| *byte == b' ').collect(alloc)
 }
@@ -29,7 +29,7 @@ fn lines_of<'t>(alloc: Global, text: &'t [u8]) -> Result<Vec<&'t [u8]>, AllocErr
 
 // Appends the members of words.
 fn push_pieces(out: &mut Vec<u8>, printed: Printed, words: &[&[u8]]) -> Result<(), AllocError>
-    ensures { OnOk result (out.new.items ≡ out.old.items ++ pieces (start printed) (map (λ w. w.now) words.now)) }
+    ensures { OnOk result (out.new.items ≡ out.old.items ++ pieces (start printed) (map (λ w. w.now) json_words.now)) }
 {
     let mut place = printed.start();
     'words: for word in words {

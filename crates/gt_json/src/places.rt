@@ -1,6 +1,7 @@
 //! What each word of a line is, by its place.
 ghost use Rattle.std.specs.Prelude.{◌≡◌};
-ghost use Rattle.gt_json.specs.Places.{start, after_line, after_kind, after_call, next_told, next, name_at, is_start, is_mark};
+ghost use Rattle.gt_json.specs.Places.{start, after_line, after_kind, after_call, next_told, next, name_at, is_start};
+ghost use Rattle.gt_json.specs.Places.{is_mark};
 
 use crate::words::{is, is_rule};
 

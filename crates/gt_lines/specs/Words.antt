@@ -7,8 +7,8 @@ abbrev pub uncommented : List ℕ → List ℕ
 uncommented line = before_first (λ b. b == 35) line
 
 -- a space or a tab
-abbrev pub is_blank : ℕ → Bool
-is_blank b = (b == 32) || (b == 9)
+abbrev pub is_space : ℕ → Bool
+is_space b = (b == 32) || (b == 9)
 
 -- a word has a byte
 abbrev pub is_nonempty : List ℕ → Bool
@@ -16,4 +16,4 @@ is_nonempty word = not (length word == 0)
 
 -- the words of a line: what is between its blanks, up to its comment
 abbrev pub words : List ℕ → List (List ℕ)
-words line = filter is_nonempty (slice_split is_blank (uncommented line))
+words line = filter is_nonempty (slice_split is_space (uncommented line))

@@ -1,7 +1,7 @@
 //! Lines and words.
 ghost use Rattle.std.specs.Prelude.{◌≡◌, IfOk, map};
 ghost use Rattle.std.specs.Str.Lines.{lines as lines_in};
-ghost use Rattle.gt_lines.specs.Words.{words as words_in, uncommented as without_comment, is_blank as blank};
+ghost use Rattle.gt_lines.specs.Words.{words as words_in, uncommented as without_comment, is_space as blank};
 ghost use Rattle.gt_lines.specs.Words.{is_nonempty as nonempty};
 
 use std::alloc::{AllocError, Global};

@@ -19,16 +19,16 @@ use Rattle.gt_streams.specs.declared.fault.ReadFault.{ReadFault}
 use Rattle.gt_streams.specs.declared.fault.ReadFault.TheVariants as reads
 use Rattle.gt_listing.specs.declared.fault.ListingFault.{ListingFault}
 use Rattle.gt_listing.specs.declared.fault.ListingFault.TheVariants as faults
-use Rattle.gt_listing.specs.Faults.{fault_of, read_fault}
+use Rattle.gt_listing.specs.Faults.{listing_fault_of, listing_read_fault}
 use Rattle.gt_listing.specs.Reading.{IsNoText}
 use Rattle.gt_streams.specs.Laws.{keeps_same, of_any_input}
 use Rattle.gt_streams.specs.Streams.{AppendsBeginning, OfInput}
-use Rattle.gt_listing.specs.Writing.{IsListing, Listed, Parsed, Writes, text_with}
+use Rattle.gt_listing.specs.Writing.{IsListing, Listed, Parsed, WritesRules, text_with}
 use Rattle.gt_listing.specs.Listing.{listing}
 
 -- the lines went out, or a beginning of them
 pub writes : (p : KeptPolicy) (may : ℕ → ℕ → Perms → Bool) (ids : List TypeId) (old new : Option (List ℕ)) (r : Result (Unit {0}) ListingFault) → may ≡ may_of p → AreByName p.types ids → OnOk r (Appends old new (listing p.types may ids))
-    → OnErr r (AppendsBeginning old new (listing p.types may ids)) → IfErr r (λ e. (e ≡ faults.Memory) ⊎ (e ≡ faults.Write)) → Writes p old new r
+    → OnErr r (AppendsBeginning old new (listing p.types may ids)) → IfErr r (λ e. (e ≡ faults.Memory) ⊎ (e ≡ faults.Write)) → WritesRules p old new r
 writes p may ids old new (Ok done) same named whole begun few = (ids, named, subst (λ (f : ℕ → ℕ → Perms → Bool). Appends old new (listing p.types f ids)) same whole)
 writes p may ids old new (Err faults.Write) same named whole begun few = (ids, named, subst (λ (f : ℕ → ℕ → Perms → Bool). AppendsBeginning old new (listing p.types f ids)) same begun)
 writes p may ids old new (Err faults.Memory) same named whole begun few = inr (ids, named, subst (λ (f : ℕ → ℕ → Perms → Bool). AppendsBeginning old new (listing p.types f ids)) same begun)
@@ -37,15 +37,15 @@ writes p may ids old new (Err (faults.Utf8 line)) same named whole begun few = e
 writes p may ids old new (Err (faults.Policy shown)) same named whole begun few = elim few [ inl e ↦ cc | inr e ↦ cc ]
 
 -- memory ran out before a line
-pub writes_nothing : (p : KeptPolicy) (old : Option (List ℕ)) (fault : ListingFault) → fault ≡ faults.Memory → Writes p old old (Err fault)
-writes_nothing p old fault is = subst (λ (f : ListingFault). Writes p old old (Err f)) (sym is) (inl (keeps_same old))
+pub writes_nothing : (p : KeptPolicy) (old : Option (List ℕ)) (fault : ListingFault) → fault ≡ faults.Memory → WritesRules p old old (Err fault)
+writes_nothing p old fault is = subst (λ (f : ListingFault). WritesRules p old old (Err f)) (sym is) (inl (keeps_same old))
 
 -- the text of what is kept is that of the meaning
 is_listing : (p : KeptPolicy) (m : Meaning) (ids : List TypeId) → Shows p m → AreByName p.types ids → IsListing m (text_with p ids)
 is_listing p m ids shows named =
     (ids, subst (λ (l : List (List ℕ)). AreByName l ids) (ap (λ (a : Allowed). a.types) shows) named, ap (λ (a : Allowed). listing a.types a.may ids) shows)
 
-pub parsed : (p : KeptPolicy) (m : Meaning) (text : List ℕ) (old new : Option (List ℕ)) (r : Result (Unit {0}) ListingFault) → Says text (Ok m) → Shows p m → Writes p old new r → Parsed text old new r
+pub parsed : (p : KeptPolicy) (m : Meaning) (text : List ℕ) (old new : Option (List ℕ)) (r : Result (Unit {0}) ListingFault) → Says text (Ok m) → Shows p m → WritesRules p old new r → Parsed text old new r
 parsed p m text old new (Ok done) says shows w = (m, says, (text_with p w.0, is_listing p m w.0 shows w.1, w.2))
 parsed p m text old new (Err faults.Write) says shows w = (m, says, (text_with p w.0, is_listing p m w.0 shows w.1, w.2))
 parsed p m text old new (Err faults.Memory) says shows (inl kept) = inl kept
@@ -55,7 +55,7 @@ parsed p m text old new (Err (faults.Utf8 line)) says shows w = absurd w
 parsed p m text old new (Err (faults.Policy shown)) says shows w = absurd w
 
 -- the text is no policy
-refused : (line : ℕ) (kind : PolicyFaultKind) (text : List ℕ) (old : Option (List ℕ)) → ((f : policy.TokenFault) → fault_shown (record { line = line; kind = kind }) ≡ Some f → Says text (Err f)) → Parsed text old old (Err (fault_of line kind))
+refused : (line : ℕ) (kind : PolicyFaultKind) (text : List ℕ) (old : Option (List ℕ)) → ((f : policy.TokenFault) → fault_shown (record { line = line; kind = kind }) ≡ Some f → Says text (Err f)) → Parsed text old old (Err (listing_fault_of line kind))
 refused line kinds.Memory text old says = inl (keeps_same old)
 refused line kinds.Syntax text old says = (_, refl, says _ refl, keeps_same old)
 refused line (kinds.Unknown name) text old says = (_, refl, says _ refl, keeps_same old)
@@ -64,7 +64,7 @@ refused line (kinds.Permission name) text old says = (_, refl, says _ refl, keep
 refused line (kinds.Outside word) text old says = (_, refl, says _ refl, keeps_same old)
 refused line kinds.Limit text old says = (_, refl, says _ refl, keeps_same old)
 
-pub parsed_no : (line : ℕ) (kind : PolicyFaultKind) (fault : ListingFault) (text : List ℕ) (old : Option (List ℕ)) → fault ≡ fault_of line kind
+pub parsed_no : (line : ℕ) (kind : PolicyFaultKind) (fault : ListingFault) (text : List ℕ) (old : Option (List ℕ)) → fault ≡ listing_fault_of line kind
     → ((f : policy.TokenFault) → fault_shown (record { line = line; kind = kind }) ≡ Some f → Says text (Err f)) → Parsed text old old (Err fault)
 parsed_no line kind fault text old is says = subst (λ (f : ListingFault). Parsed text old old (Err f)) (sym is) (refused line kind text old says)
 
@@ -101,10 +101,10 @@ listed_no all bytes faults.Read old read h = absurd h
 listed_no all bytes faults.Write old read h = absurd h
 
 -- nothing could be read
-unread : (all : List ℕ) (old : Option (List ℕ)) (error : ReadFault) → Listed all old old (Err (read_fault error))
+unread : (all : List ℕ) (old : Option (List ℕ)) (error : ReadFault) → Listed all old old (Err (listing_read_fault error))
 unread all old reads.Memory = inl (keeps_same old)
 unread all old reads.Read = keeps_same old
 
-pub listed_unread : (known old : Option (List ℕ)) (error : ReadFault) (fault : ListingFault) → fault ≡ read_fault error → OfInput known (λ input. Listed input old old (Err fault))
+pub listed_unread : (known old : Option (List ℕ)) (error : ReadFault) (fault : ListingFault) → fault ≡ listing_read_fault error → OfInput known (λ input. Listed input old old (Err fault))
 listed_unread known old error fault is =
     of_any_input known (λ (input : List ℕ). Listed input old old (Err fault)) (λ (input : List ℕ). subst (λ (f : ListingFault). Listed input old old (Err f)) (sym is) (unread input old error))

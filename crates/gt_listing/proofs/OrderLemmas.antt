@@ -17,10 +17,10 @@ use Rattle.std.proofs.lemmas.Map.Text.{is_eq-slice_cmp}
 use Rattle.gt_types.specs.declared.TypeId.{TypeId}
 use Rattle.gt_policy.specs.Accepting.{IsWritten, meant_by}
 use Rattle.gt_policy.specs.Allowing.{Meaning, is_allowed}
-use Rattle.gt_policy.specs.Listing.{AreByName, name_of}
-use Rattle.gt_policy.specs.Spelling.{AreDistinct, declared_in, names_of, types_in}
+use Rattle.gt_policy.specs.Listing.{AreByName, type_name_of}
+use Rattle.gt_policy.specs.Spelling.{AreDistinct, declared_in, declared_names, types_in}
 use Rattle.gt_policy.specs.Names.{Names}
-use Rattle.gt_policy.specs.Resolving.{resolved, nothing_given}
+use Rattle.gt_policy.specs.Resolving.{resolved_draft, nothing_given}
 use Rattle.gt_policy.specs.Whole.{meaning_of}
 use Rattle.gt_policy.specs.declared.fault.TokenFault.{TokenFault}
 use Rattle.gt_policy.specs.declared.resolve.Draft.{Draft}
@@ -141,18 +141,18 @@ range_apart e a (suc n) f =
 -- the order of types by name
 
 abbrev by_name : List (List ℕ) → ℕ → ℕ → Ordering
-by_name types i j = slice_cmp nat_cmp (name_of types i) (name_of types j)
+by_name types i j = slice_cmp nat_cmp (type_name_of types i) (type_name_of types j)
 
 by_name_total : (types : List (List ℕ)) → IsTotalOrder (by_name types)
 by_name_total types = record {
-  antisymm = λ x y. nat_list_cmp_total.antisymm (name_of types x) (name_of types y);
-  trans = λ x y z. nat_list_cmp_total.trans (name_of types x) (name_of types y) (name_of types z);
-  congr = λ x y z. nat_list_cmp_total.congr (name_of types x) (name_of types y) (name_of types z);
+  antisymm = λ x y. nat_list_cmp_total.antisymm (type_name_of types x) (type_name_of types y);
+  trans = λ x y z. nat_list_cmp_total.trans (type_name_of types x) (type_name_of types y) (type_name_of types z);
+  congr = λ x y z. nat_list_cmp_total.congr (type_name_of types x) (type_name_of types y) (type_name_of types z);
 }
 
 types_apart : (types : List (List ℕ)) → AreDistinct types → IsDistinct (λ a b. is_eq (by_name types a b)) (range_with_len 0 (length types))
 types_apart types distinct =
-    range_apart (λ a b. is_eq (by_name types a b)) 0 (length types) (λ i j p q r. is_eq-slice_cmp (name_of types i) (name_of types j) ∙ names_apart types i j distinct q (omega arith))
+    range_apart (λ a b. is_eq (by_name types a b)) 0 (length types) (λ i j p q r. is_eq-slice_cmp (type_name_of types i) (type_name_of types j) ∙ names_apart types i j distinct q (omega arith))
 
 sorted_numbers : (types : List (List ℕ)) (ids : List TypeId) → IsSortedBy (λ a b. is_lt (by_name types a.0 b.0)) ids → IsSortedBy (λ a b. is_lt (by_name types a b)) (map (λ id. id.0) ids)
 sorted_numbers types [] up = λ k d low high. absurd (omega arith)
@@ -199,5 +199,5 @@ types_meant names (Err f) m e = cc
 
 pub one_order : (m : Meaning) (one other : List ℕ) (ss : List Statement) {text : List ℕ} → IsWritten text ss → meant_by ss ≡ Ok m → IsListing m one → IsListing m other → one ≡ other
 one_order m one other ss written means (these, a, is) (those, b, also) =
-    let distinct : AreDistinct m.types = subst AreDistinct (types_meant (names_of ss) (resolved (names_of ss) nothing_given ss) m means) (distinct_types ss written.clean.distinct) in
+    let distinct : AreDistinct m.types = subst AreDistinct (types_meant (declared_names ss) (resolved_draft (declared_names ss) nothing_given ss) m means) (distinct_types ss written.clean.distinct) in
     is ∙ ap (λ (ids : List TypeId). listing m.types (is_allowed m) ids) (one_by_name m.types these those distinct a b) ∙ sym also

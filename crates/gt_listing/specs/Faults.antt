@@ -10,19 +10,19 @@ use Rattle.gt_listing.specs.declared.fault.ListingFault.{ListingFault}
 use Rattle.gt_listing.specs.declared.fault.ListingFault.TheVariants as faults
 
 -- what ends a listing that has no policy
-abbrev pub fault_of : ℕ → PolicyFaultKind → ListingFault
-fault_of line kinds.Memory = faults.Memory
-fault_of line kinds.Syntax = faults.Policy (record { line = line; kind = kinds.Syntax })
-fault_of line (kinds.Unknown name) = faults.Policy (record { line = line; kind = kinds.Unknown name })
-fault_of line (kinds.Twice name) = faults.Policy (record { line = line; kind = kinds.Twice name })
-fault_of line (kinds.Permission name) = faults.Policy (record { line = line; kind = kinds.Permission name })
-fault_of line (kinds.Outside word) = faults.Policy (record { line = line; kind = kinds.Outside word })
-fault_of line kinds.Limit = faults.Policy (record { line = line; kind = kinds.Limit })
+abbrev pub listing_fault_of : ℕ → PolicyFaultKind → ListingFault
+listing_fault_of line kinds.Memory = faults.Memory
+listing_fault_of line kinds.Syntax = faults.Policy (record { line = line; kind = kinds.Syntax })
+listing_fault_of line (kinds.Unknown name) = faults.Policy (record { line = line; kind = kinds.Unknown name })
+listing_fault_of line (kinds.Twice name) = faults.Policy (record { line = line; kind = kinds.Twice name })
+listing_fault_of line (kinds.Permission name) = faults.Policy (record { line = line; kind = kinds.Permission name })
+listing_fault_of line (kinds.Outside word) = faults.Policy (record { line = line; kind = kinds.Outside word })
+listing_fault_of line kinds.Limit = faults.Policy (record { line = line; kind = kinds.Limit })
 
 -- what ends a listing that has no text
-abbrev pub read_fault : ReadFault → ListingFault
-read_fault reads.Memory = faults.Memory
-read_fault reads.Read = faults.Read
+abbrev pub listing_read_fault : ReadFault → ListingFault
+listing_read_fault reads.Memory = faults.Memory
+listing_read_fault reads.Read = faults.Read
 
 -- what ends a listing, as one line: a fault of the text with its line, or a word
 abbrev pub listing_fault_text : ListingFault → List ℕ

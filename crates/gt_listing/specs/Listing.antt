@@ -4,15 +4,15 @@ use Rattle.gt_types.specs.Names as names
 use Rattle.gt_types.specs.declared.TypeId.{TypeId}
 use Rattle.gt_types.specs.declared.perms.Perms.{Perms}
 use Rattle.gt_types.specs.declared.rights.Triple.{Triple}
-use Rattle.gt_policy.specs.Listing.{name_of}
+use Rattle.gt_policy.specs.Listing.{type_name_of}
 
 -- `SOURCE TARGET PERMISSION`
 abbrev pub triple_line : List ℕ → List ℕ → Perms → List ℕ
 triple_line source target perm = source ++ codes " " ++ target ++ codes " " ++ names.permission_name perm ++ codes "\n"
 
 -- the line of a triple, by the names of its types
-abbrev pub line_of : List (List ℕ) → Triple → List ℕ
-line_of types x = triple_line (name_of types x.source.0) (name_of types x.target.0) x.perm
+abbrev pub line_of_triple : List (List ℕ) → Triple → List ℕ
+line_of_triple types x = triple_line (type_name_of types x.source.0) (type_name_of types x.target.0) x.perm
 
 -- all triples of a source and a target, by permission
 abbrev pub pair_triples : TypeId → TypeId → List Triple
@@ -29,4 +29,4 @@ is_one may x = may x.source.0 x.target.0 x.perm
 
 -- the lines of those triples of these types that may be, in their order
 abbrev pub listing : List (List ℕ) → (ℕ → ℕ → Perms → Bool) → List TypeId → List ℕ
-listing types may ids = flat_map (line_of types) (filter (is_one may) (triples_of ids))
+listing types may ids = flat_map (line_of_triple types) (filter (is_one may) (triples_of ids))

@@ -17,8 +17,8 @@ abbrev pub IsPolicy : List ℕ → Meaning → Type 0
 IsPolicy bytes m = IsUtf8 bytes × Says bytes (Ok m)
 
 -- the bytes are not too many, and no UTF-8, from a byte of this line on
-abbrev pub IsBadAt : List ℕ → ℕ → Type 0
-IsBadAt bytes line = (length bytes ≤ LONGEST_TEXT) × texts.IsBadAt bytes line
+abbrev pub IsNotUtf8At : List ℕ → ℕ → Type 0
+IsNotUtf8At bytes line = (length bytes ≤ LONGEST_TEXT) × texts.IsBadAt bytes line
 
 -- the first fault of the bytes is one of a policy: they are too many, or a text that has it
 abbrev pub IsFaulty : List ℕ → policy.TokenFault → Type 0
@@ -26,7 +26,7 @@ IsFaulty bytes f = ((LONGEST_TEXT < length bytes) ⊎ IsUtf8 bytes) × Says byte
 
 -- the bytes are too many, or no UTF-8, and this is their fault
 abbrev pub IsNoText : List ℕ → ListingFault → Type 0
-IsNoText bytes (Utf8 line) = IsBadAt bytes line
+IsNoText bytes (Utf8 line) = IsNotUtf8At bytes line
 IsNoText bytes (Policy shown) = (LONGEST_TEXT < length bytes) × (fault_shown shown ≡ Some (at 1 Limit))
 IsNoText bytes Memory = ⊥
 IsNoText bytes Read = ⊥

@@ -10,7 +10,7 @@ use Rattle.gt_policy.specs.declared.fault.TokenFault as policy
 use Rattle.gt_listing.specs.declared.fault.ListingFault.{ListingFault}
 use Rattle.gt_listing.specs.declared.fault.ListingFault.TheVariants.{Utf8, Policy, Memory, Read, Write}
 use Rattle.gt_listing.specs.Listing.{listing}
-use Rattle.gt_listing.specs.Reading.{IsPolicy, IsBadAt, IsFaulty}
+use Rattle.gt_listing.specs.Reading.{IsPolicy, IsNotUtf8At, IsFaulty}
 use Rattle.gt_streams.specs.Streams.{AppendsBeginning}
 
 -- the text of a policy: the lines of the triples that it allows, of its types in the byte order of their names
@@ -31,7 +31,7 @@ BeginsListing m old new = (text : List ℕ) × IsListing m text × AppendsBeginn
 -- beginning of that text; if memory is refused that or nothing
 abbrev pub Listed : List ℕ → Option (List ℕ) → Option (List ℕ) → Result (Unit {0}) ListingFault → Type 0
 Listed bytes old new (Ok done) = (m : Meaning) × IsPolicy bytes m × WritesListing m old new
-Listed bytes old new (Err (Utf8 line)) = IsBadAt bytes line × Keeps old new
+Listed bytes old new (Err (Utf8 line)) = IsNotUtf8At bytes line × Keeps old new
 Listed bytes old new (Err (Policy shown)) =
     (f : policy.TokenFault) × (fault_shown shown ≡ Some f) × IsFaulty bytes f × Keeps old new
 Listed bytes old new (Err Write) = (m : Meaning) × IsPolicy bytes m × BeginsListing m old new
@@ -54,11 +54,12 @@ text_with p ids = listing p.types (may_of p) ids
 
 -- what went out of that text: at Ok all of it; after a failed write a
 -- beginning; if memory is refused that or nothing
-abbrev pub Writes : KeptPolicy → Option (List ℕ) → Option (List ℕ) → Result (Unit {0}) ListingFault → Type 0
-Writes p old new (Ok done) = (ids : List TypeId) × AreByName p.types ids × Appends old new (text_with p ids)
-Writes p old new (Err Write) = (ids : List TypeId) × AreByName p.types ids × AppendsBeginning old new (text_with p ids)
-Writes p old new (Err Memory) =
+abbrev pub WritesRules : KeptPolicy → Option (List ℕ) → Option (List ℕ) → Result (Unit {0}) ListingFault → Type 0
+WritesRules p old new (Ok done) = (ids : List TypeId) × AreByName p.types ids × Appends old new (text_with p ids)
+WritesRules p old new (Err Write) =
+    (ids : List TypeId) × AreByName p.types ids × AppendsBeginning old new (text_with p ids)
+WritesRules p old new (Err Memory) =
     Keeps old new ⊎ ((ids : List TypeId) × AreByName p.types ids × AppendsBeginning old new (text_with p ids))
-Writes p old new (Err Read) = ⊥
-Writes p old new (Err (Utf8 line)) = ⊥
-Writes p old new (Err (Policy shown)) = ⊥
+WritesRules p old new (Err Read) = ⊥
+WritesRules p old new (Err (Utf8 line)) = ⊥
+WritesRules p old new (Err (Policy shown)) = ⊥

@@ -63,9 +63,9 @@ impl<T: Drop> From<AllocFailed<T>> for ListingFault {
 
 impl From<PolicyFault> for ListingFault {
     ghost use Rattle.std.specs.Prelude.{◌≡◌};
-    ghost use Rattle.gt_listing.specs.Faults.{fault_of};
+    ghost use Rattle.gt_listing.specs.Faults.{listing_fault_of};
 
-    ghost from_gives = { λ error fault. fault ≡ fault_of error.line error.kind };
+    ghost from_gives = { λ error fault. fault ≡ listing_fault_of error.line error.kind };
 
     fn from(error: PolicyFault) -> ListingFault {
         let PolicyFault { line, kind } = error;
@@ -78,9 +78,9 @@ impl From<PolicyFault> for ListingFault {
 
 impl From<ReadFault> for ListingFault {
     ghost use Rattle.std.specs.Prelude.{◌≡◌};
-    ghost use Rattle.gt_listing.specs.Faults.{read_fault};
+    ghost use Rattle.gt_listing.specs.Faults.{listing_read_fault};
 
-    ghost from_gives = { λ error fault. fault ≡ read_fault error };
+    ghost from_gives = { λ error fault. fault ≡ listing_read_fault error };
 
     fn from(error: ReadFault) -> ListingFault {
         match error {

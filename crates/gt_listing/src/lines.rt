@@ -1,7 +1,7 @@
 //! The lines of triples.
 ghost use Rattle.std.specs.Prelude.{◌≡◌, ◌++◌, OnOk};
-ghost use Rattle.gt_policy.specs.Listing.{name_of};
-ghost use Rattle.gt_allow.specs.Looking.{looks};
+ghost use Rattle.gt_policy.specs.Listing.{type_name_of};
+ghost use Rattle.gt_allow.specs.Looking.{looks_up};
 ghost use Rattle.gt_listing.specs.Listing.{triple_line};
 ghost use Rattle.gt_listing.specs.Lines.{triple_text, pair_text};
 
@@ -12,7 +12,7 @@ use gt_types::{Allows, Perms, Triple, TypeId};
 use std::alloc::AllocError;
 
 fn name_at<'p>(policy: &'p Policy, id: TypeId) -> &'p str
-    ensures { result.now ≡ name_of policy.entry.now.types id.0 }
+    ensures { result.now ≡ type_name_of policy.entry.now.types id.0 }
 {
     match policy.name(id) {
         Some(name) => name,
@@ -39,7 +39,7 @@ fn push_triple(
     table: &AllowTable,
     triple: Triple,
 ) -> Result<(), AllocError>
-    ensures { OnOk result (out.new.items ≡ out.old.items ++ triple_text policy.now.types (looks table.now) triple) }
+    ensures { OnOk result (out.new.items ≡ out.old.items ++ triple_text policy.now.types (looks_up table.now) triple) }
 {
     if table.allows(triple.source, triple.target, triple.perm) {
         push_line(
@@ -62,7 +62,7 @@ pub fn push_pair(
     target: TypeId,
 ) -> Result<(), AllocError>
     ensures { OnOk result (out.new.items ≡ out.old.items
-        ++ pair_text policy.now.types (looks table.now) source target) }
+        ++ pair_text policy.now.types (looks_up table.now) source target) }
 {
     'permissions: for perm in Perms::EVERY {
         let triple = Triple {

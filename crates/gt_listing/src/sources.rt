@@ -1,11 +1,11 @@
 //! The lines of all triples, source by source.
 ghost use Rattle.std.specs.Prelude.{◌≡◌, ◌++◌, ◌⊎◌, ◌<◌, length, OnOk, OnErr, IfErr};
 ghost use Rattle.std.specs.Io.KnownBytes.{Appends};
-ghost use Rattle.gt_allow.specs.Looking.{looks};
+ghost use Rattle.gt_allow.specs.Looking.{looks_up};
 ghost use Rattle.gt_listing.specs.Lines.{source_text};
 ghost use Rattle.gt_listing.specs.Listing.{listing};
 ghost use Rattle.gt_streams.specs.Streams.{AppendsBeginning, Sends};
-ghost use Rattle.gt_listing.specs.Writing.{Writes};
+ghost use Rattle.gt_listing.specs.Writing.{WritesRules};
 ghost use Rattle.gt_listing.specs.declared.fault.ListingFault.TheVariants as faults;
 
 use crate::fault::ListingFault;
@@ -28,10 +28,10 @@ fn write_source<W: Write>(
 ) -> Result<(), ListingFault>
     requires { length waiting.old.items < CHUNK }
     ensures ok { OnOk result (Sends (W.contents writer.old) (W.contents writer.new)
-        (waiting.old.items ++ source_text policy.now.types (looks table.now) ids.now source) waiting.new.items) }
+        (waiting.old.items ++ source_text policy.now.types (looks_up table.now) ids.now source) waiting.new.items) }
     ensures few { OnOk result (length waiting.new.items < CHUNK) }
     ensures err { OnErr result (AppendsBeginning (W.contents writer.old) (W.contents writer.new)
-        (waiting.old.items ++ source_text policy.now.types (looks table.now) ids.now source)) }
+        (waiting.old.items ++ source_text policy.now.types (looks_up table.now) ids.now source)) }
     ensures errors { IfErr result (λ e. (e ≡ faults.Memory) ⊎ (e ≡ faults.Write)) }
 {
     'targets: for target in ids {
@@ -50,9 +50,9 @@ fn write_sources<W: Write>(
     writer: &mut W,
 ) -> Result<(), ListingFault>
     ensures whole { OnOk result (Appends (W.contents writer.old) (W.contents writer.new)
-        (listing policy.now.types (looks table.now) ids.now)) }
+        (listing policy.now.types (looks_up table.now) ids.now)) }
     ensures beginning { OnErr result (AppendsBeginning (W.contents writer.old) (W.contents writer.new)
-        (listing policy.now.types (looks table.now) ids.now)) }
+        (listing policy.now.types (looks_up table.now) ids.now)) }
     ensures errors { IfErr result (λ e. (e ≡ faults.Memory) ⊎ (e ≡ faults.Write)) }
 {
     let mut waiting = Vec::new(alloc);
@@ -69,7 +69,7 @@ pub fn write_policy<W: Write>(
     policy: &Policy,
     writer: &mut W,
 ) -> Result<(), ListingFault>
-    ensures { Writes policy.now (W.contents writer.old) (W.contents writer.new) result }
+    ensures { WritesRules policy.now (W.contents writer.old) (W.contents writer.new) result }
 {
     let Ok(table) = AllowTable::compile(alloc, policy) else {
         return Err(ListingFault::Memory);

@@ -22,7 +22,7 @@ use Rattle.gt_words.specs.Conditions.{SeatOf}
 use Rattle.gt_words.specs.Rule.{Layout}
 use Rattle.gt_words.specs.History.{Moment}
 use Rattle.gt_words.specs.declared.view.View.{View}
-use Rattle.gt_access.specs.Routes.{IsPinnedFor, Serves}
+use Rattle.gt_access.specs.Routes.{IsPinnedFor, ServesAccess}
 use Rattle.gt_calls.specs.declared.action.Seen.TheVariants.{Nothing}
 use Rattle.gt_calls.specs.declared.action.Step.{Step}
 use Rattle.gt_calls.specs.declared.action.Verdict.{Verdict}
@@ -35,8 +35,8 @@ use Rattle.gt_calls.specs.Asking.{asked, begun_of}
 use Rattle.gt_calls.specs.Opening.{opens}
 use Rattle.gt_calls.specs.Path.{Continuation, after_beginning, by_mapping, ended, makes, path_of, steps_of}
 use Rattle.gt_calls.specs.Rules.{CallerKnowledge, begun}
-use Rattle.gt_live.specs.Accesses.{Accessed, AnsweredBy, ComesTo, IsAccess, IsOfAccess, frame_named, onward}
-use Rattle.gt_live.specs.Domains.{IsRefused, AllowRelation, refusal_of}
+use Rattle.gt_live.specs.Accesses.{Accessed, AnsweredAtAccess, ComesTo, IsAccess, IsOfAccess, frame_named, onward}
+use Rattle.gt_live.specs.Domains.{IsRefused, AllowRelation, denial_in}
 use Rattle.gt_live.specs.Ending.{IsAccessing, IsWordless}
 use Rattle.gt_live.specs.Mappings.{IsMappingOf, ReachesItsFrame}
 use Rattle.gt_live.specs.Walks.{Called, CarriesFound}
@@ -68,7 +68,7 @@ serving : (e : Entry) (d : DomId) (dir own : Dir) (off len : ℕ) → (dir ≡ W
 serving e d Read own off len so is = to-read e d own off len is
 serving e d Write own off len so is = subst (λ (x : Dir). permits e d x ForMap off len ≡ true) (so refl) is
 
-pub serves : (p : Held) (dir : Dir) → (dir ≡ Write → p.dir ≡ Write) → Serves dir p
+pub serves : (p : Held) (dir : Dir) → (dir ≡ Write → p.dir ≡ Write) → ServesAccess dir p
 serves p Read so = tt
 serves p Write so = so refl
 
@@ -108,12 +108,12 @@ abbrev pub IsPlainly : Verdict → Type 0
 IsPlainly verdict = (denial : Denial) × (verdict ≡ Refused denial) × IsWordless denial.facts
 
 pub refuses : (c : CallerKnowledge) (caller : DomId) (request : Request) (verdict : Verdict) (denial : Denial)
-    → IsPlainly verdict → begun_of c caller request ≡ Some verdict → denial ≡ refusal_of verdict
+    → IsPlainly verdict → begun_of c caller request ≡ Some verdict → denial ≡ denial_in verdict
     → IsRefused c caller request denial
 refuses c caller request verdict denial is e said =
     let here : IsRefused c caller request is.0 =
     record { answered = e ∙ ap (λ (v : Verdict). Some v) is.1; wordless = is.2 } in
-    let same : denial ≡ is.0 = said ∙ ap (λ (v : Verdict). refusal_of v) is.1 in
+    let same : denial ≡ is.0 = said ∙ ap (λ (v : Verdict). denial_in v) is.1 in
     subst (λ (x : Denial). IsRefused c caller request x) (sym same) here
 
 -- a call that is refused at its beginning
@@ -130,13 +130,13 @@ refused-called k c caller request denial v is = record {
 
 pub refused-first : {R : Type 0} (k : Layout) (c : CallerKnowledge) (caller : DomId) (request : Request)
     (tells : Step → R → Type 0) (denial : Denial) (v : View) → IsRefused c caller request denial
-    → AnsweredBy k (path_of c caller request) tells (Err denial) v v
+    → AnsweredAtAccess k (path_of c caller request) tells (Err denial) v v
 refused-first k c caller request tells denial v is = inl (refused-called k c caller request denial v is)
 
 -- a call with an access that is refused at its beginning, by the verdict there
 pub refused-begun : (k : Layout) (c : CallerKnowledge) (caller : DomId) (request : Request) (verdict : Verdict)
     (denial : Denial) (v : View) → IsAccessing (asked request) → begun_of c caller request ≡ Some verdict
-    → denial ≡ refusal_of verdict → Called k (path_of c caller request) (Refused denial) v v
+    → denial ≡ denial_in verdict → Called k (path_of c caller request) (Refused denial) v v
 refused-begun k c caller request verdict denial v is e said =
     refused-called k c caller request denial v
     (refuses c caller request verdict denial (refused-once c caller request verdict is e) e said)
@@ -144,8 +144,8 @@ refused-begun k c caller request verdict denial v is e said =
 -- the same of a call with an access, by the verdict at its beginning
 pub refused-access : {R : Type 0} (k : Layout) (c : CallerKnowledge) (caller : DomId) (request : Request)
     (tells : Step → R → Type 0) (verdict : Verdict) (denial : Denial) (v : View) → IsAccessing (asked request)
-    → begun_of c caller request ≡ Some verdict → denial ≡ refusal_of verdict
-    → AnsweredBy k (path_of c caller request) tells (Err denial) v v
+    → begun_of c caller request ≡ Some verdict → denial ≡ denial_in verdict
+    → AnsweredAtAccess k (path_of c caller request) tells (Err denial) v v
 refused-access k c caller request tells verdict denial v is e said =
     refused-first k c caller request tells denial v
     (refuses c caller request verdict denial (refused-once c caller request verdict is e) e said)
@@ -158,7 +158,7 @@ whole k way access v is e =
     record { at = v; comes = comes; ends = ends; only = only-access k way access v v v comes ends }
 
 pub one-access : {R : Type 0} (k : Layout) (way : Continuation) (access : Step) (tells : Step → R → Type 0) (result : Result R Denial) (v : View) → IsAccess access → way ≡ makes access (ended Granted)
-    → IfOk result (λ (r : R). tells access r) → IfErr result IsOfAccess → AnsweredBy k way tells result v v
+    → IfOk result (λ (r : R). tells access r) → IfErr result IsOfAccess → AnsweredAtAccess k way tells result v v
 one-access k way access tells (Ok r) v is e ok err = (access, whole k way access v is e, ok)
 one-access k way access tells (Err denial) v is e ok err = inr (access, whole k way access v is e, err)
 

@@ -33,17 +33,18 @@ use Rattle.gt_calls.specs.declared.held.Held.{Held}
 use Rattle.gt_calls.specs.declared.request.Asked.{Asked}
 use Rattle.gt_calls.specs.declared.request.Holder.TheVariants.{Mapping as ByHandle, Leg as ByLeg}
 use Rattle.gt_calls.specs.Counting.{steps_to_come}
-use Rattle.gt_calls.specs.Following.{FitsNext, Goes, HoldsAfter, MakesStep as BeginsSo}
+use Rattle.gt_calls.specs.Following.{FitsNext, Goes, HoldsAfter, IsStepAction as BeginsSo}
 use Rattle.gt_calls.specs.Path.{path}
 use Rattle.gt_calls.specs.Resting.{Rests}
 use Rattle.gt_calls.specs.Rules.{CallerKnowledge}
-use Rattle.gt_calls.specs.Standing.{IsAt, IsFresh, held_by_call, pins_by_call}
+use Rattle.gt_calls.specs.Standing.{IsAt, IsFreshCall, held_by_call, pins_by_call}
 use Rattle.gt_live.specs.declared.driving.Effect.{Effect}
 use Rattle.gt_live.specs.declared.driving.Effect.TheVariants.{Nothing}
 use Rattle.gt_live.specs.Driving.{ActionTells, CanMake, Going, IsSame, Knows, Leaves, StandsSo}
 use Rattle.gt_live.specs.Effects.{Answers, EndsSo, IsFound, IsFoundAt, IsFoundIn, TellsFound, effect_of}
 use Rattle.gt_live.specs.Ending.{IsAnswerTo, WaitsForNobody}
-use Rattle.gt_live.specs.Walks.{Called, CarriesFound, Made, MakesStep, TellsSteps, after, found_by, shown, shown_by}
+use Rattle.gt_live.specs.Walks.{Called, CarriesFound, Made, MakesStep, TellsSteps, view_after, found_by, all_shown}
+use Rattle.gt_live.specs.Walks.{shown_by}
 use Rattle.gt_live.proofs.Can.{can-make, leaves}
 use Rattle.gt_live.proofs.Ends.{path-sound}
 use Rattle.gt_live.proofs.Making.{made-fits, made-gains, same-self}
@@ -164,19 +165,19 @@ pub advance : (c : CallerKnowledge) (k : Layout) (effect : Effect) (v w w' : Vie
     → call'.caller ≡ call.caller → call'.request ≡ call.request → Goes c call x call' action → Going c k (effect_of s x) v w' call' action × (steps_to_come call' < steps_to_come call)
 advance c k effect v w w' call call' action s x knows waits g m callers requests goes =
     let t = call.caller in let r = call.request in
-    let fits : FitsNext (path c t r (shown g.steps)) x = subst (λ (o : Option Action). FitsNext o x) (sym g.goes) (made-fits k s x w w' m) in
-    let on = goes.later (shown g.steps) g.at fits in
-    let here : IsSame v (after g.steps v) = subst (λ (u : View). IsSame v u) g.view g.stands in
-    let m1 : Made k s x (after g.steps v) w' = subst (λ (u : View). Made k s x u w') g.view m in
-    let gain = made-gains k s x (after g.steps v) w' m1 in
-    let view : w' ≡ after (gain.step ∷ g.steps) v = gain.view in
-    let m2 : Made k s (shown_by gain.step) (after g.steps v) (after (gain.step ∷ g.steps) v) =
-    subst (λ (u : View). Made k s (shown_by gain.step) (after g.steps v) u) view (subst (λ (y : Seen). Made k s y (after g.steps v) w') (sym gain.shows) m1) in
-    let made : MakesStep k (path c t r (shown g.steps)) (shown_by gain.step) (after g.steps v) (after (gain.step ∷ g.steps) v) =
-    subst (λ (o : Option Action). MakesStep k o (shown_by gain.step) (after g.steps v) (after (gain.step ∷ g.steps) v)) (sym g.goes) m2 in
-    let ends : EndsSo t s x action = (path-sound t c r waits g.unanswered).ends (shown g.steps) s x action g.goes on.0.follows in
+    let fits : FitsNext (path c t r (all_shown g.steps)) x = subst (λ (o : Option Action). FitsNext o x) (sym g.goes) (made-fits k s x w w' m) in
+    let on = goes.later (all_shown g.steps) g.at fits in
+    let here : IsSame v (view_after g.steps v) = subst (λ (u : View). IsSame v u) g.view g.stands in
+    let m1 : Made k s x (view_after g.steps v) w' = subst (λ (u : View). Made k s x u w') g.view m in
+    let gain = made-gains k s x (view_after g.steps v) w' m1 in
+    let view : w' ≡ view_after (gain.step ∷ g.steps) v = gain.view in
+    let m2 : Made k s (shown_by gain.step) (view_after g.steps v) (view_after (gain.step ∷ g.steps) v) =
+    subst (λ (u : View). Made k s (shown_by gain.step) (view_after g.steps v) u) view (subst (λ (y : Seen). Made k s y (view_after g.steps v) w') (sym gain.shows) m1) in
+    let made : MakesStep k (path c t r (all_shown g.steps)) (shown_by gain.step) (view_after g.steps v) (view_after (gain.step ∷ g.steps) v) =
+    subst (λ (o : Option Action). MakesStep k o (shown_by gain.step) (view_after g.steps v) (view_after (gain.step ∷ g.steps) v)) (sym g.goes) m2 in
+    let ends : EndsSo t s x action = (path-sound t c r waits g.unanswered).ends (all_shown g.steps) s x action g.goes on.0.follows in
     let left : Leaves c k t r v w' (effect_of s x) = leaves c k t v knows r (pins_by_call call) g.steps s x w' waits g.walked here g.held g.rests m1 in
-    let free = free-at-end c t r call' (shown g.steps ++ x ∷ []) action on.0.rests in
+    let free = free-at-end c t r call' (all_shown g.steps ++ x ∷ []) action on.0.rests in
     let none : held_by_call call' ≡ [] = held-none t s x (held_by_call call) (held_by_call call') action g.held (on.1 (Makes s) g.goes) free ends in
     let same = same-call call call' callers requests in
     let going : Going c k (effect_of s x) v w' (record call { phase = call'.phase }) action =
@@ -184,13 +185,13 @@ advance c k effect v w w' call call' action s x knows waits g m callers requests
       steps = gain.step ∷ g.steps;
       view = view;
       walked = (made, g.walked);
-      at = subst (λ (z : Call). IsAt c z (shown g.steps ++ shown_by gain.step ∷ [])) (sym same) (subst (λ (y : Seen). IsAt c call' (shown g.steps ++ y ∷ [])) (sym gain.shows) on.0.at);
-      goes = subst (λ (y : Seen). path c t r (shown g.steps ++ y ∷ []) ≡ Some action) (sym gain.shows) on.0.follows;
-      rests = subst (λ (y : Seen). Rests c t r (pins_by_call call') (shown g.steps ++ y ∷ []) action) (sym gain.shows) on.0.rests;
+      at = subst (λ (z : Call). IsAt c z (all_shown g.steps ++ shown_by gain.step ∷ [])) (sym same) (subst (λ (y : Seen). IsAt c call' (all_shown g.steps ++ y ∷ [])) (sym gain.shows) on.0.at);
+      goes = subst (λ (y : Seen). path c t r (all_shown g.steps ++ y ∷ []) ≡ Some action) (sym gain.shows) on.0.follows;
+      rests = subst (λ (y : Seen). Rests c t r (pins_by_call call') (all_shown g.steps ++ y ∷ []) action) (sym gain.shows) on.0.rests;
       held = none;
       unanswered = g.unanswered;
       stands = stands-so c k t r v w' s x action ends left;
-      carried = carried-so k t v (after g.steps v) w' s x g.steps m1 action here knows.stands ends;
+      carried = carried-so k t v (view_after g.steps v) w' s x g.steps m1 action here knows.stands ends;
     } in
     (subst (λ (z : Call). Going c k (effect_of s x) v w' z action) same going, on.2)
 
@@ -200,7 +201,7 @@ begins-so c k caller request v (Some (Done verdict)) action b e = absurd b
 begins-so c k caller request v (Some (Makes s)) action b e = let same : Makes s ≡ action = cc in subst (λ (a : Action). StandsSo c k caller request v v Nothing a) same (same-self v)
 
 -- a call that was opened goes on from its first action
-pub begins : (c : CallerKnowledge) (k : Layout) (v : View) (call call' : Call) (action : Action) → IsFresh c call → BeginsSo (path c call.caller call.request []) → call'.caller ≡ call.caller → call'.request ≡ call.request → Goes c call Unseen call' action
+pub begins : (c : CallerKnowledge) (k : Layout) (v : View) (call call' : Call) (action : Action) → IsFreshCall c call → BeginsSo (path c call.caller call.request []) → call'.caller ≡ call.caller → call'.request ≡ call.request → Goes c call Unseen call' action
     → Going c k Nothing v v call' action
 begins c k v call call' action fresh makes callers requests goes =
     let on = goes.first fresh in
@@ -229,7 +230,7 @@ pub record Ended (c : CallerKnowledge) (k : Layout) (caller : DomId) (request : 
 pub ends : (c : CallerKnowledge) (k : Layout) (effect : Effect) (v w : View) (call : Call) (verdict : Verdict) (caller : DomId) (request : Asked) → WaitsForNobody call.request → Going c k effect v w call (Done verdict) → call.caller ≡ caller → call.request ≡ request
     → Ended c k caller request effect verdict v w
 ends c k effect v w call verdict caller request waits g callers requests =
-    let answer : IsAnswerTo call.request verdict = (path-sound call.caller c call.request waits g.unanswered).answers (shown g.steps) verdict g.goes in
+    let answer : IsAnswerTo call.request verdict = (path-sound call.caller c call.request waits g.unanswered).answers (all_shown g.steps) verdict g.goes in
     let here : Ended c k call.caller call.request effect verdict v w =
     record { called = record { steps = g.steps; view = g.view; walked = g.walked; moments = walk-moments k (path c call.caller call.request) v g.steps g.walked; answered = g.goes; carried = g.carried }; left = g.stands.0; answers = (g.stands.1, answer) } in
     subst (λ (a : Asked). Ended c k caller a effect verdict v w) requests (subst (λ (d : DomId). Ended c k d call.request effect verdict v w) callers here)

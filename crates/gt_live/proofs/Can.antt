@@ -23,8 +23,9 @@ use Rattle.gt_words.specs.Conditions.{CanTurn, HasDomain, Holds, IsIdleOf, IsWor
 use Rattle.gt_words.specs.Answers.{Changes, Pins}
 use Rattle.gt_words.specs.Controls.{generation_of, pins_in}
 use Rattle.gt_words.specs.Rule.{IsKeptHeader, Layout, id_at, position_in}
-use Rattle.gt_words.specs.Views.{HasBody, is_pin, pins_like, IsIn, LivePin, Seen as Looks, last_of, last_seen, own_body}
-use Rattle.gt_words.specs.Views.{pins, record_seen, seen, seen_or_none, steps_on}
+use Rattle.gt_words.specs.Views.{HasBody, is_pin, pins_like, IsAmong, LivePin, Seen as Looks, last_of, last_seen}
+use Rattle.gt_words.specs.Views.{own_body}
+use Rattle.gt_words.specs.Views.{live_pins, record_seen, seen, seen_or_none, steps_on}
 use Rattle.gt_entry.specs.declared.change.Half.TheVariants.{First as FirstHalf, Second as SecondHalf}
 use Rattle.gt_words.specs.declared.view.EntryRecord.{EntryRecord}
 use Rattle.gt_words.specs.History.{Moment}
@@ -51,17 +52,17 @@ use Rattle.gt_calls.specs.declared.request.Holder.TheVariants.{Mapping as ByHand
 use Rattle.gt_calls.specs.Changes.{raise_of}
 use Rattle.gt_calls.specs.Holding.{last_first}
 use Rattle.gt_calls.specs.Path.{Continuation, idle_word, is_stopped, path}
-use Rattle.gt_calls.specs.Resting.{HasSeenTable, HasStored, IsFor, IsMapped, IsOfMap, IsOfRun as IsNamed, LookedLast}
+use Rattle.gt_calls.specs.Resting.{HasSeenTable, HasStored, IsLegFor, IsMapped, IsOfMap, IsOfRun as IsNamed, LookedLast}
 use Rattle.gt_calls.specs.Resting.{Rests, RestsOnGrant, RestsOnTry}
 use Rattle.gt_calls.specs.Opening.{IsAllowed, OpensGrant, OpensTurn, opens}
-use Rattle.gt_calls.specs.Rules.{CallerKnowledge, begun, frames_of, is_kind, label_of, map_dir, map_perms, triples}
+use Rattle.gt_calls.specs.Rules.{CallerKnowledge, begun, frame_count_of, is_kind, label_of, map_dir, map_perms, triples}
 use Rattle.gt_entry.specs.Entries.{frame_of, is_invalid}
 use Rattle.gt_entry.specs.declared.change.Half.{Half}
 use Rattle.gt_live.specs.Driving.{CanMake, ChangesBy, IsSame, Knows, Leaves, MapsBy}
 use Rattle.gt_live.specs.Effects.{effect_of}
 use Rattle.gt_live.specs.Ending.{IsHeaderChange, IsMap, IsOwnChange, WaitsForNobody}
-use Rattle.gt_live.specs.Mappings.{HasPin, record_of}
-use Rattle.gt_live.specs.Walks.{IsWalk, Made, after, shown}
+use Rattle.gt_live.specs.Mappings.{HasPin, entry_record_of}
+use Rattle.gt_live.specs.Walks.{IsWalk, Made, view_after, all_shown}
 use Rattle.gt_live.proofs.Making.{look-same, same-then}
 use Rattle.gt_live.proofs.Rules.{idle-is, is-there, lets-page, page-seen, page-spelled, room-for}
 use Rattle.gt_live.proofs.Counting.{count-cons, dir-self}
@@ -101,7 +102,7 @@ valid-entry : (e : Entry) → is_invalid e ≡ false → e ≢ Invalid
 valid-entry e f is = let yes = ap is_invalid is in cc
 
 -- a pin that there is counts
-pub in-counted : (d : Dir) (x : EntryRecord) (ps : List LivePin) → IsIn (d, x) ps → 0 < pins_like d x.generation ps
+pub in-counted : (d : Dir) (x : EntryRecord) (ps : List LivePin) → IsAmong (d, x) ps → 0 < pins_like d x.generation ps
 in-counted d x [] there = absurd there
 in-counted d x (p ∷ ps) (inl e) =
     let one = count-cons (is_pin d x.generation) p ps in
@@ -123,10 +124,10 @@ pub record Tried (c : CallerKnowledge) (k : Layout) (caller : DomId) (request : 
   pub word : (last_seen (position_in k.ids p.dom) p.gref.0 w).word ≡ p.word
   pub body : HasBody (last_seen (position_in k.ids p.dom) p.gref.0 w)
   pub page : kind_of p.word ≡ KindPage
-  pub spelled : record_seen (last_seen (position_in k.ids p.dom) p.gref.0 w) ≡ record_of p
+  pub spelled : record_seen (last_seen (position_in k.ids p.dom) p.gref.0 w) ≡ entry_record_of p
   pub few : pins_in p.dir p.word < 4095
   pub permitted : permits p.entry caller p.dir ForMap 0 0 ≡ true
-  pub in_frames : nat_le (frames_of c.domains p.dom) (frame_of p.entry) ≡ false
+  pub in_frames : nat_le (frame_count_of c.domains p.dom) (frame_of p.entry) ≡ false
 
 module _ (c : CallerKnowledge) (k : Layout) (caller : DomId) (v : View) (knows : Knows c k caller v) where
   pub named-run : (d : DomId) → IsNamed c d → HasDomain k d
@@ -138,12 +139,12 @@ module _ (c : CallerKnowledge) (k : Layout) (caller : DomId) (v : View) (knows :
   row : (w : View) → IsSame v w → (q : ℕ) → q < TABLE_ENTRIES → last_of q w ≡ record { generation = c.generation q; entry = c.entry q }
   row w same q lt = same.records q ∙ knows.rows q lt
 
-  tried : (request : Asked) (held : HeldPins) (steps : List Moment) (way : Continuation) (p : Held) → WaitsForNobody request → IsWalk k way v steps → RestsOnTry c caller request held way (shown steps) p → Tried c k caller request p (after steps v)
+  tried : (request : Asked) (held : HeldPins) (steps : List Moment) (way : Continuation) (p : Held) → WaitsForNobody request → IsWalk k way v steps → RestsOnTry c caller request held way (all_shown steps) p → Tried c k caller request p (view_after steps v)
   tried request held steps way p waits walk r = by r.aim r.aimed
     where
-      of-map : IsOfMap c caller request r.leg → Tried c k caller request p (after steps v)
+      of-map : IsOfMap c caller request r.leg → Tried c k caller request p (view_after steps v)
       of-map m =
-          let l = r.leg in let w = after steps v in let at = position_in k.ids p.dom in
+          let l = r.leg in let w = view_after steps v in let at = position_in k.ids p.dom in
           let purpose : l.purpose ≡ ForMap = ap (λ (x : Leg). x.purpose) m.leg_is in
           let page = page-seen l p.word purpose r.first in
           let nosub : is_kind (control_of p.word).kind KindSub ≡ false = ap (λ (x : Kind). is_kind x KindSub) page in
@@ -171,10 +172,10 @@ module _ (c : CallerKnowledge) (k : Layout) (caller : DomId) (v : View) (knows :
             spelled = ap record_seen last ∙ ap (λ (e : Entry). record { generation = generation_of p.word; entry = e }) (page-spelled p.word r.body 0 page ∙ sym spelt);
             few = subst (λ (d : Dir). pins_in d p.word < 4095) (sym dirs) (room-for l p.word p.entry r.last);
             permitted = ap (λ (d : Dir). permits p.entry caller d ForMap 0 0) dirs ∙ (ap (λ (j : DomId). permits p.entry j l.dir ForMap 0 0) (sym judge) ∙ lets.0);
-            in_frames = ap (λ (d : DomId). nat_le (frames_of c.domains d) (frame_of p.entry)) owner ∙ (ap (λ (n : ℕ). nat_le n (frame_of p.entry)) (sym (ap (λ (x : Leg). x.frames) m.leg_is)) ∙ lets.1);
+            in_frames = ap (λ (d : DomId). nat_le (frame_count_of c.domains d) (frame_of p.entry)) owner ∙ (ap (λ (n : ℕ). nat_le n (frame_of p.entry)) (sym (ap (λ (x : Leg). x.frames) m.leg_is)) ∙ lets.1);
           }
 
-      by : (aim : Aim) → IsFor c caller request aim r.leg → Tried c k caller request p (after steps v)
+      by : (aim : Aim) → IsLegFor c caller request aim r.leg → Tried c k caller request p (view_after steps v)
       by Mapping is = of-map is
       by (Source copy via) is = absurd (subst (λ (x : Asked). WaitsForNobody x) is.0 waits)
       by (Dest copy source via) is = absurd (subst (λ (x : Asked). WaitsForNobody x) is.0 waits)
@@ -183,7 +184,7 @@ module _ (c : CallerKnowledge) (k : Layout) (caller : DomId) (v : View) (knows :
   still-held : (w : View) (p : Held) → IsSame v w → HasPin k v p → Holds (position_in k.ids p.dom) p.gref.0 p.dir (generation_of p.word) w
   still-held w p same pin =
       let t = position_in k.ids p.dom in let r = p.gref.0 in
-      in-counted p.dir (record_of p) (pins (steps_on t r w)) (subst (λ (ps : List LivePin). IsIn (p.dir, record_of p) ps) (sym (same.pins t r)) pin.held)
+      in-counted p.dir (entry_record_of p) (live_pins (steps_on t r w)) (subst (λ (ps : List LivePin). IsAmong (p.dir, entry_record_of p) ps) (sym (same.pins t r)) pin.held)
 
   grant-opens : (request : Asked) (q : GrantRef) (e : Entry) → begun c caller request ≡ None → request ≡ asks.Grant q e → OpensGrant c q e
   grant-opens request q e none is = opens c caller (asks.Grant q e) (subst (λ (x : Asked). begun c caller x ≡ None) is none)
@@ -201,7 +202,7 @@ module _ (c : CallerKnowledge) (k : Layout) (caller : DomId) (v : View) (knows :
       by SecondHalf x = here x.0 x.1
 
   -- the body words stored spell the entry
-  stored : (steps : List Moment) (way : Continuation) (q : GrantRef) (e : Entry) → e ≢ Invalid → IsWalk k way v steps → HasStored way q e (shown steps) → IsSpelled e (own_body q.0 FirstHalf (after steps v)) (own_body q.0 SecondHalf (after steps v))
+  stored : (steps : List Moment) (way : Continuation) (q : GrantRef) (e : Entry) → e ≢ Invalid → IsWalk k way v steps → HasStored way q e (all_shown steps) → IsSpelled e (own_body q.0 FirstHalf (view_after steps v)) (own_body q.0 SecondHalf (view_after steps v))
   stored steps way q Invalid ne walk r = absurd (ne refl)
   stored steps way q (Page dom ro frame) ne walk r = (made-last k way v steps [] Nothing (StoreBody q FirstHalf (first_body (Page dom ro frame))) walk r.0 r.1).made.stored
   stored steps way q (Via dom ro dom2 gref) ne walk r = (made-last k way v steps [] Nothing (StoreBody q FirstHalf (first_body (Via dom ro dom2 gref))) walk r.0 r.1).made.stored
@@ -209,17 +210,17 @@ module _ (c : CallerKnowledge) (k : Layout) (caller : DomId) (v : View) (knows :
       let e = Sub dom ro frame off len in
       let two = made-last k way v steps (Nothing ∷ []) Nothing (StoreBody q SecondHalf (second_body e)) walk r.0 r.2 in
       let one = made-last k way v two.rest [] Nothing (StoreBody q FirstHalf (first_body e)) two.walked two.shown_is r.1 in
-      let first : own_body q.0 FirstHalf (after steps v) ≡ own_body q.0 FirstHalf (after two.rest v) = two.made.other_half FirstHalf (λ z. cc) in
+      let first : own_body q.0 FirstHalf (view_after steps v) ≡ own_body q.0 FirstHalf (view_after two.rest v) = two.made.other_half FirstHalf (λ z. cc) in
       (first ∙ one.made.stored, two.made.stored)
 
   -- an owner's exchange that is tried once
   once : (w : View) → IsSame v w → (q : GrantRef) → q.0 < TABLE_ENTRIES → IsIdleOf (last_of q.0 w) (idle_word c q)
   once w same q lt = idle-is (c.entry q.0) (c.generation q.0) ∙ ap (λ (y : EntryRecord). idle_word_of y.entry y.generation) (sym (row w same q.0 lt))
 
-  can-publish : (request : Asked) (steps : List Moment) (way : Continuation) (q : GrantRef) (looked : ℕ) (e : Entry) → IsWalk k way v steps → IsSame v (after steps v) → begun c caller request ≡ None
-      → (request ≡ asks.Grant q e) × (looked ≡ idle_word c q) × HasStored way q e (shown steps) → CanMake k (after steps v) (Exchange q looked (Publish e))
+  can-publish : (request : Asked) (steps : List Moment) (way : Continuation) (q : GrantRef) (looked : ℕ) (e : Entry) → IsWalk k way v steps → IsSame v (view_after steps v) → begun c caller request ≡ None
+      → (request ≡ asks.Grant q e) × (looked ≡ idle_word c q) × HasStored way q e (all_shown steps) → CanMake k (view_after steps v) (Exchange q looked (Publish e))
   can-publish request steps way q looked e walk same none r =
-      let w = after steps v in
+      let w = view_after steps v in
       let o = grant-opens request q e none r.0 in let lt = in-own q.0 o.in_table in let here = row w same q.0 lt in
       let few = knows.generations q.0 lt in let worn = o.not_worn in (
         lt,
@@ -242,20 +243,20 @@ module _ (c : CallerKnowledge) (k : Layout) (caller : DomId) (v : View) (knows :
       (lt, record { idle = r.1 ∙ once w same q lt; some = own-valid w q same lt o.valid })
 
   -- the word of the caller's own entry that it looked at last
-  own-look : (steps : List Moment) (way : Continuation) (q : GrantRef) (word : ℕ) → IsWalk k way v steps → LookedLast way caller q word [] (shown steps) → IsWordOf (last_of q.0 (after steps v)) word
+  own-look : (steps : List Moment) (way : Continuation) (q : GrantRef) (word : ℕ) → IsWalk k way v steps → LookedLast way caller q word [] (all_shown steps) → IsWordOf (last_of q.0 (view_after steps v)) word
   own-look steps way q word walk r = let m = made-last k way v steps r.before (Word word) (LookControl caller q) walk r.shown_is r.looked in
       m.made.1 (sym knows.named ∙ ap (λ (i : ℕ). id_at k.ids i) (sym (after-position m.rest v)))
 
-  can-withdraw : (request : Asked) (steps : List Moment) (way : Continuation) (q : GrantRef) (looked : ℕ) → IsWalk k way v steps → IsSame v (after steps v) → begun c caller request ≡ None
-      → (request ≡ asks.Withdraw q) × LookedLast way caller q looked [] (shown steps) × (is_stopped ToWithdrawn (control_of looked) ≡ false) → CanMake k (after steps v) (Exchange q looked ToWithdrawn)
+  can-withdraw : (request : Asked) (steps : List Moment) (way : Continuation) (q : GrantRef) (looked : ℕ) → IsWalk k way v steps → IsSame v (view_after steps v) → begun c caller request ≡ None
+      → (request ≡ asks.Withdraw q) × LookedLast way caller q looked [] (all_shown steps) × (is_stopped ToWithdrawn (control_of looked) ≡ false) → CanMake k (view_after steps v) (Exchange q looked ToWithdrawn)
   can-withdraw request steps way q looked walk same none r =
       let o = opens c caller (asks.Withdraw q) (subst (λ (x : Asked). begun c caller x ≡ None) r.0 none) in let lt = in-own q.0 o.in_table in
-      (lt, record { word_is = own-look steps way q looked walk r.1; some = own-valid (after steps v) q same lt o.valid })
+      (lt, record { word_is = own-look steps way q looked walk r.1; some = own-valid (view_after steps v) q same lt o.valid })
 
-  can-turn : (ro : Bool) (change : Change) (steps : List Moment) (way : Continuation) (q : GrantRef) (looked : ℕ) → IsWalk k way v steps → IsSame v (after steps v) → OpensTurn c change q → is_read_only (c.entry q.0) ≡ ro
-      → LookedLast way caller q looked [] (shown steps) → (q.0 < TABLE_ENTRIES) × CanTurn ro q.0 looked (after steps v)
+  can-turn : (ro : Bool) (change : Change) (steps : List Moment) (way : Continuation) (q : GrantRef) (looked : ℕ) → IsWalk k way v steps → IsSame v (view_after steps v) → OpensTurn c change q → is_read_only (c.entry q.0) ≡ ro
+      → LookedLast way caller q looked [] (all_shown steps) → (q.0 < TABLE_ENTRIES) × CanTurn ro q.0 looked (view_after steps v)
   can-turn ro change steps way q looked walk same o now r =
-      let w = after steps v in let lt = in-own q.0 o.in_table in let here = row w same q.0 lt in
+      let w = view_after steps v in let lt = in-own q.0 o.in_table in let here = row w same q.0 lt in
       let few = knows.generations q.0 lt in let worn = o.not_worn in (
         lt,
         record {
@@ -266,16 +267,16 @@ module _ (c : CallerKnowledge) (k : Layout) (caller : DomId) (v : View) (knows :
         },
       )
 
-  can-demote : (request : Asked) (steps : List Moment) (way : Continuation) (q : GrantRef) (looked : ℕ) → IsWalk k way v steps → IsSame v (after steps v) → begun c caller request ≡ None
-      → (request ≡ asks.Demote q) × LookedLast way caller q looked [] (shown steps) × (is_stopped ToReadOnly (control_of looked) ≡ false) → CanMake k (after steps v) (Exchange q looked ToReadOnly)
+  can-demote : (request : Asked) (steps : List Moment) (way : Continuation) (q : GrantRef) (looked : ℕ) → IsWalk k way v steps → IsSame v (view_after steps v) → begun c caller request ≡ None
+      → (request ≡ asks.Demote q) × LookedLast way caller q looked [] (all_shown steps) × (is_stopped ToReadOnly (control_of looked) ≡ false) → CanMake k (view_after steps v) (Exchange q looked ToReadOnly)
   can-demote request steps way q looked walk same none r =
       let o = opens c caller (asks.Demote q) (subst (λ (x : Asked). begun c caller x ≡ None) r.0 none) in
       let turn = can-turn false ToReadOnly steps way q looked walk same o o.not_already r.1 in
       let none_left = ltb-false 0 (pins_in Write looked) r.2 in
       (turn.0, (turn.1, omega (arith, none_left)))
 
-  can-promote : (request : Asked) (steps : List Moment) (way : Continuation) (q : GrantRef) (looked : ℕ) → IsWalk k way v steps → IsSame v (after steps v) → begun c caller request ≡ None
-      → (request ≡ asks.Promote q) × LookedLast way caller q looked [] (shown steps) × (is_stopped ToWritable (control_of looked) ≡ false) → CanMake k (after steps v) (Exchange q looked ToWritable)
+  can-promote : (request : Asked) (steps : List Moment) (way : Continuation) (q : GrantRef) (looked : ℕ) → IsWalk k way v steps → IsSame v (view_after steps v) → begun c caller request ≡ None
+      → (request ≡ asks.Promote q) × LookedLast way caller q looked [] (all_shown steps) × (is_stopped ToWritable (control_of looked) ≡ false) → CanMake k (view_after steps v) (Exchange q looked ToWritable)
   can-promote request steps way q looked walk same none r =
       let o = opens c caller (asks.Promote q) (subst (λ (x : Asked). begun c caller x ≡ None) r.0 none) in
       can-turn true ToWritable steps way q looked walk same o (not-false _ o.not_already) r.1
@@ -291,12 +292,12 @@ module _ (c : CallerKnowledge) (k : Layout) (caller : DomId) (v : View) (knows :
       record { version = subst (λ (n : ℕ). (n ≡ 1) ⊎ (n ≡ 2)) (sym r.1) knows.header.version; some = omega (arith, larger); few = omega (arith, within) }
 
   -- the step that comes next can be made
-  pub can-make : (request : Asked) (held : HeldPins) (steps : List Moment) (s : Step) → WaitsForNobody request → IsWalk k (path c caller request) v steps → IsSame v (after steps v) → last_first held ≡ []
-      → Rests c caller request held (shown steps) (Makes s) → CanMake k (after steps v) s
+  pub can-make : (request : Asked) (held : HeldPins) (steps : List Moment) (s : Step) → WaitsForNobody request → IsWalk k (path c caller request) v steps → IsSame v (view_after steps v) → last_first held ≡ []
+      → Rests c caller request held (all_shown steps) (Makes s) → CanMake k (view_after steps v) s
   can-make request held steps (LookHeader d) waits walk same free r = named-run d r.1
   can-make request held steps (LookControl d q) waits walk same free r = by r.1
     where
-      by : (IsNamed c d × HasSeenTable (path c caller request) d q (shown steps)) ⊎ ((d ≡ caller) × (q.0 < size_of c.header)) → HasDomain k d × (q.0 < TABLE_ENTRIES)
+      by : (IsNamed c d × HasSeenTable (path c caller request) d q (all_shown steps)) ⊎ ((d ≡ caller) × (q.0 < size_of c.header)) → HasDomain k d × (q.0 < TABLE_ENTRIES)
       by (inl x) = (named-run d x.0, in-seen-table k (path c caller request) v steps d q walk x.1)
       by (inr x) = (own-of-run k v caller d knows.named knows.inside x.0, in-own q.0 x.1)
   can-make request held steps (LookBody d q half) waits walk same free r = (named-run d r.1.0, in-seen-table k (path c caller request) v steps d q walk r.1.1)
@@ -312,18 +313,18 @@ module _ (c : CallerKnowledge) (k : Layout) (caller : DomId) (v : View) (knows :
             ForMap,
             0,
             0,
-            ap (λ (x : EntryRecord). permits x.entry (id_at k.ids (after steps v).position) p.dir ForMap 0 0) t.spelled
+            ap (λ (x : EntryRecord). permits x.entry (id_at k.ids (view_after steps v).position) p.dir ForMap 0 0) t.spelled
                 ∙ (ap (λ (i : ℕ). permits p.entry (id_at k.ids i) p.dir ForMap 0 0) (after-position steps v) ∙ (ap (λ (d : DomId). permits p.entry d p.dir ForMap 0 0) knows.named ∙ t.permitted)),
           );
         },
       )
   can-make request held steps (Unpin p (ByHandle handle)) waits walk same free r =
-      let pin = knows.mapped handle p r.1.1 in (pin.run, pin.inside, still-held (after steps v) p same pin)
+      let pin = knows.mapped handle p r.1.1 in (pin.run, pin.inside, still-held (view_after steps v) p same pin)
   can-make request held steps (Unpin p (ByLeg place)) waits walk same free r = let some = r.1.held in absurd (cc)
-  can-make request held steps (StoreBody q half word) waits walk same free r = can-store request q half word (after steps v) same r.0 r.1
+  can-make request held steps (StoreBody q half word) waits walk same free r = can-store request q half word (view_after steps v) same r.0 r.1
   can-make request held steps (StoreHeader version frames) waits walk same free r = can-header request version frames r.0 r.1
   can-make request held steps (Exchange q looked (Publish e)) waits walk same free r = can-publish request steps (path c caller request) q looked e walk same r.0 r.1
-  can-make request held steps (Exchange q looked ToInvalid) waits walk same free r = can-revoke request (after steps v) q looked same r.0 r.1
+  can-make request held steps (Exchange q looked ToInvalid) waits walk same free r = can-revoke request (view_after steps v) q looked same r.0 r.1
   can-make request held steps (Exchange q looked ToWithdrawn) waits walk same free r = can-withdraw request steps (path c caller request) q looked walk same r.0 r.1
   can-make request held steps (Exchange q looked ToReadOnly) waits walk same free r = can-demote request steps (path c caller request) q looked walk same r.0 r.1
   can-make request held steps (Exchange q looked ToWritable) waits walk same free r = can-promote request steps (path c caller request) q looked walk same r.0 r.1
@@ -350,10 +351,10 @@ module _ (c : CallerKnowledge) (k : Layout) (caller : DomId) (v : View) (knows :
         omega (arith, left),
       )
 
-  pub left-pinned : (request : Asked) (held : HeldPins) (steps : List Moment) (p : Held) (w' : View) → WaitsForNobody request → IsWalk k (path c caller request) v steps → IsSame v (after steps v)
-      → Rests c caller request held (shown steps) (Makes (Pin p)) → Pins k (position_in k.ids p.dom) p.gref.0 p.dir p.word (after steps v) w' → MapsBy c k caller request p v w'
+  pub left-pinned : (request : Asked) (held : HeldPins) (steps : List Moment) (p : Held) (w' : View) → WaitsForNobody request → IsWalk k (path c caller request) v steps → IsSame v (view_after steps v)
+      → Rests c caller request held (all_shown steps) (Makes (Pin p)) → Pins k (position_in k.ids p.dom) p.gref.0 p.dir p.word (view_after steps v) w' → MapsBy c k caller request p v w'
   left-pinned request held steps p w' waits walk same r m =
-      let w = after steps v in let at = position_in k.ids p.dom in
+      let w = view_after steps v in let at = position_in k.ids p.dom in
       let t = tried request held steps (path c caller request) p waits walk r.1 in
       let may = map-allowed request p w r.0 t in
       record {
@@ -363,7 +364,7 @@ module _ (c : CallerKnowledge) (k : Layout) (caller : DomId) (v : View) (knows :
         pins = m;
         entry_is = t.spelled;
         mapping = record {
-          pin = record { run = t.run; inside = t.inside; held = subst (λ (x : EntryRecord). IsIn (p.dir, x) (pins (steps_on at p.gref.0 w'))) t.spelled m.pin };
+          pin = record { run = t.run; inside = t.inside; held = subst (λ (x : EntryRecord). IsAmong (p.dir, x) (live_pins (steps_on at p.gref.0 w'))) t.spelled m.pin };
           permitted = t.permitted;
           in_frames = t.in_frames;
           allowed = may.0;
@@ -392,25 +393,25 @@ module _ (c : CallerKnowledge) (k : Layout) (caller : DomId) (v : View) (knows :
   header-asked request version frames (inr r) = subst (λ (x : Asked). IsHeaderChange x) (sym r.0) tt
 
   -- a call left its seat by what its last step did
-  pub leaves : (request : Asked) (held : HeldPins) (steps : List Moment) (s : Step) (x : Seen) (w' : View) → WaitsForNobody request → IsWalk k (path c caller request) v steps → IsSame v (after steps v) → last_first held ≡ []
-      → Rests c caller request held (shown steps) (Makes s) → Made k s x (after steps v) w' → Leaves c k caller request v w' (effect_of s x)
-  leaves request held steps (LookHeader d) (Word n) w' waits walk same free r m = same-then v (after steps v) w' same (look-same k (LookHeader d) (Word n) (after steps v) w' m tt)
-  leaves request held steps (LookControl d q) (Word n) w' waits walk same free r m = same-then v (after steps v) w' same (look-same k (LookControl d q) (Word n) (after steps v) w' m tt)
-  leaves request held steps (LookBody d q half) (Word n) w' waits walk same free r m = same-then v (after steps v) w' same (look-same k (LookBody d q half) (Word n) (after steps v) w' m tt)
-  leaves request held steps (StoreBody q half n) Nothing w' waits walk same free r m = same-then v (after steps v) w' same (look-same k (StoreBody q half n) Nothing (after steps v) w' m tt)
-  leaves request held steps (StoreHeader version frames) Nothing w' waits walk same free r m = (same-then v (after steps v) w' same (look-same k (StoreHeader version frames) Nothing (after steps v) w' m tt), header-asked request version frames r.1)
+  pub leaves : (request : Asked) (held : HeldPins) (steps : List Moment) (s : Step) (x : Seen) (w' : View) → WaitsForNobody request → IsWalk k (path c caller request) v steps → IsSame v (view_after steps v) → last_first held ≡ []
+      → Rests c caller request held (all_shown steps) (Makes s) → Made k s x (view_after steps v) w' → Leaves c k caller request v w' (effect_of s x)
+  leaves request held steps (LookHeader d) (Word n) w' waits walk same free r m = same-then v (view_after steps v) w' same (look-same k (LookHeader d) (Word n) (view_after steps v) w' m tt)
+  leaves request held steps (LookControl d q) (Word n) w' waits walk same free r m = same-then v (view_after steps v) w' same (look-same k (LookControl d q) (Word n) (view_after steps v) w' m tt)
+  leaves request held steps (LookBody d q half) (Word n) w' waits walk same free r m = same-then v (view_after steps v) w' same (look-same k (LookBody d q half) (Word n) (view_after steps v) w' m tt)
+  leaves request held steps (StoreBody q half n) Nothing w' waits walk same free r m = same-then v (view_after steps v) w' same (look-same k (StoreBody q half n) Nothing (view_after steps v) w' m tt)
+  leaves request held steps (StoreHeader version frames) Nothing w' waits walk same free r m = (same-then v (view_after steps v) w' same (look-same k (StoreHeader version frames) Nothing (view_after steps v) w' m tt), header-asked request version frames r.1)
   leaves request held steps (Pin p) Taken w' waits walk same free r m = left-pinned request held steps p w' waits walk same r m
-  leaves request held steps (Pin p) (Missed n) w' waits walk same free r m = same-then v (after steps v) w' same (look-same k (Pin p) (Missed n) (after steps v) w' m tt)
-  leaves request held steps (Unpin p (ByHandle handle)) Nothing w' waits walk same free r m = record { asked = r.1.0; mapping = p; found = r.1.1; before = after steps v; same = same; unpins = m }
+  leaves request held steps (Pin p) (Missed n) w' waits walk same free r m = same-then v (view_after steps v) w' same (look-same k (Pin p) (Missed n) (view_after steps v) w' m tt)
+  leaves request held steps (Unpin p (ByHandle handle)) Nothing w' waits walk same free r m = record { asked = r.1.0; mapping = p; found = r.1.1; before = view_after steps v; same = same; unpins = m }
   leaves request held steps (Unpin p (ByLeg place)) x w' waits walk same free r m = let some = r.1.held in absurd (cc)
-  leaves request held steps (Exchange q looked (Publish e)) Taken w' waits walk same free r m = let o = own-change request held (shown steps) q looked (Publish e) r in left-changed q (Publish e) (after steps v) w' o.0 o.1 same looked m.changes request o.2
-  leaves request held steps (Exchange q looked ToInvalid) Taken w' waits walk same free r m = let o = own-change request held (shown steps) q looked ToInvalid r in left-changed q ToInvalid (after steps v) w' o.0 o.1 same looked m.changes request o.2
-  leaves request held steps (Exchange q looked ToWithdrawn) Taken w' waits walk same free r m = let o = own-change request held (shown steps) q looked ToWithdrawn r in left-changed q ToWithdrawn (after steps v) w' o.0 o.1 same looked m request o.2
-  leaves request held steps (Exchange q looked ToReadOnly) Taken w' waits walk same free r m = let o = own-change request held (shown steps) q looked ToReadOnly r in left-changed q ToReadOnly (after steps v) w' o.0 o.1 same looked m.changes request o.2
-  leaves request held steps (Exchange q looked ToWritable) Taken w' waits walk same free r m = let o = own-change request held (shown steps) q looked ToWritable r in left-changed q ToWritable (after steps v) w' o.0 o.1 same looked m request o.2
-  leaves request held steps (Exchange q looked (Publish e)) (Missed n) w' waits walk same free r m = same-then v (after steps v) w' same (look-same k (Exchange q looked (Publish e)) (Missed n) (after steps v) w' m tt)
-  leaves request held steps (Exchange q looked ToWithdrawn) (Missed n) w' waits walk same free r m = same-then v (after steps v) w' same (look-same k (Exchange q looked ToWithdrawn) (Missed n) (after steps v) w' m tt)
-  leaves request held steps (Exchange q looked ToInvalid) (Missed n) w' waits walk same free r m = same-then v (after steps v) w' same (look-same k (Exchange q looked ToInvalid) (Missed n) (after steps v) w' m tt)
-  leaves request held steps (Exchange q looked ToReadOnly) (Missed n) w' waits walk same free r m = same-then v (after steps v) w' same (look-same k (Exchange q looked ToReadOnly) (Missed n) (after steps v) w' m tt)
-  leaves request held steps (Exchange q looked ToWritable) (Missed n) w' waits walk same free r m = same-then v (after steps v) w' same (look-same k (Exchange q looked ToWritable) (Missed n) (after steps v) w' m tt)
+  leaves request held steps (Exchange q looked (Publish e)) Taken w' waits walk same free r m = let o = own-change request held (all_shown steps) q looked (Publish e) r in left-changed q (Publish e) (view_after steps v) w' o.0 o.1 same looked m.changes request o.2
+  leaves request held steps (Exchange q looked ToInvalid) Taken w' waits walk same free r m = let o = own-change request held (all_shown steps) q looked ToInvalid r in left-changed q ToInvalid (view_after steps v) w' o.0 o.1 same looked m.changes request o.2
+  leaves request held steps (Exchange q looked ToWithdrawn) Taken w' waits walk same free r m = let o = own-change request held (all_shown steps) q looked ToWithdrawn r in left-changed q ToWithdrawn (view_after steps v) w' o.0 o.1 same looked m request o.2
+  leaves request held steps (Exchange q looked ToReadOnly) Taken w' waits walk same free r m = let o = own-change request held (all_shown steps) q looked ToReadOnly r in left-changed q ToReadOnly (view_after steps v) w' o.0 o.1 same looked m.changes request o.2
+  leaves request held steps (Exchange q looked ToWritable) Taken w' waits walk same free r m = let o = own-change request held (all_shown steps) q looked ToWritable r in left-changed q ToWritable (view_after steps v) w' o.0 o.1 same looked m request o.2
+  leaves request held steps (Exchange q looked (Publish e)) (Missed n) w' waits walk same free r m = same-then v (view_after steps v) w' same (look-same k (Exchange q looked (Publish e)) (Missed n) (view_after steps v) w' m tt)
+  leaves request held steps (Exchange q looked ToWithdrawn) (Missed n) w' waits walk same free r m = same-then v (view_after steps v) w' same (look-same k (Exchange q looked ToWithdrawn) (Missed n) (view_after steps v) w' m tt)
+  leaves request held steps (Exchange q looked ToInvalid) (Missed n) w' waits walk same free r m = same-then v (view_after steps v) w' same (look-same k (Exchange q looked ToInvalid) (Missed n) (view_after steps v) w' m tt)
+  leaves request held steps (Exchange q looked ToReadOnly) (Missed n) w' waits walk same free r m = same-then v (view_after steps v) w' same (look-same k (Exchange q looked ToReadOnly) (Missed n) (view_after steps v) w' m tt)
+  leaves request held steps (Exchange q looked ToWritable) (Missed n) w' waits walk same free r m = same-then v (view_after steps v) w' same (look-same k (Exchange q looked ToWritable) (Missed n) (view_after steps v) w' m tt)
   leaves request held steps _ _ w' waits walk same free r m = absurd m

@@ -18,11 +18,11 @@ use Rattle.gt_types.specs.Names.{copy as copying, domain_of, resolved}
 use Rattle.gt_entry.specs.Permits.{permits}
 use Rattle.gt_words.specs.Conditions.{KeepsPins, SeatOf}
 use Rattle.gt_words.specs.Rule.{Layout}
-use Rattle.gt_words.specs.Views.{IsIn}
+use Rattle.gt_words.specs.Views.{IsAmong}
 use Rattle.gt_words.specs.declared.view.View.{View}
 use Rattle.gt_frames.specs.Receipts.{Copying}
 use Rattle.gt_access.specs.Accesses.{copying_at}
-use Rattle.gt_access.specs.Routes.{MayCopy, MayCopyEach, Reaches, named_by, pair_beyond}
+use Rattle.gt_access.specs.Routes.{MayCopyBy, MayCopyEach, ReachesBy, named_by, pair_beyond}
 use Rattle.gt_calls.specs.declared.action.Place.{Place}
 use Rattle.gt_calls.specs.declared.action.Step.TheVariants.{Copy as CopyBytes}
 use Rattle.gt_calls.specs.declared.action.Verdict.{Verdict}
@@ -46,24 +46,24 @@ use Rattle.gt_calls.specs.Resting.{IsReached, RestsOnWays}
 use Rattle.gt_calls.specs.Rules.{CallerKnowledge, begun, copy_begun, denied, first, is_dest_granted, is_source_granted}
 use Rattle.gt_calls.specs.Rules.{label_of, refused_when, rights_to_copy, via_judged}
 use Rattle.gt_calls.specs.Standing.{pins_by_call}
-use Rattle.gt_live.specs.Accesses.{Accessed, AnsweredBy, IsCopiedBy, IsOfAccess, frame_named, onward, spot_of}
+use Rattle.gt_live.specs.Accesses.{Accessed, AnsweredAtAccess, IsCopiedBy, IsOfAccess, frame_named, onward, spot_of}
 use Rattle.gt_live.specs.Underway.{AreOfRun, AtAccess, GivesBack, HasTaken}
-use Rattle.gt_live.specs.Walks.{Called, shown}
+use Rattle.gt_live.specs.Walks.{Called, all_shown}
 use Rattle.gt_live.proofs.Accessing.{of-its-frame, serves}
 use Rattle.gt_live.proofs.Taking.{has-pin}
 
-pub in-dest : {A : Type 0} (a : A) (xs ys : List A) → IsIn a xs → IsIn a (xs ++ ys)
+pub in-dest : {A : Type 0} (a : A) (xs ys : List A) → IsAmong a xs → IsAmong a (xs ++ ys)
 in-dest a [] ys is = absurd is
 in-dest a (x ∷ xs) ys (inl e) = inl e
 in-dest a (x ∷ xs) ys (inr more) = inr (in-dest a xs ys more)
 
-pub in-source : {A : Type 0} (a : A) (xs ys : List A) → IsIn a ys → IsIn a (xs ++ ys)
+pub in-source : {A : Type 0} (a : A) (xs ys : List A) → IsAmong a ys → IsAmong a (xs ++ ys)
 in-source a [] ys is = is
 in-source a (x ∷ xs) ys is = inr (in-source a xs ys is)
 
 -- the route to an end reaches its range
 pub reaches-end : (c : CallerKnowledge) (k : Layout) (s : SeatOf) (granted : Bool) (end : End) (dir : Dir) (len : ℕ) (pair : DomId → DomId × DomId) (route : Route) (taken : List Held) (v : View) → IsReached c s.dom granted end dir len pair route → HasTaken k taken v s.view
-    → AreOfRun k taken → ((p : Held) → IsIn p (held_by route) → IsIn p taken) → Reaches k s dir ForCopy (frame_named (owner_by s.dom route) (frame_by end.ptr route)) end.offset len route
+    → AreOfRun k taken → ((p : Held) → IsAmong p (held_by route) → IsAmong p taken) → ReachesBy k s dir ForCopy (frame_named (owner_by s.dom route) (frame_by end.ptr route)) end.offset len route
 reaches-end c k s granted end dir len pair Own taken v r x all among = refl
 reaches-end c k s granted end dir len pair (Direct p) taken v r x all among = record {
   pin = has-pin k taken v s.view p x all (among p (inl refl));
@@ -131,7 +131,7 @@ beyond-dest c caller granted end dir len source (Through via p) r = (via-allowed
 
 -- the policy allows a copy whose ends are reached
 pub may-copy : (c : CallerKnowledge) (caller : DomId) (a : CopyArgs) (pins : Pins) → OpensCopy c caller a → IsReached c caller (is_source_granted a) a.source Read a.len (source_pair caller a) pins.source
-    → IsReached c caller (is_dest_granted a) a.dest Write a.len (dest_pair caller pins.source) pins.dest → MayCopy c.domains c.may caller pins
+    → IsReached c caller (is_dest_granted a) a.dest Write a.len (dest_pair caller pins.source) pins.dest → MayCopyBy c.domains c.may caller pins
 may-copy c caller a pins opens source dest =
     let from = names-end c caller (is_source_granted a) a.source Read a.len (source_pair caller a) pins.source source opens.own_source in
     let to = names-end c caller (is_dest_granted a) a.dest Write a.len (dest_pair caller pins.source) pins.dest dest opens.own_dest in (
@@ -144,7 +144,7 @@ pub whole-copy : (c : CallerKnowledge) (k : Layout) (call : Call) (from to : Pla
     → Accessed k (path c call.caller call.request) (CopyBytes from to len) v w × KeepsPins v w
 whole-copy c k call from to len v mid w a g =
     let way = path c call.caller call.request in
-    let ends : Called k (onward way (shown a.comes.steps ++ Nothing ∷ [])) Granted mid w =
+    let ends : Called k (onward way (all_shown a.comes.steps ++ Nothing ∷ [])) Granted mid w =
     subst (λ (y : Continuation). Called k y Granted mid w) (sym a.ends)
     (record { steps = g.steps; view = g.view; walked = g.walked; moments = walk-moments k (give_back (last_first (pins_by_call call)) Granted) mid g.steps g.walked; answered = g.ended; carried = tt }) in (
       record { at = mid; comes = a.comes; ends = ends; only = only-access k way (CopyBytes from to len) v mid w a.comes ends },
@@ -153,30 +153,30 @@ whole-copy c k call from to len v mid w a g =
 
 -- a copy that came to its access and gave its pins back
 pub made-whole : (c : CallerKnowledge) (k : Layout) (call : Call) (from to : Place) (len : ℕ) (v mid w : View) (way : Continuation) (writer : DomId) (result : Result Copying Denial) → AtAccess c k call from to len v mid → GivesBack k (pins_by_call call) mid w → way ≡ path c call.caller call.request
-    → IfOk result (λ (r : Copying). r ≡ copying_at (spot_of from) (spot_of to) len writer) → IfErr result IsOfAccess → AnsweredBy k way (IsCopiedBy writer) result v w
-made-whole c k call from to len v mid w way writer result a g same ok err = subst (λ (y : Continuation). AnsweredBy k y (IsCopiedBy writer) result v w) (sym same) (by result ok err)
+    → IfOk result (λ (r : Copying). r ≡ copying_at (spot_of from) (spot_of to) len writer) → IfErr result IsOfAccess → AnsweredAtAccess k way (IsCopiedBy writer) result v w
+made-whole c k call from to len v mid w way writer result a g same ok err = subst (λ (y : Continuation). AnsweredAtAccess k y (IsCopiedBy writer) result v w) (sym same) (by result ok err)
   where
     whole : Accessed k (path c call.caller call.request) (CopyBytes from to len) v w
     whole = (whole-copy c k call from to len v mid w a g).0
 
-    by : (r : Result Copying Denial) → IfOk r (λ (x : Copying). x ≡ copying_at (spot_of from) (spot_of to) len writer) → IfErr r IsOfAccess → AnsweredBy k (path c call.caller call.request) (IsCopiedBy writer) r v w
+    by : (r : Result Copying Denial) → IfOk r (λ (x : Copying). x ≡ copying_at (spot_of from) (spot_of to) len writer) → IfErr r IsOfAccess → AnsweredAtAccess k (path c call.caller call.request) (IsCopiedBy writer) r v w
     by (Ok r) o e = (CopyBytes from to len, whole, o)
     by (Err denial) o e = inr (CopyBytes from to len, whole, e)
 
 -- what the routes to both ends reach
 pub reaches-source : (c : CallerKnowledge) (k : Layout) (s : SeatOf) (request : Asked) (pins : Pins) (from to : Place) (len : ℕ) (v : View) → RestsOnWays c s.dom request pins from to len → HasTaken k (last_first pins) v s.view → AreOfRun k (last_first pins)
-    → Reaches k s Read ForCopy (frame_named from.owner from.frame) from.off len pins.source
+    → ReachesBy k s Read ForCopy (frame_named from.owner from.frame) from.off len pins.source
 reaches-source c k s request pins from to len v r x all =
     let at = reaches-end c k s (is_source_granted r.copy) r.copy.source Read r.copy.len (source_pair s.dom r.copy) pins.source (last_first pins) v r.source_reached x all (λ p is. in-source p (held_by pins.dest) (held_by pins.source) is) in
-    subst (λ (n : ℕ). Reaches k s Read ForCopy (frame_named from.owner from.frame) from.off n pins.source) (sym r.len_is)
-    (subst (λ (p : Place). Reaches k s Read ForCopy (frame_named p.owner p.frame) p.off r.copy.len pins.source) (sym r.from_is) at)
+    subst (λ (n : ℕ). ReachesBy k s Read ForCopy (frame_named from.owner from.frame) from.off n pins.source) (sym r.len_is)
+    (subst (λ (p : Place). ReachesBy k s Read ForCopy (frame_named p.owner p.frame) p.off r.copy.len pins.source) (sym r.from_is) at)
 
 pub reaches-dest : (c : CallerKnowledge) (k : Layout) (s : SeatOf) (request : Asked) (pins : Pins) (from to : Place) (len : ℕ) (v : View) → RestsOnWays c s.dom request pins from to len → HasTaken k (last_first pins) v s.view → AreOfRun k (last_first pins)
-    → Reaches k s Write ForCopy (frame_named to.owner to.frame) to.off len pins.dest
+    → ReachesBy k s Write ForCopy (frame_named to.owner to.frame) to.off len pins.dest
 reaches-dest c k s request pins from to len v r x all =
     let at = reaches-end c k s (is_dest_granted r.copy) r.copy.dest Write r.copy.len (dest_pair s.dom pins.source) pins.dest (last_first pins) v r.dest_reached x all (λ p is. in-dest p (held_by pins.dest) (held_by pins.source) is) in
-    subst (λ (n : ℕ). Reaches k s Write ForCopy (frame_named to.owner to.frame) to.off n pins.dest) (sym r.len_is)
-    (subst (λ (p : Place). Reaches k s Write ForCopy (frame_named p.owner p.frame) p.off r.copy.len pins.dest) (sym r.to_is) at)
+    subst (λ (n : ℕ). ReachesBy k s Write ForCopy (frame_named to.owner to.frame) to.off n pins.dest) (sym r.len_is)
+    (subst (λ (p : Place). ReachesBy k s Write ForCopy (frame_named p.owner p.frame) p.off r.copy.len pins.dest) (sym r.to_is) at)
 
 -- a copy of this caller at its access, with these pins
 abbrev pub Access : CallerKnowledge → Layout → DomId → CopyArgs → Pins → View → View → Type 0
@@ -197,18 +197,18 @@ module _ (c : CallerKnowledge) (k : Layout) (s : SeatOf) (caller : DomId) (copy 
       subst (λ (x : DomId). RestsOnWays c x (asks.Copy copy) pins from_place to_place copy.len) (sym me) a.rests
 
   pub access-source : (at : Place) → at ≡ from_place
-      → Reaches k s Read ForCopy (frame_named at.owner at.frame) at.off copy.len pins.source
+      → ReachesBy k s Read ForCopy (frame_named at.owner at.frame) at.off copy.len pins.source
   access-source at e =
-      subst (λ (p : Place). Reaches k s Read ForCopy (frame_named p.owner p.frame) p.off copy.len pins.source) (sym e)
+      subst (λ (p : Place). ReachesBy k s Read ForCopy (frame_named p.owner p.frame) p.off copy.len pins.source) (sym e)
       (reaches-source c k s (asks.Copy copy) pins from_place to_place copy.len v access-rests a.taken a.of_run)
 
   pub access-dest : (at : Place) → at ≡ to_place
-      → Reaches k s Write ForCopy (frame_named at.owner at.frame) at.off copy.len pins.dest
+      → ReachesBy k s Write ForCopy (frame_named at.owner at.frame) at.off copy.len pins.dest
   access-dest at e =
-      subst (λ (p : Place). Reaches k s Write ForCopy (frame_named p.owner p.frame) p.off copy.len pins.dest) (sym e)
+      subst (λ (p : Place). ReachesBy k s Write ForCopy (frame_named p.owner p.frame) p.off copy.len pins.dest) (sym e)
       (reaches-dest c k s (asks.Copy copy) pins from_place to_place copy.len v access-rests a.taken a.of_run)
 
-  pub access-may : copy_begun c caller copy ≡ None → MayCopy c.domains c.may s.dom pins
+  pub access-may : copy_begun c caller copy ≡ None → MayCopyBy c.domains c.may s.dom pins
   access-may none =
       let r = access-rests in
       let here : begun c s.dom (asks.Copy r.copy) ≡ None =

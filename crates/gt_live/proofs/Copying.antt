@@ -74,13 +74,13 @@ use Rattle.gt_calls.specs.Legs.{after_words, leg_after, leg_step}
 use Rattle.gt_calls.specs.Machine.{phase_after, where_via}
 use Rattle.gt_calls.specs.Path.{Continuation, dest_pair, end_leg, entry_refusal, held_of, path, place_of, rule_of_try}
 use Rattle.gt_calls.specs.Path.{second_leg, source_pair}
-use Rattle.gt_calls.specs.Resting.{HasRead, HasSeenTable, IsFor, IsForwarded, IsMapped, IsOnFrom, IsOfRun as IsNamed}
+use Rattle.gt_calls.specs.Resting.{HasRead, HasSeenTable, IsLegFor, IsForwarded, IsMapped, IsOnFrom, IsOfRun as IsNamed}
 use Rattle.gt_calls.specs.Resting.{Lets, Rests, RestsOnTry}
 use Rattle.gt_calls.specs.Rules.{CallerKnowledge, first_look, is_dest_granted, via_judged}
 use Rattle.gt_live.specs.Driving.{CanMake, Knows}
-use Rattle.gt_live.specs.Mappings.{HasPin, record_of}
+use Rattle.gt_live.specs.Mappings.{HasPin, entry_record_of}
 use Rattle.gt_live.specs.Underway.{AreOfRun, HasTaken, StandsInCopy, StandsWell}
-use Rattle.gt_live.specs.Walks.{CarriesFound, IsWalk, Made, after, shown}
+use Rattle.gt_live.specs.Walks.{CarriesFound, IsWalk, Made, view_after, all_shown}
 use Rattle.gt_live.proofs.Accessing.{wordless-found}
 use Rattle.gt_live.proofs.Advancing.{carried-facts}
 use Rattle.gt_live.proofs.Can.{in-own, named-run, own-of-run}
@@ -94,17 +94,17 @@ use Rattle.gt_live.proofs.Walking.{after-position, in-seen-table, made-last, rea
 abbrev pub words_seen : ℕ → ℕ → ℕ → Looks
 words_seen word body second = record { word = word; first = Some body; second = cond (is_kind (control_of word).kind KindSub) (Some second) None }
 
-read-words : (k : Layout) (way : Continuation) (v : View) (steps : List Moment) (dom : DomId) (gref : GrantRef) (word body second : ℕ) → IsWalk k way v steps → HasRead way dom gref word body second (shown steps)
-    → seen (steps_on (position_in k.ids dom) gref.0 (after steps v)) ≡ Some (words_seen word body second)
+read-words : (k : Layout) (way : Continuation) (v : View) (steps : List Moment) (dom : DomId) (gref : GrantRef) (word body second : ℕ) → IsWalk k way v steps → HasRead way dom gref word body second (all_shown steps)
+    → seen (steps_on (position_in k.ids dom) gref.0 (view_after steps v)) ≡ Some (words_seen word body second)
 read-words k way v steps dom gref word body second walk r = by (is_kind (control_of word).kind KindSub) refl
   where
-    by : (b : Bool) → is_kind (control_of word).kind KindSub ≡ b → seen (steps_on (position_in k.ids dom) gref.0 (after steps v)) ≡ Some (record { word = word; first = Some body; second = cond b (Some second) None })
+    by : (b : Bool) → is_kind (control_of word).kind KindSub ≡ b → seen (steps_on (position_in k.ids dom) gref.0 (view_after steps v)) ≡ Some (record { word = word; first = Some body; second = cond b (Some second) None })
     by false e = read-page k way v steps dom gref word body second walk r e
     by true e =
-        let three_shown : shown steps ≡ (r.before ++ Word word ∷ Word body ∷ []) ++ Word second ∷ [] =
+        let three_shown : all_shown steps ≡ (r.before ++ Word word ∷ Word body ∷ []) ++ Word second ∷ [] =
         r.shown_is ∙ (ap (λ (b : Bool). r.before ++ Word word ∷ Word body ∷ cond b (Word second ∷ []) []) e ∙ sym (append_assoc r.before (Word word ∷ Word body ∷ []) (Word second ∷ []))) in
         let three = made-last k way v steps (r.before ++ Word word ∷ Word body ∷ []) (Word second) (LookBody dom gref SecondHalf) walk three_shown (r.second_read e) in
-        let two_shown : shown three.rest ≡ (r.before ++ Word word ∷ []) ++ Word body ∷ [] = three.shown_is ∙ sym (append_assoc r.before (Word word ∷ []) (Word body ∷ [])) in
+        let two_shown : all_shown three.rest ≡ (r.before ++ Word word ∷ []) ++ Word body ∷ [] = three.shown_is ∙ sym (append_assoc r.before (Word word ∷ []) (Word body ∷ [])) in
         let two = made-last k way v three.rest (r.before ++ Word word ∷ []) (Word body) (LookBody dom gref FirstHalf) three.walked two_shown r.first_read in
         let one = made-last k way v two.rest r.before (Word word) (LookControl dom gref) two.walked two.shown_is r.looked in
         ap seen three.made.steps.adds.here
@@ -190,15 +190,15 @@ still-found k v x steps (facts.Field field) is = tt
 
 module _ (c : CallerKnowledge) (k : Layout) (caller : DomId) (v : View) (knows : Knows c k caller v) where
   -- the entry that a leg pins permits or forwards the caller, or permits the owner of a Via that it has pinned
-  by-first : (p : Held) (l : Leg) (w : View) → id_at k.ids w.position ≡ caller → l.grantee ≡ caller → Lets l p.entry → MayPin k (position_in k.ids p.dom) p.gref.0 w l.dir (record_of p)
+  by-first : (p : Held) (l : Leg) (w : View) → id_at k.ids w.position ≡ caller → l.grantee ≡ caller → Lets l p.entry → MayPin k (position_in k.ids p.dom) p.gref.0 w l.dir (entry_record_of p)
   by-first p l w me judge lets = by (lets-first l p.entry (id_at k.ids w.position) (judge ∙ sym me) lets)
     where
-      by : PermitsPin p.entry (id_at k.ids w.position) l.dir ⊎ ForwardsPin p.entry (id_at k.ids w.position) l.dir → MayPin k (position_in k.ids p.dom) p.gref.0 w l.dir (record_of p)
+      by : PermitsPin p.entry (id_at k.ids w.position) l.dir ⊎ ForwardsPin p.entry (id_at k.ids w.position) l.dir → MayPin k (position_in k.ids p.dom) p.gref.0 w l.dir (entry_record_of p)
       by (inl x) = inl x
       by (inr x) = inr (inl x)
 
   by-via : (p via : Held) (l first : Leg) (end : End) (dir : Dir) (w : View) → id_at k.ids w.position ≡ caller → p.dom ≡ l.dom → p.gref ≡ l.gref → HasDomain k p.dom → HasPin k w via → first.dom ≡ resolved caller end.domid → first.dir ≡ dir
-      → IsForwarded caller end dir via → IsOnFrom c first via.entry l → Lets l p.entry → MayPin k (position_in k.ids p.dom) p.gref.0 w l.dir (record_of p)
+      → IsForwarded caller end dir via → IsOnFrom c first via.entry l → Lets l p.entry → MayPin k (position_in k.ids p.dom) p.gref.0 w l.dir (entry_record_of p)
   by-via p via l first end dir w me dom gref run pin first_dom first_dir forwarded is lets =
       let on = on-from c first l via.entry is in
       let dirs : l.dir ≡ dir = on.dir ∙ first_dir in
@@ -207,7 +207,7 @@ module _ (c : CallerKnowledge) (k : Layout) (caller : DomId) (v : View) (knows :
       inr (inr (record {
         owner = position_in k.ids via.dom;
         reference = via.gref.0;
-        via = (via.dir, record_of via);
+        via = (via.dir, entry_record_of via);
         held = pin.held;
         same_kind = forwarded.taken_for ∙ sym dirs;
         forwarded = ap (λ (d : DomId). forwards via.entry d l.dir) me ∙ (ap (λ (d : Dir). forwards via.entry caller d) dirs ∙ forwarded.forwarded);
@@ -215,8 +215,8 @@ module _ (c : CallerKnowledge) (k : Layout) (caller : DomId) (v : View) (knows :
         permits = (l.purpose, l.off, l.len, ap (λ (d : DomId). permits p.entry d l.dir l.purpose l.off l.len) owner ∙ lets-second l p.entry on.beyond lets);
       }))
 
-  may-pin : (request : Asked) → IsCopy request → (aim : Aim) (l : Leg) (p : Held) (w : View) → IsFor c caller request aim l → id_at k.ids w.position ≡ caller → p.dom ≡ l.dom → p.gref ≡ l.gref → HasDomain k p.dom
-      → HasTaken k (last_first (pins_so_far aim)) v w → AreOfRun k (last_first (pins_so_far aim)) → Lets l p.entry → MayPin k (position_in k.ids p.dom) p.gref.0 w l.dir (record_of p)
+  may-pin : (request : Asked) → IsCopy request → (aim : Aim) (l : Leg) (p : Held) (w : View) → IsLegFor c caller request aim l → id_at k.ids w.position ≡ caller → p.dom ≡ l.dom → p.gref ≡ l.gref → HasDomain k p.dom
+      → HasTaken k (last_first (pins_so_far aim)) v w → AreOfRun k (last_first (pins_so_far aim)) → Lets l p.entry → MayPin k (position_in k.ids p.dom) p.gref.0 w l.dir (entry_record_of p)
   may-pin request copies Mapping l p w is me dom gref run x all lets = absurd (subst (λ (y : Asked). IsCopy y) is.of_map copies)
   may-pin request copies (Source copy None) l p w is me dom gref run x all lets = by-first p l w me (ap (λ (y : Leg). y.grantee) is.1.1) lets
   may-pin request copies (Source copy (Some via)) l p w is me dom gref run x all lets =
@@ -230,18 +230,18 @@ module _ (c : CallerKnowledge) (k : Layout) (caller : DomId) (v : View) (knows :
     pub run : HasDomain k p.dom
     pub inside : p.gref.0 < TABLE_ENTRIES
     pub can : CanPin k (position_in k.ids p.dom) p.gref.0 p.dir p.word w
-    pub spelled : record_seen (last_seen (position_in k.ids p.dom) p.gref.0 w) ≡ record_of p
+    pub spelled : record_seen (last_seen (position_in k.ids p.dom) p.gref.0 w) ≡ entry_record_of p
 
-  pub tries-pin : (request : Asked) → IsCopy request → (held : HeldPins) (steps : List Moment) (p : Held) → IsWalk k (path c caller request) v steps → HasTaken k (last_first held) v (after steps v) → AreOfRun k (last_first held)
-      → RestsOnTry c caller request held (path c caller request) (shown steps) p → Tries p (after steps v)
+  pub tries-pin : (request : Asked) → IsCopy request → (held : HeldPins) (steps : List Moment) (p : Held) → IsWalk k (path c caller request) v steps → HasTaken k (last_first held) v (view_after steps v) → AreOfRun k (last_first held)
+      → RestsOnTry c caller request held (path c caller request) (all_shown steps) p → Tries p (view_after steps v)
   tries-pin request copies held steps p walk x all r =
-      let w = after steps v in let l = r.leg in let at = position_in k.ids p.dom in let way = path c caller request in
+      let w = view_after steps v in let l = r.leg in let at = position_in k.ids p.dom in let way = path c caller request in
       let saw = read-words k way v steps p.dom p.gref p.word r.body r.second walk r.read in
       let s = words_seen p.word r.body r.second in
       let last : last_seen at p.gref.0 w ≡ s = ap seen_or_none saw in
       let entry : p.entry ≡ entry_of (control_of p.word) r.body r.second = ap (λ (y : Held). y.entry) r.pin_is in
-      let spelled : record_seen s ≡ record_of p = ap (λ (e : Entry). record { generation = generation_of p.word; entry = e }) (second-of-sub (control_of p.word).kind (control_of p.word) r.body r.second ∙ sym entry) in
-      let here : record_seen (last_seen at p.gref.0 w) ≡ record_of p = ap record_seen last ∙ spelled in
+      let spelled : record_seen s ≡ entry_record_of p = ap (λ (e : Entry). record { generation = generation_of p.word; entry = e }) (second-of-sub (control_of p.word).kind (control_of p.word) r.body r.second ∙ sym entry) in
+      let here : record_seen (last_seen at p.gref.0 w) ≡ entry_record_of p = ap record_seen last ∙ spelled in
       let dirs : p.dir ≡ l.dir = ap (λ (y : Held). y.dir) r.pin_is in
       let run = named-run c k caller v knows p.dom r.of_run in
       let may = may-pin request copies r.aim l p w r.aimed (ap (λ (i : ℕ). id_at k.ids i) (after-position steps v) ∙ knows.named) (ap (λ (y : Held). y.dom) r.pin_is) (ap (λ (y : Held). y.gref) r.pin_is) run
@@ -255,31 +255,31 @@ module _ (c : CallerKnowledge) (k : Layout) (caller : DomId) (v : View) (knows :
           looked = (saw ∙ ap (λ (y : Looks). Some y) (sym last), ap (λ (y : Looks). y.word) last, subst (λ (y : Looks). HasBody y) (sym last) (refl, second_too));
           valid = λ gone. let yes : is_kind (control_of p.word).kind KindInvalid ≡ true = ap (λ (y : Kind). is_kind y KindInvalid) gone in let none_so = valid.0 in absurd (cc);
           room = subst (λ (d : Dir). pins_in d p.word < 4095) (sym dirs) (room-for l p.word p.entry r.last);
-          permitted = subst (λ (y : EntryRecord). MayPin k at p.gref.0 w p.dir y) (sym here) (subst (λ (d : Dir). MayPin k at p.gref.0 w d (record_of p)) (sym dirs) may);
+          permitted = subst (λ (y : EntryRecord). MayPin k at p.gref.0 w p.dir y) (sym here) (subst (λ (d : Dir). MayPin k at p.gref.0 w d (entry_record_of p)) (sym dirs) may);
         };
         spelled = here;
       }
 
   -- the step that comes next can be made, where it is no access
-  pub can-walk : (request : Asked) → IsCopy request → (held : HeldPins) (steps : List Moment) (s : Step) → IsWalk k (path c caller request) v steps → HasTaken k (last_first held) v (after steps v) → AreOfRun k (last_first held)
-      → Rests c caller request held (shown steps) (Makes s) → ((from to : Place) (len : ℕ) → s ≡ CopyBytes from to len → ⊥) → CanMake k (after steps v) s
+  pub can-walk : (request : Asked) → IsCopy request → (held : HeldPins) (steps : List Moment) (s : Step) → IsWalk k (path c caller request) v steps → HasTaken k (last_first held) v (view_after steps v) → AreOfRun k (last_first held)
+      → Rests c caller request held (all_shown steps) (Makes s) → ((from to : Place) (len : ℕ) → s ≡ CopyBytes from to len → ⊥) → CanMake k (view_after steps v) s
   can-walk request copies held steps (LookHeader d) walk x all r other = named-run c k caller v knows d r.1
   can-walk request copies held steps (LookControl d q) walk x all r other = by r.1
     where
-      by : (IsNamed c d × HasSeenTable (path c caller request) d q (shown steps)) ⊎ ((d ≡ caller) × (q.0 < size_of c.header)) → HasDomain k d × (q.0 < TABLE_ENTRIES)
+      by : (IsNamed c d × HasSeenTable (path c caller request) d q (all_shown steps)) ⊎ ((d ≡ caller) × (q.0 < size_of c.header)) → HasDomain k d × (q.0 < TABLE_ENTRIES)
       by (inl y) = (named-run c k caller v knows d y.0, in-seen-table k (path c caller request) v steps d q walk y.1)
       by (inr y) = (own-of-run k v caller d knows.named knows.inside y.0, in-own c k caller v knows q.0 y.1)
   can-walk request copies held steps (LookBody d q half) walk x all r other = (named-run c k caller v knows d r.1.0, in-seen-table k (path c caller request) v steps d q walk r.1.1)
   can-walk request copies held steps (Pin p) walk x all r other = let t = tries-pin request copies held steps p walk x all r.1 in (t.run, t.inside, t.can)
   can-walk request copies held steps (Unpin p (ByHandle handle)) walk x all r other = absurd (subst (λ (y : Asked). IsCopy y) r.1.0 copies)
   can-walk request copies held steps (Unpin p (ByLeg place)) walk x all r other =
-      let w = after steps v in let x1 : HasTaken k (p ∷ r.1.others) v w = subst (λ (ps : List Held). HasTaken k ps v w) r.1.held x in let a1 : AreOfRun k (p ∷ r.1.others) = subst (λ (ps : List Held). AreOfRun k ps) r.1.held all in
+      let w = view_after steps v in let x1 : HasTaken k (p ∷ r.1.others) v w = subst (λ (ps : List Held). HasTaken k ps v w) r.1.held x in let a1 : AreOfRun k (p ∷ r.1.others) = subst (λ (ps : List Held). AreOfRun k ps) r.1.held all in
       (a1.0.0, a1.0.1, holds-taken k (p ∷ r.1.others) v w p x1 (inl refl))
   can-walk request copies held steps (StoreBody q FirstHalf n) walk x all r other = absurd (subst (λ (y : Asked). IsCopy y) r.1.1 copies)
   can-walk request copies held steps (StoreBody q SecondHalf n) walk x all r other = absurd (subst (λ (y : Asked). IsCopy y) r.1.1 copies)
   can-walk request copies held steps (StoreHeader version frames) walk x all r other = by r.1
     where
-      by : ((request ≡ asks.SetVersion version) × (frames ≡ c.header.frames)) ⊎ ((request ≡ asks.SetupTable frames) × (version ≡ c.header.version)) → CanMake k (after steps v) (StoreHeader version frames)
+      by : ((request ≡ asks.SetVersion version) × (frames ≡ c.header.frames)) ⊎ ((request ≡ asks.SetupTable frames) × (version ≡ c.header.version)) → CanMake k (view_after steps v) (StoreHeader version frames)
       by (inl y) = absurd (subst (λ (z : Asked). IsCopy z) y.0 copies)
       by (inr y) = absurd (subst (λ (z : Asked). IsCopy z) y.0 copies)
   can-walk request copies held steps (Exchange q looked (Publish e)) walk x all r other = absurd (subst (λ (y : Asked). IsCopy y) r.1.0 copies)

@@ -38,9 +38,10 @@ use Rattle.gt_calls.specs.declared.leg.Leg.{Leg}
 use Rattle.gt_calls.specs.declared.request.Holder.TheVariants.{Mapping as ByHandle}
 use Rattle.gt_calls.specs.Rules.{CallerKnowledge, begun, first_look, is_kind, first_body, second_body}
 use Rattle.gt_calls.specs.Path.{Continuation, AfterRefusal, AfterPin, after_beginning, at_first_look, by_mapping, ended}
-use Rattle.gt_calls.specs.Path.{entry_refusal, exchanges, exchanges_once, grants, held_of, idle_word, is_stopped}
+use Rattle.gt_calls.specs.Path.{entry_refusal, exchanges, exchanges_once, grant_path, held_of, idle_word, is_stopped}
 use Rattle.gt_calls.specs.Path.{last_step, leg, looks, looks_again, makes, map_leg, path, pins, publishes, reads_body}
-use Rattle.gt_calls.specs.Path.{reads_second, refused_at, refused_holding, rule_of_try, steps_of, stores_second, told}
+use Rattle.gt_calls.specs.Path.{reads_second, refused_at, refused_holding, rule_of_try, steps_of, stores_second}
+use Rattle.gt_calls.specs.Path.{told_to}
 use Rattle.gt_calls.specs.Path.{tries, try_pin, turn, turns}
 use Rattle.gt_live.specs.declared.driving.Effect.{Effect}
 use Rattle.gt_live.specs.declared.driving.Effect.TheVariants as effects
@@ -321,7 +322,7 @@ module _ (caller : DomId) where
       makes-sound OkOrRefused (StoreBody gref half word) (publishes k caller gref entry)
       (then-step (StoreBody gref half word) Nothing (publishes k caller gref entry) (Exchange gref (idle_word k gref) (Publish entry)) refl refl) (once-sound gref (idle_word k gref) (Publish entry))
 
-  grants-sound : (k : CallerKnowledge) (gref : GrantRef) (entry : Entry) → Sound OkOrRefused (grants k caller gref entry)
+  grants-sound : (k : CallerKnowledge) (gref : GrantRef) (entry : Entry) → Sound OkOrRefused (grant_path k caller gref entry)
   grants-sound k gref Invalid = store-sound k gref Invalid First (first_body Invalid)
   grants-sound k gref (Page dom ro frame) = store-sound k gref (Page dom ro frame) First (first_body (Page dom ro frame))
   grants-sound k gref (Via dom ro dom2 r) = store-sound k gref (Via dom ro dom2 r) First (first_body (Via dom ro dom2 r))
@@ -398,10 +399,10 @@ module _ (caller : DomId) where
         makes-sound (IsAnswerTo (asks.SetupTable frames)) step (ended answer) (first-is step Nothing (ended answer) (Done answer) refl (tt, tt)) (ended-sound (IsAnswerTo (asks.SetupTable frames)) answer tt)
     steps-sound (asks.QuerySize dom) w =
         let step = LookHeader (resolved caller dom) in
-        looks-sound (IsAnswerTo (asks.QuerySize dom)) step (λ word. ended (told Size word)) (λ n. first-is step (Word n) (ended (told Size n)) (Done (told Size n)) refl (tt, tt)) (λ n. ended-sound (IsAnswerTo (asks.QuerySize dom)) (told Size n) tt)
+        looks-sound (IsAnswerTo (asks.QuerySize dom)) step (λ word. ended (told_to Size word)) (λ n. first-is step (Word n) (ended (told_to Size n)) (Done (told_to Size n)) refl (tt, tt)) (λ n. ended-sound (IsAnswerTo (asks.QuerySize dom)) (told_to Size n) tt)
     steps-sound (asks.GetVersion dom) w =
         let step = LookHeader (resolved caller dom) in
-        looks-sound (IsAnswerTo (asks.GetVersion dom)) step (λ word. ended (told Version word)) (λ n. first-is step (Word n) (ended (told Version n)) (Done (told Version n)) refl (tt, tt)) (λ n. ended-sound (IsAnswerTo (asks.GetVersion dom)) (told Version n) tt)
+        looks-sound (IsAnswerTo (asks.GetVersion dom)) step (λ word. ended (told_to Version word)) (λ n. first-is step (Word n) (ended (told_to Version n)) (Done (told_to Version n)) refl (tt, tt)) (λ n. ended-sound (IsAnswerTo (asks.GetVersion dom)) (told_to Version n) tt)
     steps-sound (asks.Load handle off len) w = absurd w
     steps-sound (asks.Store handle off len) w = absurd w
     steps-sound (asks.Peek frame off len) w = absurd w

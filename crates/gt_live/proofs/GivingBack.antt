@@ -27,7 +27,7 @@ use Rattle.gt_live.specs.Copies.{CanGiveBack, IsGivenBack}
 use Rattle.gt_live.specs.Driving.{CanMake}
 use Rattle.gt_live.specs.Phases.{CanRun, Runs}
 use Rattle.gt_live.specs.Underway.{AreOfRun, GivesBack, HasTaken}
-use Rattle.gt_live.specs.Walks.{IsWalk, Made, MakesStep, after, shown, shown_by}
+use Rattle.gt_live.specs.Walks.{IsWalk, Made, MakesStep, view_after, all_shown, shown_by}
 use Rattle.gt_live.proofs.Making.{made-gains}
 use Rattle.gt_live.proofs.Phases.{can-then, runs-none, runs-on}
 use Rattle.gt_live.proofs.Taking.{holds-taken, taken-unpin}
@@ -35,34 +35,34 @@ use Rattle.gt_live.proofs.Taking.{holds-taken, taken-unpin}
 -- pins of all of these are being given back, and these are left
 record Giving (k : Layout) (all : List Held) (v w : View) (left : List Held) : Type 0 where
   steps : List _
-  view : w ≡ after steps v
+  view : w ≡ view_after steps v
   walked : IsWalk k (give_back all Granted) v steps
-  leads : (vs : List Seen) → give_back all Granted (shown steps ++ vs) ≡ give_back left Granted vs
+  leads : (vs : List Seen) → give_back all Granted (all_shown steps ++ vs) ≡ give_back left Granted vs
 
 module _ (k : Layout) where
   giving-on : (all : List Held) (v u w : View) (p : Held) (left : List Held) → Giving k all v u (p ∷ left)
       → Made k (Unpin p (ByLeg 0)) Nothing u w → Giving k all v w left
   giving-on all v u w p left g made =
       let s = Unpin p (ByLeg (length left)) in let way : Continuation = give_back all Granted in
-      let mid = after g.steps v in
+      let mid = view_after g.steps v in
       let m1 : Made k s Nothing mid w = subst (λ (z : View). Made k s Nothing z w) g.view made in
       let gain = made-gains k s Nothing mid w m1 in
-      let view : w ≡ after (gain.step ∷ g.steps) v = gain.view in
-      let next : way (shown g.steps) ≡ Some (Makes s) = ap way (sym (append-nil (shown g.steps))) ∙ g.leads [] in
-      let m2 : Made k s (shown_by gain.step) mid (after (gain.step ∷ g.steps) v) =
+      let view : w ≡ view_after (gain.step ∷ g.steps) v = gain.view in
+      let next : way (all_shown g.steps) ≡ Some (Makes s) = ap way (sym (append-nil (all_shown g.steps))) ∙ g.leads [] in
+      let m2 : Made k s (shown_by gain.step) mid (view_after (gain.step ∷ g.steps) v) =
       subst (λ (z : View). Made k s (shown_by gain.step) mid z) view
       (subst (λ (y : Seen). Made k s y mid w) (sym gain.shows) m1) in
       record {
         steps = gain.step ∷ g.steps;
         view = view;
         walked = (
-          subst (λ (o : Option Action). MakesStep k o (shown_by gain.step) mid (after (gain.step ∷ g.steps) v))
+          subst (λ (o : Option Action). MakesStep k o (shown_by gain.step) mid (view_after (gain.step ∷ g.steps) v))
               (sym next) m2,
           g.walked,
         );
         leads = λ vs.
-            ap (λ (y : Seen). way ((shown g.steps ++ y ∷ []) ++ vs)) gain.shows
-            ∙ (ap way (append_assoc (shown g.steps) (Nothing ∷ []) vs) ∙ g.leads (Nothing ∷ vs));
+            ap (λ (y : Seen). way ((all_shown g.steps ++ y ∷ []) ++ vs)) gain.shows
+            ∙ (ap way (append_assoc (all_shown g.steps) (Nothing ∷ []) vs) ∙ g.leads (Nothing ∷ vs));
       }
 
   giving-all : (all : List Held) (v u w : View) (left : List Held) → Giving k all v u left → IsGivenBack k left u w
@@ -91,7 +91,7 @@ module _ (k : Layout) where
         steps = g.steps;
         view = g.view;
         walked = g.walked;
-        ended = ap (give_back all Granted) (sym (append-nil (shown g.steps))) ∙ g.leads [];
+        ended = ap (give_back all Granted) (sym (append-nil (all_shown g.steps))) ∙ g.leads [];
         back = λ base taken. given-taken all [] base v w x
             (subst (λ (ps : List Held). HasTaken k ps base v) (sym (append-nil all)) taken);
       }

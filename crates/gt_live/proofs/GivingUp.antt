@@ -29,7 +29,7 @@ use Rattle.gt_entry.specs.Bytes.{first_refused}
 use Rattle.gt_entry.specs.Spelling.{entry_of}
 use Rattle.gt_entry.specs.Words.{control_of, header_of, is_kind, pins_of, size_of}
 use Rattle.gt_types.specs.declared.limits.TheConstants.{LAST_GENERATION}
-use Rattle.gt_words.specs.History.{History, Moment}
+use Rattle.gt_words.specs.History.{StepHistory, Moment}
 use Rattle.gt_words.specs.Rule.{Layout, position_in}
 use Rattle.gt_words.specs.Steps.{on_entry, on_header}
 use Rattle.gt_words.specs.Views.{with_step}
@@ -66,16 +66,16 @@ use Rattle.gt_calls.specs.Asking.{asked, begun_by, begun_of, bytes_of, field_ref
 use Rattle.gt_calls.specs.Holding.{held_by}
 use Rattle.gt_calls.specs.Path.{AfterPin, AfterRefusal, Continuation, accesses, after_beginning, after_first}
 use Rattle.gt_calls.specs.Path.{asks as asks_of, at_first_look, beyond, by_mapping, copies, dest_pair, end_leg, ended}
-use Rattle.gt_calls.specs.Path.{entry_refusal, exchanges, exchanges_once, give_back, grants, held_of, is_stopped}
+use Rattle.gt_calls.specs.Path.{entry_refusal, exchanges, exchanges_once, give_back, grant_path, held_of, is_stopped}
 use Rattle.gt_calls.specs.Path.{last_step, leg, looks, looks_again, makes, map_leg, path_of, pins, publishes, reaches}
 use Rattle.gt_calls.specs.Path.{reads_body, reads_second, refused_at, refused_holding, rule_of_try, second_leg}
-use Rattle.gt_calls.specs.Path.{source_pair, steps_of, stores_second, to_dest, told, tries, try_pin, turn, turns}
+use Rattle.gt_calls.specs.Path.{source_pair, steps_of, stores_second, to_dest, told_to, tries, try_pin, turn, turns}
 use Rattle.gt_calls.specs.Path.{unless_refused}
 use Rattle.gt_calls.specs.Rules.{CallerKnowledge, before_pin, begun, copy_denied, denied, first, first_look}
 use Rattle.gt_calls.specs.Rules.{is_dest_granted, is_source_granted, refused_when, stands, via_judged, is_invalid}
 use Rattle.gt_live.specs.Tries.{AreReads, AreUnpins, BeginsTries, FourTriesWereMissed, FoundAnother, GaveUp}
 use Rattle.gt_live.specs.Tries.{IsMissedTry, MissedTries, in_order}
-use Rattle.gt_live.specs.Walks.{Called, IsWalk, Made, MakesStep, after, shown, shown_by, shown_in}
+use Rattle.gt_live.specs.Walks.{Called, IsWalk, Made, MakesStep, view_after, all_shown, shown_by, seen_in_step}
 use Rattle.gt_live.proofs.Walking.{after-position}
 
 -- lists
@@ -83,11 +83,11 @@ append-none : {A : Type 0} (xs : List A) → xs ++ [] ≡ xs
 append-none [] = refl
 append-none (x ∷ xs) = ap (λ (zs : List _). x ∷ zs) (append-none xs)
 
-map-snoc : (xs : List SeatStep) (x : SeatStep) → map shown_in (xs ++ x ∷ []) ≡ map shown_in xs ++ shown_in x ∷ []
+map-snoc : (xs : List SeatStep) (x : SeatStep) → map seen_in_step (xs ++ x ∷ []) ≡ map seen_in_step xs ++ seen_in_step x ∷ []
 map-snoc [] x = refl
-map-snoc (y ∷ ys) x = ap (λ (zs : List Seen). shown_in y ∷ zs) (map-snoc ys x)
+map-snoc (y ∷ ys) x = ap (λ (zs : List Seen). seen_in_step y ∷ zs) (map-snoc ys x)
 
-shown-in-order : (xs : List Moment) → shown xs ≡ map shown_in (in_order xs)
+shown-in-order : (xs : List Moment) → all_shown xs ≡ map seen_in_step (in_order xs)
 shown-in-order [] = refl
 shown-in-order (x ∷ xs) = ap (λ (zs : List Seen). zs ++ shown_by x ∷ []) (shown-in-order xs) ∙ sym (map-snoc (in_order xs) x.1)
 
@@ -150,8 +150,8 @@ module _ (k : Layout) (p : ℕ) where
   Is (WriteBytes dom frame off len) x = ⊥
   Is (CopyBytes from to len) x = ⊥
 
-  module _ (v w : View) (at : v.position ≡ p) (past : History) (x : SeatStep) (view : w ≡ with_step past x v) where
-    same : (y : SeatStep) (g : History) → w ≡ with_step g y v → x ≡ y
+  module _ (v w : View) (at : v.position ≡ p) (past : StepHistory) (x : SeatStep) (view : w ≡ with_step past x v) where
+    same : (y : SeatStep) (g : StepHistory) → w ≡ with_step g y v → x ≡ y
     same y g e = ap (λ (u : View). first_step x u.steps) (sym view ∙ e)
 
     own : (q : ℕ) (m : EntryStep) → x ≡ on_entry v.position q m → x ≡ on_entry p q m
@@ -186,20 +186,20 @@ module _ (k : Layout) (p : ℕ) where
 
   abbrev Goes : Continuation → List SeatStep → Type 0
   Goes way [] = Unit {0}
-  Goes way (x ∷ xs) = IsNext (way []) x × Goes (λ vs. way (shown_in x ∷ vs)) xs
+  Goes way (x ∷ xs) = IsNext (way []) x × Goes (λ vs. way (seen_in_step x ∷ vs)) xs
 
-  goes-more : (way : Continuation) (ys : List SeatStep) (x : SeatStep) → Goes way ys → IsNext (way (map shown_in ys)) x → Goes way (ys ++ x ∷ [])
+  goes-more : (way : Continuation) (ys : List SeatStep) (x : SeatStep) → Goes way ys → IsNext (way (map seen_in_step ys)) x → Goes way (ys ++ x ∷ [])
   goes-more way [] x g next = (next, tt)
-  goes-more way (y ∷ ys) x g next = (g.0, goes-more (λ vs. way (shown_in y ∷ vs)) ys x g.1 next)
+  goes-more way (y ∷ ys) x g next = (g.0, goes-more (λ vs. way (seen_in_step y ∷ vs)) ys x g.1 next)
 
   goes : (way : Continuation) (v : View) (xs : List Moment) → v.position ≡ p → IsWalk k way v xs → Goes way (in_order xs)
   goes way v [] at walk = tt
   goes way v (x ∷ xs) at walk =
-      let next : IsNext (way (map shown_in (in_order xs))) x.1 = subst (λ (zs : List Seen). IsNext (way zs) x.1) (shown-in-order xs) (by (way (shown xs)) walk.0) in
+      let next : IsNext (way (map seen_in_step (in_order xs))) x.1 = subst (λ (zs : List Seen). IsNext (way zs) x.1) (shown-in-order xs) (by (way (all_shown xs)) walk.0) in
       goes-more way (in_order xs) x.1 (goes way v xs at walk.1) next
     where
-      by : (o : Option Action) → MakesStep k o (shown_by x) (after xs v) (after (x ∷ xs) v) → IsNext o x.1
-      by (Some (Makes s)) m = made-is (after xs v) (after (x ∷ xs) v) (after-position xs v ∙ at) x.0 x.1 refl s (shown_by x) m
+      by : (o : Option Action) → MakesStep k o (shown_by x) (view_after xs v) (view_after (x ∷ xs) v) → IsNext o x.1
+      by (Some (Makes s)) m = made-is (view_after xs v) (view_after (x ∷ xs) v) (after-position xs v ∙ at) x.0 x.1 refl s (shown_by x) m
       by (Some (Done verdict)) m = absurd m
       by None m = absurd m
 
@@ -207,7 +207,7 @@ module _ (k : Layout) (p : ℕ) where
   module _ (d : Denial) (is18 : d.rule ≡ N18) where
     -- these are the steps of this way, which ends so
     abbrev Ends : Continuation → List SeatStep → Type 0
-    Ends way ys = Goes way ys × (way (map shown_in ys) ≡ Some (Done (Refused d)))
+    Ends way ys = Goes way ys × (way (map seen_in_step ys) ≡ Some (Done (Refused d)))
 
     no-end : (s : Step) → Some (Makes s) ≡ Some (Done (Refused d)) → ⊥
     no-end s e = cc
@@ -227,15 +227,15 @@ module _ (k : Layout) (p : ℕ) where
 
     -- the combinators of a way
 
-    looks-on : (step : Step) (follows : ℕ → Continuation) (shape : ℕ → SeatStep) → ((x : SeatStep) → Is step x → (n : ℕ) × (x ≡ shape n)) → ((n : ℕ) → shown_in (shape n) ≡ Word n) → (ys : List SeatStep) → Ends (looks step follows) ys
+    looks-on : (step : Step) (follows : ℕ → Continuation) (shape : ℕ → SeatStep) → ((x : SeatStep) → Is step x → (n : ℕ) × (x ≡ shape n)) → ((n : ℕ) → seen_in_step (shape n) ≡ Word n) → (ys : List SeatStep) → Ends (looks step follows) ys
         → (n : ℕ) × (zs : List SeatStep) × (ys ≡ shape n ∷ zs) × Ends (follows n) zs
     looks-on step follows shape look shows [] e = absurd (no-end step e.1)
-    looks-on step follows shape look shows (x ∷ zs) e = let is = look x e.0.0 in let word = ap shown_in is.1 ∙ shows is.0 in
-        (is.0, zs, (λ i. is.1 i ∷ zs), subst (λ (s : Seen). Goes (λ vs. looks step follows (s ∷ vs)) zs × (looks step follows (s ∷ map shown_in zs) ≡ Some (Done (Refused d)))) word (e.0.1, e.1))
+    looks-on step follows shape look shows (x ∷ zs) e = let is = look x e.0.0 in let word = ap seen_in_step is.1 ∙ shows is.0 in
+        (is.0, zs, (λ i. is.1 i ∷ zs), subst (λ (s : Seen). Goes (λ vs. looks step follows (s ∷ vs)) zs × (looks step follows (s ∷ map seen_in_step zs) ≡ Some (Done (Refused d)))) word (e.0.1, e.1))
 
     -- a way that never ends so
     abbrev Never : Continuation → Type 0
-    Never way = (ys : List SeatStep) → way (map shown_in ys) ≡ Some (Done (Refused d)) → ⊥
+    Never way = (ys : List SeatStep) → way (map seen_in_step ys) ≡ Some (Done (Refused d)) → ⊥
 
     never-ended : (verdict : Verdict) → (verdict ≡ Refused d → ⊥) → Never (ended verdict)
     never-ended verdict n [] e = n (is-refused verdict e)
@@ -246,9 +246,9 @@ module _ (k : Layout) (p : ℕ) where
 
     never-makes : (step : Step) (follows : Continuation) → Never follows → Never (makes step follows)
     never-makes step follows n [] e = no-end step e
-    never-makes step follows n (x ∷ xs) e = by (shown_in x) e
+    never-makes step follows n (x ∷ xs) e = by (seen_in_step x) e
       where
-        by : (s : Seen) → makes step follows (s ∷ map shown_in xs) ≡ Some (Done (Refused d)) → ⊥
+        by : (s : Seen) → makes step follows (s ∷ map seen_in_step xs) ≡ Some (Done (Refused d)) → ⊥
         by Nothing q = n xs q
         by (Word w) q = none-ends q
         by Taken q = none-ends q
@@ -256,9 +256,9 @@ module _ (k : Layout) (p : ℕ) where
 
     never-looks : (step : Step) (follows : ℕ → Continuation) → ((w : ℕ) → Never (follows w)) → Never (looks step follows)
     never-looks step follows n [] e = no-end step e
-    never-looks step follows n (x ∷ xs) e = by (shown_in x) e
+    never-looks step follows n (x ∷ xs) e = by (seen_in_step x) e
       where
-        by : (s : Seen) → looks step follows (s ∷ map shown_in xs) ≡ Some (Done (Refused d)) → ⊥
+        by : (s : Seen) → looks step follows (s ∷ map seen_in_step xs) ≡ Some (Done (Refused d)) → ⊥
         by (Word w) q = n w xs q
         by Nothing q = none-ends q
         by Taken q = none-ends q
@@ -266,13 +266,13 @@ module _ (k : Layout) (p : ℕ) where
 
     never-exchanges : (step : Step) (looked : ℕ) (taken : Continuation) (missed : ℕ → Continuation) → Never taken → ((w : ℕ) → Never (missed w)) → Never (exchanges step looked taken missed)
     never-exchanges step looked taken missed n m [] e = no-end step e
-    never-exchanges step looked taken missed n m (x ∷ xs) e = by (shown_in x) e
+    never-exchanges step looked taken missed n m (x ∷ xs) e = by (seen_in_step x) e
       where
-        either-way : (w : ℕ) (b : Bool) → (if b then None else missed w (map shown_in xs)) ≡ Some (Done (Refused d)) → ⊥
+        either-way : (w : ℕ) (b : Bool) → (if b then None else missed w (map seen_in_step xs)) ≡ Some (Done (Refused d)) → ⊥
         either-way w true q = none-ends q
         either-way w false q = m w xs q
 
-        by : (s : Seen) → exchanges step looked taken missed (s ∷ map shown_in xs) ≡ Some (Done (Refused d)) → ⊥
+        by : (s : Seen) → exchanges step looked taken missed (s ∷ map seen_in_step xs) ≡ Some (Done (Refused d)) → ⊥
         by Taken q = n xs q
         by (Missed w) q = either-way w (w == looked) q
         by Nothing q = none-ends q
@@ -291,8 +291,8 @@ module _ (k : Layout) (p : ℕ) where
     gives-back [] verdict (y ∷ ys) e = absurd (none-ends e.1)
     gives-back (h ∷ hs) verdict [] e = absurd (no-end (Unpin h (ByLeg (length hs))) e.1)
     gives-back (h ∷ hs) verdict (y ∷ ys) e =
-        let is = e.0.0 in let none : shown_in y ≡ Nothing = ap shown_in is.1 in
-        let rest = gives-back hs verdict ys (subst (λ (s : Seen). Goes (λ vs. give_back (h ∷ hs) verdict (s ∷ vs)) ys × (give_back (h ∷ hs) verdict (s ∷ map shown_in ys) ≡ Some (Done (Refused d)))) none (e.0.1, e.1)) in
+        let is = e.0.0 in let none : seen_in_step y ≡ Nothing = ap seen_in_step is.1 in
+        let rest = gives-back hs verdict ys (subst (λ (s : Seen). Goes (λ vs. give_back (h ∷ hs) verdict (s ∷ vs)) ys × (give_back (h ∷ hs) verdict (s ∷ map seen_in_step ys) ≡ Some (Done (Refused d)))) none (e.0.1, e.1)) in
         (rest.0, ((position_in k.ids h.dom, h.gref.0, is.0, h.dir, is.1), rest.1))
 
     -- a refusal gives all pins back
@@ -410,17 +410,17 @@ module _ (k : Layout) (p : ℕ) where
         last-found looked reads bodies h word dom gref None n (x ∷ xs) e = ⊎_elim taken missed-pin e.0.0
           where
             Way : Seen → Type 0
-            Way s = Goes (λ vs. pins h missed pinned (s ∷ vs)) xs × (pins h missed pinned (s ∷ map shown_in xs) ≡ Some (Done (Refused d)))
+            Way s = Goes (λ vs. pins h missed pinned (s ∷ vs)) xs × (pins h missed pinned (s ∷ map seen_in_step xs) ≡ Some (Done (Refused d)))
 
             taken : (y : EntryRecord) × (x ≡ on_entry (position_in k.ids h.dom) h.gref.0 (Pinned h.dir h.word y)) → After (on_entry t r (Looked looked) ∷ (reads ++ x ∷ xs))
-            taken is = inr (later (on_entry t r (Looked looked) ∷ reads) (x ∷ xs) (later (x ∷ []) xs (on h xs (subst Way (ap shown_in is.1) (e.0.1, e.1)))))
+            taken is = inr (later (on_entry t r (Looked looked) ∷ reads) (x ∷ xs) (later (x ∷ []) xs (on h xs (subst Way (ap seen_in_step is.1) (e.0.1, e.1)))))
 
             missed-pin : (f : ℕ) × (n : ℕ) × (x ≡ on_entry (position_in k.ids h.dom) h.gref.0 (PinMissed h.dir h.word f n)) × (n ≢ h.word) → After (on_entry t r (Looked looked) ∷ (reads ++ x ∷ xs))
-            missed-pin is = let found : ℕ = is.1 in let w = subst Way (ap shown_in is.2) (e.0.1, e.1) in
+            missed-pin is = let found : ℕ = is.1 in let w = subst Way (ap seen_in_step is.2) (e.0.1, e.1) in
                 let here : x ≡ on_entry t r (PinMissed h.dir h.word is.0 found) = is.2 ∙ (λ i. on_entry (position_in k.ids (dom i)) (gref i).0 (PinMissed h.dir h.word is.0 found)) in
                 subst (λ (y : SeatStep). After (on_entry t r (Looked looked) ∷ (reads ++ y ∷ xs))) (sym here)
                 (ends-missed looked reads bodies (PinMissed h.dir h.word is.0 found) found xs (word, refl, λ q. is.3 (q ∙ sym word))
-                (subst (λ (b : Bool). Goes (λ vs. if b then None else missed found vs) xs × ((if b then None else missed found (map shown_in xs)) ≡ Some (Done (Refused d)))) (ne_eqb found h.word is.3) w))
+                (subst (λ (b : Bool). Goes (λ vs. if b then None else missed found vs) xs × ((if b then None else missed found (map seen_in_step xs)) ≡ Some (Done (Refused d)))) (ne_eqb found h.word is.3) w))
         last-found looked reads bodies h word dom gref (Some rule) n ys e =
             let on_look = looks-on (LookControl l.dom l.gref) (λ found. if found == h.word then refused (entry_refusal l.dom l.gref rule h.word) else missed found) (λ m. on_entry t r (Looked m)) (λ x is. is) (λ m. refl) ys e in
             by on_look.0 on_look.1 on_look.2 (on_look.0 == h.word) refl on_look.3
@@ -518,13 +518,13 @@ module _ (k : Layout) (p : ℕ) where
         where
           exchange : (word : ℕ) (zs : List SeatStep) → Ends (exchanges (Exchange gref word change) word (ended Granted) missed) zs → OneMissed at gref.0 missed (on_entry at gref.0 (Looked word) ∷ zs)
           exchange word [] f = absurd (no-end (Exchange gref word change) f.1)
-          exchange word (x ∷ xs) f = ⊎_elim (λ (is : (n : ℕ) × (y : EntryRecord) × (x ≡ on_entry p gref.0 (Changed change word n y))). absurd (never-ended Granted granted-never xs (subst Way (ap shown_in is.2) (f.0.1, f.1)).1)) another f.0.0
+          exchange word (x ∷ xs) f = ⊎_elim (λ (is : (n : ℕ) × (y : EntryRecord) × (x ≡ on_entry p gref.0 (Changed change word n y))). absurd (never-ended Granted granted-never xs (subst Way (ap seen_in_step is.2) (f.0.1, f.1)).1)) another f.0.0
             where
               Way : Seen → Type 0
-              Way s = Goes (λ vs. exchanges (Exchange gref word change) word (ended Granted) missed (s ∷ vs)) xs × (exchanges (Exchange gref word change) word (ended Granted) missed (s ∷ map shown_in xs) ≡ Some (Done (Refused d)))
+              Way s = Goes (λ vs. exchanges (Exchange gref word change) word (ended Granted) missed (s ∷ vs)) xs × (exchanges (Exchange gref word change) word (ended Granted) missed (s ∷ map seen_in_step xs) ≡ Some (Done (Refused d)))
 
               another : (g : ℕ) × (n : ℕ) × (x ≡ on_entry p gref.0 (ChangeMissed change word g n)) × (n ≢ word) → OneMissed at gref.0 missed (on_entry at gref.0 (Looked word) ∷ (x ∷ xs))
-              another is = let found : ℕ = is.1 in let w = subst Way (ap shown_in is.2) (f.0.1, f.1) in let m : EntryStep = ChangeMissed change word is.0 found in
+              another is = let found : ℕ = is.1 in let w = subst Way (ap seen_in_step is.2) (f.0.1, f.1) in let m : EntryStep = ChangeMissed change word is.0 found in
                   let here : x ≡ on_entry at gref.0 m = is.2 ∙ ap (λ (t : ℕ). on_entry t gref.0 m) stands in
                   subst (λ (y : SeatStep). OneMissed at gref.0 missed (on_entry at gref.0 (Looked word) ∷ (y ∷ xs))) (sym here) (
                     found,
@@ -532,7 +532,7 @@ module _ (k : Layout) (p : ℕ) where
                     xs,
                     refl,
                     record { looked = word; reads = []; last = m; made = refl; bodies = tt; another = (refl, refl, is.3) },
-                    subst (λ (b : Bool). Goes (λ vs. if b then None else missed found vs) xs × ((if b then None else missed found (map shown_in xs)) ≡ Some (Done (Refused d)))) (ne_eqb found word is.3) w,
+                    subst (λ (b : Bool). Goes (λ vs. if b then None else missed found vs) xs × ((if b then None else missed found (map seen_in_step xs)) ≡ Some (Done (Refused d)))) (ne_eqb found word is.3) w,
                   )
 
           by : (word : ℕ) (zs : List SeatStep) (b : Bool) → Ends (if b then refused_at caller gref N19 word else exchanges (Exchange gref word change) word (ended Granted) missed) zs → OneMissed at gref.0 missed (on_entry at gref.0 (Looked word) ∷ zs)

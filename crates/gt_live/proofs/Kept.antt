@@ -18,7 +18,7 @@ use Rattle.gt_words.specs.Answers.{Unpins}
 use Rattle.gt_words.specs.Keeping.{Holds, KeepsPins, held}
 use Rattle.gt_words.specs.Steps.{changed as becomes}
 use Rattle.gt_words.specs.Rule.{Layout, id_at, position_in}
-use Rattle.gt_words.specs.Views.{IsIn, LivePin, is_pin, is_same_dir, last_of, pins, pins_like, steps_on}
+use Rattle.gt_words.specs.Views.{IsAmong, LivePin, is_pin, is_same_dir, last_of, live_pins, pins_like, steps_on}
 use Rattle.gt_words.specs.declared.view.EntryRecord.{EntryRecord}
 use Rattle.gt_words.specs.declared.view.View.{View}
 use Rattle.gt_handles.specs.declared.handles.Handle.{Handle}
@@ -29,11 +29,11 @@ use Rattle.gt_handles.specs.Listing.{IsInserted, IsTaken, has_passing}
 use Rattle.gt_calls.specs.declared.held.Held.{Held}
 use Rattle.gt_calls.specs.declared.known.Own.{Own}
 use Rattle.gt_calls.specs.declared.request.Asked.{Asked}
-use Rattle.gt_calls.specs.Rules.{entry_in, generation_in, row_entry, row_generation}
+use Rattle.gt_calls.specs.Rules.{entry_in, own_generation, row_entry, row_generation}
 use Rattle.gt_live.specs.declared.domain.Domain.{Domain}
 use Rattle.gt_live.specs.Domains.{IsDomainOf, AllowRelation, knowledge}
 use Rattle.gt_live.specs.Driving.{ChangesBy, IsSame, MapsBy}
-use Rattle.gt_live.specs.Mappings.{IsMappingOf, PinsAreOf, is_mapping_of, record_of}
+use Rattle.gt_live.specs.Mappings.{IsMappingOf, PinsAreOf, is_mapping_of, entry_record_of}
 use Rattle.gt_live.specs.Rows.{row_changed}
 use Rattle.gt_live.proofs.Counting.{count-cons, counted, dir-self}
 use Rattle.gt_live.proofs.Making.{still_seat}
@@ -77,7 +77,7 @@ some-pins k v kept all h m e =
 
 -- a mapping whose pin is held in another view is one still
 moved : (k : Layout) (ds : List DomainConfig) (may : AllowRelation) (dom dom' : DomId) (v w : View) (m : Held) → dom' ≡ dom
-    → (IsIn (m.dir, record_of m) (pins (steps_on (position_in k.ids m.dom) m.gref.0 v)) → IsIn (m.dir, record_of m) (pins (steps_on (position_in k.ids m.dom) m.gref.0 w)))
+    → (IsAmong (m.dir, entry_record_of m) (live_pins (steps_on (position_in k.ids m.dom) m.gref.0 v)) → IsAmong (m.dir, entry_record_of m) (live_pins (steps_on (position_in k.ids m.dom) m.gref.0 w)))
     → IsMappingOf k ds may dom v m → IsMappingOf k ds may dom' w m
 moved k ds may dom dom' v w m same on is =
     let here : IsMappingOf k ds may dom w m = record { pin = record { run = is.pin.run; inside = is.pin.inside; held = on is.pin.held }; permitted = is.permitted; in_frames = is.in_frames; allowed = is.allowed } in
@@ -95,14 +95,14 @@ looked-seat b s u is same = record {
   ids = same.ids ∙ is.ids;
 }
 
-same-rows : (c : Config) (os os' : List Own) (r : ℕ) → os' ≡ os → ◌≡◌ {A = EntryRecord} (record { generation = generation_in c.first_gen os r; entry = entry_in os r }) (record { generation = generation_in c.first_gen os' r; entry = entry_in os' r })
-same-rows c os os' r e = ap (λ (xs : List Own). record { generation = generation_in c.first_gen xs r; entry = entry_in xs r }) (sym e)
+same-rows : (c : Config) (os os' : List Own) (r : ℕ) → os' ≡ os → ◌≡◌ {A = EntryRecord} (record { generation = own_generation c.first_gen os r; entry = entry_in os r }) (record { generation = own_generation c.first_gen os' r; entry = entry_in os' r })
+same-rows c os os' r e = ap (λ (xs : List Own). record { generation = own_generation c.first_gen xs r; entry = entry_in xs r }) (sym e)
 
 -- where all pins are those of before
 same-mapped : (b : Board) (c : Config) (may : AllowRelation) (d e : Domain) → IsDomainOf b c may d → e.seat.dom ≡ d.seat.dom → e.mappings.slots ≡ d.mappings.slots → KeepsPins d.seat.view e.seat.view → (h : Handle) (m : Held) → value_of e.mappings h ≡ Some m
     → IsMappingOf b.layout c.domains.items may e.seat.dom e.seat.view m
 same-mapped b c may d e is dom slots same h m there =
-    moved b.layout c.domains.items may d.seat.dom e.seat.dom d.seat.view e.seat.view m dom (λ x. subst (λ (ps : List LivePin). IsIn (m.dir, record_of m) ps) (sym (same (position_in b.layout.ids m.dom) m.gref.0)) x)
+    moved b.layout c.domains.items may d.seat.dom e.seat.dom d.seat.view e.seat.view m dom (λ x. subst (λ (ps : List LivePin). IsAmong (m.dir, entry_record_of m) ps) (sym (same (position_in b.layout.ids m.dom) m.gref.0)) x)
     (is.mapped h m (sym (same-slots d.mappings e.mappings h slots) ∙ there))
 
 same-pins : (b : Board) (c : Config) (may : AllowRelation) (d e : Domain) → IsDomainOf b c may d → e.mappings.slots ≡ d.mappings.slots → KeepsPins d.seat.view e.seat.view → PinsAreOf b.layout e.seat.view e.mappings
@@ -114,7 +114,7 @@ pub looked : (b : Board) (c : Config) (may : AllowRelation) (d e : Domain) → I
 looked b c may d e is seat dom own slots same = record {
   seat = seat;
   rows = λ r lt. same.records r ∙ (is.rows r lt ∙ same-rows c d.own.items e.own.items r own);
-  generations = λ r lt. subst (λ (xs : List Own). generation_in c.first_gen xs r < 1048576) (sym own) (is.generations r lt);
+  generations = λ r lt. subst (λ (xs : List Own). own_generation c.first_gen xs r < 1048576) (sym own) (is.generations r lt);
   all_rows = ap (λ (xs : List Own). length xs) own ∙ is.all_rows;
   mapped = same-mapped b c may d e is dom slots same.pins;
   pins = same-pins b c may d e is slots same.pins;
@@ -126,35 +126,35 @@ pub changed : (b : Board) (c : Config) (may : AllowRelation) (d e : Domain) (req
 changed b c may d e request q ch is seat slots own x =
     let u = x.before in let w = e.seat.view in let os = row_changed d.own.items q ch in
     let same : KeepsPins d.seat.view w = λ t r. x.changes.pins t r ∙ x.same.pins t r in
-    let row : (r : ℕ) → r < TABLE_ENTRIES → (last_of r w ≡ record { generation = generation_in c.first_gen os r; entry = entry_in os r }) × (generation_in c.first_gen os r < 1048576) =
+    let row : (r : ℕ) → r < TABLE_ENTRIES → (last_of r w ≡ record { generation = own_generation c.first_gen os r; entry = entry_in os r }) × (own_generation c.first_gen os r < 1048576) =
     λ r lt. elim (cases_eq q r) [
       | inl e1 ↦
           let all = is.all_rows in let low = x.inside in let fresh = x.fresh in
           let o = row-there d.own.items q (omega (arith, all, low)) in
           let new = row-here d.own.items q o.0 ch o.1 in
-          let was : last_of q u ≡ record { generation = generation_in c.first_gen d.own.items q; entry = entry_in d.own.items q } = x.same.records q ∙ is.rows q low in
-          let same_gen : generation_in c.first_gen d.own.items q ≡ o.0.generation = ap (λ (y : Option Own). row_generation c.first_gen y) o.1 in
+          let was : last_of q u ≡ record { generation = own_generation c.first_gen d.own.items q; entry = entry_in d.own.items q } = x.same.records q ∙ is.rows q low in
+          let same_gen : own_generation c.first_gen d.own.items q ≡ o.0.generation = ap (λ (y : Option Own). row_generation c.first_gen y) o.1 in
           let same_entry : entry_in d.own.items q ≡ o.0.entry = ap row_entry o.1 in
-          let now : generation_in c.first_gen os q ≡ min (o.0.generation + raise_of ch) 1048575 = ap (λ (y : Option Own). row_generation c.first_gen y) new in
-          let up : generation_in c.first_gen d.own.items q + raise_of ch ≡ generation_in c.first_gen os q = omega (arith, same_gen, now, fresh) in
+          let now : own_generation c.first_gen os q ≡ min (o.0.generation + raise_of ch) 1048575 = ap (λ (y : Option Own). row_generation c.first_gen y) new in
+          let up : own_generation c.first_gen d.own.items q + raise_of ch ≡ own_generation c.first_gen os q = omega (arith, same_gen, now, fresh) in
           let ent : entry_in os q ≡ changed_entry ch (entry_in d.own.items q) = ap row_entry new ∙ ap (λ z. changed_entry ch z) (sym same_entry) in
-          let here : last_of q w ≡ record { generation = generation_in c.first_gen os q; entry = entry_in os q } =
+          let here : last_of q w ≡ record { generation = own_generation c.first_gen os q; entry = entry_in os q } =
           x.changes.last ∙ (ap (λ (y : EntryRecord). becomes ch y) was
-          ∙ (ap (λ n. record { generation = n; entry = changed_entry ch (entry_in d.own.items q) }) up ∙ ap (λ z. record { generation = generation_in c.first_gen os q; entry = z }) (sym ent))) in
-          subst (λ (n : ℕ). (last_of n w ≡ record { generation = generation_in c.first_gen os n; entry = entry_in os n }) × (generation_in c.first_gen os n < 1048576)) e1 (here, omega (arith, now))
+          ∙ (ap (λ n. record { generation = n; entry = changed_entry ch (entry_in d.own.items q) }) up ∙ ap (λ z. record { generation = own_generation c.first_gen os q; entry = z }) (sym ent))) in
+          subst (λ (n : ℕ). (last_of n w ≡ record { generation = own_generation c.first_gen os n; entry = entry_in os n }) × (own_generation c.first_gen os n < 1048576)) e1 (here, omega (arith, now))
       | inr ne ↦
           let other = row-other d.own.items q r ch ne in
-          let gen : generation_in c.first_gen os r ≡ generation_in c.first_gen d.own.items r = ap (λ (y : Option Own). row_generation c.first_gen y) other in
+          let gen : own_generation c.first_gen os r ≡ own_generation c.first_gen d.own.items r = ap (λ (y : Option Own). row_generation c.first_gen y) other in
           let ent : entry_in os r ≡ entry_in d.own.items r = ap row_entry other in (
             x.changes.rows.last r ne ∙ (x.same.records r ∙ (is.rows r lt
-                ∙ (ap (λ n. record { generation = n; entry = entry_in d.own.items r }) (sym gen) ∙ ap (λ z. record { generation = generation_in c.first_gen os r; entry = z }) (sym ent)))),
+                ∙ (ap (λ n. record { generation = n; entry = entry_in d.own.items r }) (sym gen) ∙ ap (λ z. record { generation = own_generation c.first_gen os r; entry = z }) (sym ent)))),
             (let few = is.generations r lt in omega (arith, few, gen)),
           )
     ] in
     record {
       seat = still_seat b d.seat e.seat is.seat seat;
       rows = λ r lt. (row r lt).0 ∙ same-rows c os e.own.items r own;
-      generations = λ r lt. subst (λ (xs : List Own). generation_in c.first_gen xs r < 1048576) (sym own) (row r lt).1;
+      generations = λ r lt. subst (λ (xs : List Own). own_generation c.first_gen xs r < 1048576) (sym own) (row r lt).1;
       all_rows = ap (λ (xs : List Own). length xs) own ∙ (row-length d.own.items q ch ∙ is.all_rows);
       mapped = same-mapped b c may d e is seat.dom slots same;
       pins = same-pins b c may d e is slots same;
@@ -178,11 +178,11 @@ unmapped b c may d e h m is seat dom own out u =
     record {
       seat = seat;
       rows = λ r lt. u.rows.last r ∙ (is.rows r lt ∙ same-rows c d.own.items e.own.items r own);
-      generations = λ r lt. subst (λ (xs : List Own). generation_in c.first_gen xs r < 1048576) (sym own) (is.generations r lt);
+      generations = λ r lt. subst (λ (xs : List Own). own_generation c.first_gen xs r < 1048576) (sym own) (is.generations r lt);
       all_rows = ap (λ (xs : List Own). length xs) own ∙ is.all_rows;
       mapped = λ h' m' is'.
           let old = taken-away (same_handle h' h) (value_of d.mappings h') m' (λ z. is.mapped h' m' z) (sym (out.updates h') ∙ is') in
-          moved k c.domains.items may d.seat.dom e.seat.dom v w m' dom (λ there. u.records (position_in k.ids m'.dom) m'.gref.0 (m'.dir, record_of m') there (some-pins k w e.mappings all h' m' is')) old;
+          moved k c.domains.items may d.seat.dom e.seat.dom v w m' dom (λ there. u.records (position_in k.ids m'.dom) m'.gref.0 (m'.dir, entry_record_of m') there (some-pins k w e.mappings all h' m' is')) old;
       pins = all;
     }
 
@@ -197,14 +197,14 @@ mapped b c may d e h request m is seat own x ins =
     record {
       seat = still_seat b d.seat e.seat is.seat seat;
       rows = λ r lt. x.pins.rows.last r ∙ (x.same.records r ∙ (is.rows r lt ∙ same-rows c d.own.items e.own.items r own));
-      generations = λ r lt. subst (λ (xs : List Own). generation_in c.first_gen xs r < 1048576) (sym own) (is.generations r lt);
+      generations = λ r lt. subst (λ (xs : List Own). own_generation c.first_gen xs r < 1048576) (sym own) (is.generations r lt);
       all_rows = ap (λ (xs : List Own). length xs) own ∙ is.all_rows;
       mapped = λ h' m' is'. added (same_handle h' h) (value_of d.mappings h') m m' (λ (z : Held). IsMappingOf k c.domains.items may e.seat.dom w z)
           (subst (λ (z : DomId). IsMappingOf k c.domains.items may z w m) (sym seat.dom) x.mapping)
           (λ z.
           let t = position_in k.ids m'.dom in let r = m'.gref.0 in
           moved k c.domains.items may d.seat.dom e.seat.dom v w m' seat.dom
-          (λ there. x.pins.records t r (m'.dir, record_of m') (subst (λ (ps : List LivePin). IsIn (m'.dir, record_of m') ps) (sym (x.same.pins t r)) there) (some-pins k w e.mappings all h' m' is')) (is.mapped h' m' z))
+          (λ there. x.pins.records t r (m'.dir, entry_record_of m') (subst (λ (ps : List LivePin). IsAmong (m'.dir, entry_record_of m') ps) (sym (x.same.pins t r)) there) (some-pins k w e.mappings all h' m' is')) (is.mapped h' m' z))
           (sym (ins.updates h') ∙ is');
       pins = all;
     }
@@ -217,7 +217,7 @@ no-pin (p ∷ ps) h =
     let w : ◌≡◌ {A = ℕ} (cond (is_pin p.0 p.1.generation p) 1 0) 1 = ap {B = ℕ} (λ (x : Bool). cond x 1 0) here in absurd (omega (arith, one, nil, w))
 
 -- a domain without mappings has no pins
-pub without-pins : (b : Board) (c : Config) (may : AllowRelation) (d : Domain) → IsDomainOf b c may d → count_of d.mappings ≡ 0 → (t r : ℕ) → pins (steps_on t r d.seat.view) ≡ []
+pub without-pins : (b : Board) (c : Config) (may : AllowRelation) (d : Domain) → IsDomainOf b c may d → count_of d.mappings ≡ 0 → (t r : ℕ) → live_pins (steps_on t r d.seat.view) ≡ []
 without-pins b c may d is none t r = no-pin _ (λ a g. let was = is.pins t r a g in let few = counted-most (is_mapping_of b.layout t r a g) d.mappings in omega (arith, was, few, none))
 
 -- whatever records a domain keeps

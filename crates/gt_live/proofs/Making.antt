@@ -7,7 +7,7 @@ use Rattle.gt_words.specs.Answers.{StoresBody}
 use Rattle.gt_words.specs.Rule.{Layout, id_at}
 use Rattle.gt_words.specs.Views.{last_of, with_step}
 use Rattle.gt_words.specs.Events.{TookPlace}
-use Rattle.gt_words.specs.History.{History, Moment, Says, part_of, place_of}
+use Rattle.gt_words.specs.History.{StepHistory, Moment, SaysWord, part_of, word_place_of}
 use Rattle.gt_words.specs.Steps.{TakesStep}
 use Rattle.gt_words.specs.declared.view.SeatStep.{SeatStep}
 use Rattle.gt_words.specs.declared.view.View.{View}
@@ -18,7 +18,7 @@ use Rattle.gt_calls.specs.declared.action.Step.{Step}
 use Rattle.gt_calls.specs.declared.action.Step.TheVariants.{LookHeader, LookControl, LookBody, Pin, Unpin, StoreBody}
 use Rattle.gt_calls.specs.declared.action.Step.TheVariants.{StoreHeader, Exchange}
 use Rattle.gt_calls.specs.Path.{FitsStep}
-use Rattle.gt_live.specs.Walks.{Made, shown_by, shown_in}
+use Rattle.gt_live.specs.Walks.{Made, shown_by, seen_in_step}
 use Rattle.gt_live.specs.Driving.{IsSame}
 
 -- a step of a seat from one view to another, which shows this, and was taken at its moment
@@ -29,12 +29,12 @@ pub record Gains (k : Layout) (seen : Seen) (v w : View) : Type 0 where
   pub took : TookPlace k v.position step
   pub mine : part_of v.position step.0 ≡ v.steps
 
-abbrev pub gained : (k : Layout) (seen : Seen) (v w : View) (past : History) (x : SeatStep) (found left : ℕ) → w ≡ with_step past x v → TakesStep (Unit {0}) k v past x (place_of x) found left → shown_in x ≡ seen → Gains k seen v w
+abbrev pub gained : (k : Layout) (seen : Seen) (v w : View) (past : StepHistory) (x : SeatStep) (found left : ℕ) → w ≡ with_step past x v → TakesStep (Unit {0}) k v past x (word_place_of x) found left → seen_in_step x ≡ seen → Gains k seen v w
 gained k seen v w past x found left view step shows = record {
   step = (past, x);
   view = view;
   shows = shows;
-  took = record { stood = (step.stood.0, step.stood.1); says = subst (Says x) (sym step.found_is) step.says; of_last = step.of_last; happens = step.happens };
+  took = record { stood = (step.stood.0, step.stood.1); says = subst (SaysWord x) (sym step.found_is) step.says; of_last = step.of_last; happens = step.happens };
   mine = sym (step.stood.1.led_here.parts v.position v step.stood.2).0;
 }
 
@@ -82,7 +82,7 @@ made-fits k (Exchange q looked Promote) (Missed n) v w m = m.another
 made-fits k _ _ v w m = absurd m
 
 -- the seat keeps what it knew
-kept-same : (v w : View) (past : History) (s : SeatStep) → w ≡ with_step past s v → Keeps v w → IsSame v w
+kept-same : (v w : View) (past : StepHistory) (s : SeatStep) → w ≡ with_step past s v → Keeps v w → IsSame v w
 kept-same v w past s e keeps = record { pins = keeps.pins; records = keeps.rows.last; seen = keeps.seen; position = ap (λ (u : View). u.position) e; ids = ap (λ (u : View). u.ids) e }
 
 pub same-self : (v : View) → IsSame v v

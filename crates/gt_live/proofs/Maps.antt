@@ -5,9 +5,9 @@ use Rattle.gt_types.specs.declared.denial.Denial.{Denial}
 use Rattle.gt_words.specs.Rule.{Layout}
 use Rattle.gt_words.specs.declared.view.View.{View}
 use Rattle.gt_calls.specs.Counting.{steps_to_come}
-use Rattle.gt_calls.specs.Following.{MakesStep as BeginsSo}
+use Rattle.gt_calls.specs.Following.{IsStepAction as BeginsSo}
 use Rattle.gt_calls.specs.Legs.{leg_step}
-use Rattle.gt_calls.specs.MapCalls.{BeginsAs, GoesOnAs, MapCall, call_of, ended, unmoved}
+use Rattle.gt_calls.specs.MapCalls.{MapBeginsAs, MapGoesOnAs, MapCall, call_of, ended_map, unmoved}
 use Rattle.gt_calls.specs.Path.{Continuation, after_beginning, ended as ends_so, makes, path, steps_of}
 use Rattle.gt_calls.specs.Rules.{CallerKnowledge, begun}
 use Rattle.gt_calls.specs.declared.action.Action.{Action}
@@ -27,7 +27,7 @@ use Rattle.gt_live.specs.declared.driving.Effect.{Effect}
 use Rattle.gt_live.specs.declared.driving.Effect.TheVariants.{Nothing, Pinned, Unpinned, Changed, Stored}
 use Rattle.gt_live.specs.Driving.{Going, Knows, Leaves}
 use Rattle.gt_live.specs.Effects.{Answers, effect_of}
-use Rattle.gt_live.specs.Walks.{Called, Made, MakesStep, after, shown_by}
+use Rattle.gt_live.specs.Walks.{Called, Made, MakesStep, view_after, shown_by}
 use Rattle.gt_live.proofs.Advancing.{advance, begins, ends}
 use Rattle.gt_live.proofs.Making.{made-gains}
 
@@ -54,7 +54,7 @@ first-step c caller request so none =
 
 -- a map that no rule answered at its beginning
 pub map-starts : (c : CallerKnowledge) (k : Layout) (v : View) (m : MapCall)
-    → begun c m.caller (asks.Map m.dom m.gref m.flags) ≡ None → BeginsAs c m
+    → begun c m.caller (asks.Map m.dom m.gref m.flags) ≡ None → MapBeginsAs c m
     → Going c k Nothing v v (call_of m) (Makes (leg_step m.leg m.at))
 map-starts c k v m none so =
     begins c k v (unmoved m) (call_of m) (Makes (leg_step m.leg m.at))
@@ -64,7 +64,7 @@ map-starts c k v m none so =
 -- a step further, with fewer to come
 pub map-on : (c : CallerKnowledge) (k : Layout) (v w w' : View) (m : MapCall) (seen : Seen) (at : LegPhase)
     → Knows c k m.caller v → Going c k Nothing v w (call_of m) (Makes (leg_step m.leg m.at))
-    → Made k (leg_step m.leg m.at) seen w w' → GoesOnAs c m seen (GoesTo at)
+    → Made k (leg_step m.leg m.at) seen w w' → MapGoesOnAs c m seen (GoesTo at)
     → Going c k Nothing v w' (call_of (record m { at = at })) (Makes (leg_step m.leg at))
     × (steps_to_come (call_of (record m { at = at })) < steps_to_come (call_of m))
 map-on c k v w w' m seen at knows g made goes =
@@ -95,11 +95,11 @@ pinned-left c k caller request v w Stored p a left = absurd a
 pub map-refused : (c : CallerKnowledge) (k : Layout) (v w w' : View) (m : MapCall) (seen : Seen) (denial : Denial)
     (caller : DomId) (request : Asked)
     → Knows c k m.caller v → Going c k Nothing v w (call_of m) (Makes (leg_step m.leg m.at))
-    → Made k (leg_step m.leg m.at) seen w w' → GoesOnAs c m seen (LegRefused denial)
+    → Made k (leg_step m.leg m.at) seen w w' → MapGoesOnAs c m seen (LegRefused denial)
     → m.caller ≡ caller → (call_of m).request ≡ request
     → Called k (path c caller request) (Refused denial) v w' × Leaves c k caller request v w' Nothing
 map-refused c k v w w' m seen denial caller request knows g made goes callers requests =
-    let s = leg_step m.leg m.at in let call = ended m (Refused denial) in
+    let s = leg_step m.leg m.at in let call = ended_map m (Refused denial) in
     let on = advance c k Nothing v w w' (call_of m) call (Done (Refused denial)) s seen knows tt g made refl refl goes in
     let e = ends c k (effect_of s seen) v w' call (Refused denial) caller request tt on.0 callers requests in
     (e.called, refused-left c k caller request v w' (effect_of s seen) denial e.answers.0 e.left)
@@ -108,11 +108,11 @@ map-refused c k v w w' m seen denial caller request knows g made goes callers re
 pub map-pinned : (c : CallerKnowledge) (k : Layout) (v w w' : View) (m : MapCall) (seen : Seen) (p : Held)
     (caller : DomId) (request : Asked)
     → Knows c k m.caller v → Going c k Nothing v w (call_of m) (Makes (leg_step m.leg m.at))
-    → Made k (leg_step m.leg m.at) seen w w' → GoesOnAs c m seen (LegPinned p)
+    → Made k (leg_step m.leg m.at) seen w w' → MapGoesOnAs c m seen (LegPinned p)
     → m.caller ≡ caller → (call_of m).request ≡ request
     → Called k (path c caller request) (Mapped p) v w' × Leaves c k caller request v w' (Pinned p)
 map-pinned c k v w w' m seen p caller request knows g made goes callers requests =
-    let s = leg_step m.leg m.at in let call = ended m (Mapped p) in
+    let s = leg_step m.leg m.at in let call = ended_map m (Mapped p) in
     let on = advance c k Nothing v w w' (call_of m) call (Done (Mapped p)) s seen knows tt g made refl refl goes in
     let e = ends c k (effect_of s seen) v w' call (Mapped p) caller request tt on.0 callers requests in
     (e.called, pinned-left c k caller request v w' (effect_of s seen) p e.answers.0 e.left)
@@ -122,14 +122,14 @@ pub one-step : (k : Layout) (way : Continuation) (s : Step) (v w : View) → way
     → Made k s Unseen v w → Called k way Granted v w
 one-step k way s v w is made =
     let gain = made-gains k s Unseen v w made in
-    let here : Made k s (shown_by gain.step) v (after (gain.step ∷ []) v) =
+    let here : Made k s (shown_by gain.step) v (view_after (gain.step ∷ []) v) =
     subst (λ (u : View). Made k s (shown_by gain.step) v u) gain.view
     (subst (λ (x : Seen). Made k s x v w) (sym gain.shows) made) in
     record {
       steps = gain.step ∷ [];
       view = gain.view;
       walked = (
-        subst (λ (o : Option Action). MakesStep k o (shown_by gain.step) v (after (gain.step ∷ []) v))
+        subst (λ (o : Option Action). MakesStep k o (shown_by gain.step) v (view_after (gain.step ∷ []) v))
             (sym (ap (λ (t : Continuation). t []) is)) here,
         tt,
       );

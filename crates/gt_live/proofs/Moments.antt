@@ -2,7 +2,7 @@
 use Rattle.std.proofs.Common.{◌≡◌, ◌⊎◌, inl, inr, ⊎_elim, ℕ, refl, sym, ap, ◌∙◌, subst, List, [], ◌∷◌, ◌++◌, Option}
 use Rattle.std.proofs.Common.{Some, None, append_assoc}
 use Rattle.gt_words.specs.Events.{TookPlace}
-use Rattle.gt_words.specs.History.{History, Moment, part_of}
+use Rattle.gt_words.specs.History.{StepHistory, Moment, part_of}
 use Rattle.gt_words.specs.Rule.{Layout}
 use Rattle.gt_words.specs.Views.{with_step}
 use Rattle.gt_words.specs.declared.view.SeatStep.{SeatStep}
@@ -22,17 +22,17 @@ use Rattle.gt_calls.specs.declared.held.Held.{Held}
 use Rattle.gt_calls.specs.Path.{Continuation}
 use Rattle.gt_live.specs.Accesses.{ComesTo, IsAccess, IsOnlyAccess, onward}
 use Rattle.gt_live.specs.Domains.{Released}
-use Rattle.gt_live.specs.Walks.{AreMoments, Called, IsWalk, Made, MakesStep, after, shown, shown_by}
+use Rattle.gt_live.specs.Walks.{AreMoments, Called, IsWalk, Made, MakesStep, view_after, all_shown, shown_by}
 use Rattle.gt_live.proofs.Making.{Gains, gained, made-gains}
 use Rattle.gt_live.proofs.Walking.{after-position, snoc-inj, unsnoc}
 
 -- a step and what came before it are known by the view after it
 
-abbrev first_or : SeatStep → History → SeatStep
+abbrev first_or : SeatStep → StepHistory → SeatStep
 first_or x [] = x
 first_or x (p ∷ h) = p.1
 
-abbrev rest_of : History → History
+abbrev rest_of : StepHistory → StepHistory
 rest_of [] = []
 rest_of (p ∷ h) = h
 
@@ -42,29 +42,29 @@ one_moment x y u e =
     λ i. (rest i, head i)
 
 -- a step of the seat after others, by the view that those leave
-later : (k : Layout) (v : View) (xs : List Moment) (seen : Seen) (w : View) (g : Gains k seen (after xs v) w) → TookPlace k v.position g.step × (part_of v.position g.step.0 ≡ (after xs v).steps)
+later : (k : Layout) (v : View) (xs : List Moment) (seen : Seen) (w : View) (g : Gains k seen (view_after xs v) w) → TookPlace k v.position g.step × (part_of v.position g.step.0 ≡ (view_after xs v).steps)
 later k v xs seen w g =
-    subst (λ (p : ℕ). TookPlace k p g.step × (part_of p g.step.0 ≡ (after xs v).steps)) (after-position xs v) (g.took, g.mine)
+    subst (λ (p : ℕ). TookPlace k p g.step × (part_of p g.step.0 ≡ (view_after xs v).steps)) (after-position xs v) (g.took, g.mine)
 
 pub walk-moments : (k : Layout) (way : Continuation) (v : View) (steps : List Moment) → IsWalk k way v steps → AreMoments k v steps
 walk-moments k way v [] walk = tt
-walk-moments k way v (x ∷ xs) walk = let t = by (way (shown xs)) walk.0 in (t.0, t.1, walk-moments k way v xs walk.1)
+walk-moments k way v (x ∷ xs) walk = let t = by (way (all_shown xs)) walk.0 in (t.0, t.1, walk-moments k way v xs walk.1)
   where
-    by : (o : Option Action) → MakesStep k o (shown_by x) (after xs v) (after (x ∷ xs) v) → TookPlace k v.position x × (part_of v.position x.0 ≡ (after xs v).steps)
+    by : (o : Option Action) → MakesStep k o (shown_by x) (view_after xs v) (view_after (x ∷ xs) v) → TookPlace k v.position x × (part_of v.position x.0 ≡ (view_after xs v).steps)
     by (Some (Makes s)) m =
-        let g = made-gains k s (shown_by x) (after xs v) (after (x ∷ xs) v) m in
-        subst (λ (y : Moment). TookPlace k v.position y × (part_of v.position y.0 ≡ (after xs v).steps)) (sym (one_moment x g.step (after xs v) g.view))
-        (later k v xs (shown_by x) (after (x ∷ xs) v) g)
+        let g = made-gains k s (shown_by x) (view_after xs v) (view_after (x ∷ xs) v) m in
+        subst (λ (y : Moment). TookPlace k v.position y × (part_of v.position y.0 ≡ (view_after xs v).steps)) (sym (one_moment x g.step (view_after xs v) g.view))
+        (later k v xs (shown_by x) (view_after (x ∷ xs) v) g)
     by (Some (Done verdict)) m = absurd m
     by None m = absurd m
 
 -- the pins that a domain gives back as it leaves
-pub released-moments : (k : Layout) (hs : List Handle) (old : HandleMap Held) (v : View) (new : HandleMap Held) (w : View) → Released k hs old v new w → (steps : List Moment) × (w ≡ after steps v) × AreMoments k v steps
+pub released-moments : (k : Layout) (hs : List Handle) (old : HandleMap Held) (v : View) (new : HandleMap Held) (w : View) → Released k hs old v new w → (steps : List Moment) × (w ≡ view_after steps v) × AreMoments k v steps
 released-moments k [] old v new w r = ([], r.1, tt)
 released-moments k (h ∷ hs) old v new w r =
     let u = r.2 in let rest = released-moments k hs old v r.1 u r.3 in let z = r.5.steps in
     let g : Gains k Nothing u w = gained k Nothing u w _ _ _ _ z.adds.view z.step refl in
-    let g' : Gains k Nothing (after rest.0 v) w = subst (λ (y : View). Gains k Nothing y w) rest.1 g in
+    let g' : Gains k Nothing (view_after rest.0 v) w = subst (λ (y : View). Gains k Nothing y w) rest.1 g in
     let t = later k v rest.0 Nothing w g' in (g'.step ∷ rest.0, g'.view, (t.0, t.1, rest.2))
 
 -- no step on the words is an access
@@ -110,29 +110,29 @@ module _ {A : Type 0} where
       (λ (q : (ws : List A) × (vs ≡ xs ++ ws) × (ys ≡ ws ++ rest)). inr (q.0, (λ i. sym head i ∷ q.1 i), q.2)) (within_parts xs ys vs rest tail)
 
 -- where a walk comes to an access, it is at its end
-at_its_end : (k : Layout) (way : Continuation) (v : View) (steps : List Moment) → IsWalk k way v steps → (vs rest : List Seen) (s : Step) → shown steps ≡ vs ++ rest → way vs ≡ Some (Makes s) → IsAccess s → vs ≡ shown steps
+at_its_end : (k : Layout) (way : Continuation) (v : View) (steps : List Moment) → IsWalk k way v steps → (vs rest : List Seen) (s : Step) → all_shown steps ≡ vs ++ rest → way vs ≡ Some (Makes s) → IsAccess s → vs ≡ all_shown steps
 at_its_end k way v [] walk vs rest s e next is = nothing_before vs rest e
 at_its_end k way v (y ∷ ys) walk vs [] s e next is = sym (e ∙ append_none vs)
 at_its_end k way v (y ∷ ys) walk vs (a ∷ bs) s e next is =
     let u = unsnoc a bs in
     let split : vs ++ (a ∷ bs) ≡ (vs ++ u.0) ++ u.1 ∷ [] = ap (λ (zs : List Seen). vs ++ zs) u.2 ∙ sym (append_assoc vs u.0 (u.1 ∷ [])) in
-    let here = at_its_end k way v ys walk.1 vs u.0 s (snoc-inj (shown ys) (vs ++ u.0) (shown_by y) u.1 (e ∙ split)).0 next is in
-    let made : MakesStep k (Some (Makes s)) (shown_by y) (after ys v) (after (y ∷ ys) v) =
-    subst (λ (o : Option Action). MakesStep k o (shown_by y) (after ys v) (after (y ∷ ys) v)) (ap way (sym here) ∙ next) walk.0 in
-    absurd (no_access k s (shown_by y) (after ys v) (after (y ∷ ys) v) made is)
+    let here = at_its_end k way v ys walk.1 vs u.0 s (snoc-inj (all_shown ys) (vs ++ u.0) (shown_by y) u.1 (e ∙ split)).0 next is in
+    let made : MakesStep k (Some (Makes s)) (shown_by y) (view_after ys v) (view_after (y ∷ ys) v) =
+    subst (λ (o : Option Action). MakesStep k o (shown_by y) (view_after ys v) (view_after (y ∷ ys) v)) (ap way (sym here) ∙ next) walk.0 in
+    absurd (no_access k s (shown_by y) (view_after ys v) (view_after (y ∷ ys) v) made is)
 
 -- a call that came to its access and went on to its end makes no other
-pub only-access : (k : Layout) (way : Continuation) (access : Step) (v mid w : View) (comes : ComesTo k way access v mid) (ends : Called k (onward way (shown comes.steps ++ Nothing ∷ [])) Granted mid w)
-    → IsOnlyAccess way (shown comes.steps) ((shown comes.steps ++ Nothing ∷ []) ++ shown ends.steps)
-only-access k way access v mid w comes ends vs rest s e next is = ⊎_elim before behind (within_parts (shown comes.steps ++ Nothing ∷ []) (shown ends.steps) vs rest e)
+pub only-access : (k : Layout) (way : Continuation) (access : Step) (v mid w : View) (comes : ComesTo k way access v mid) (ends : Called k (onward way (all_shown comes.steps ++ Nothing ∷ [])) Granted mid w)
+    → IsOnlyAccess way (all_shown comes.steps) ((all_shown comes.steps ++ Nothing ∷ []) ++ all_shown ends.steps)
+only-access k way access v mid w comes ends vs rest s e next is = ⊎_elim before behind (within_parts (all_shown comes.steps ++ Nothing ∷ []) (all_shown ends.steps) vs rest e)
   where
-    before : (a : Seen) × (m : List Seen) × ((shown comes.steps ++ Nothing ∷ []) ≡ vs ++ a ∷ m) → vs ≡ shown comes.steps
+    before : (a : Seen) × (m : List Seen) × ((all_shown comes.steps ++ Nothing ∷ []) ≡ vs ++ a ∷ m) → vs ≡ all_shown comes.steps
     before q =
         let u = unsnoc q.0 q.1 in
         let split : vs ++ (q.0 ∷ q.1) ≡ (vs ++ u.0) ++ u.1 ∷ [] = ap (λ (zs : List Seen). vs ++ zs) u.2 ∙ sym (append_assoc vs u.0 (u.1 ∷ [])) in
-        at_its_end k way v comes.steps comes.walked vs u.0 s (snoc-inj (shown comes.steps) (vs ++ u.0) Nothing u.1 (q.2 ∙ split)).0 next is
+        at_its_end k way v comes.steps comes.walked vs u.0 s (snoc-inj (all_shown comes.steps) (vs ++ u.0) Nothing u.1 (q.2 ∙ split)).0 next is
 
-    behind : (ws : List Seen) × (vs ≡ (shown comes.steps ++ Nothing ∷ []) ++ ws) × (shown ends.steps ≡ ws ++ rest) → vs ≡ shown comes.steps
+    behind : (ws : List Seen) × (vs ≡ (all_shown comes.steps ++ Nothing ∷ []) ++ ws) × (all_shown ends.steps ≡ ws ++ rest) → vs ≡ all_shown comes.steps
     behind q =
-        let there = at_its_end k (onward way (shown comes.steps ++ Nothing ∷ [])) mid ends.steps ends.walked q.0 rest s q.2 (ap way (sym q.1) ∙ next) is in
-        let done : Some (Makes s) ≡ Some (Done Granted) = sym next ∙ (ap way q.1 ∙ (ap (onward way (shown comes.steps ++ Nothing ∷ [])) there ∙ ends.answered)) in absurd (cc)
+        let there = at_its_end k (onward way (all_shown comes.steps ++ Nothing ∷ [])) mid ends.steps ends.walked q.0 rest s q.2 (ap way (sym q.1) ∙ next) is in
+        let done : Some (Makes s) ≡ Some (Done Granted) = sym next ∙ (ap way q.1 ∙ (ap (onward way (all_shown comes.steps ++ Nothing ∷ [])) there ∙ ends.answered)) in absurd (cc)

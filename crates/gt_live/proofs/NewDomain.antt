@@ -10,7 +10,7 @@ use Rattle.gt_entry.specs.declared.entry.Entry.TheVariants.{Invalid}
 use Rattle.gt_words.specs.Conditions.{Board}
 use Rattle.gt_words.specs.Answers.{IsNewSeat}
 use Rattle.gt_words.specs.Rule.{Layout, layout_of}
-use Rattle.gt_words.specs.Views.{LivePin, pins_like, entry_steps, invalid_at, last_record, pins}
+use Rattle.gt_words.specs.Views.{LivePin, pins_like, entry_steps, invalid_at, last_record, live_pins}
 use Rattle.gt_words.specs.declared.view.SeatStep.{SeatStep}
 use Rattle.gt_handles.specs.Handles.{HandleMap, under, value_of}
 use Rattle.gt_handles.specs.Listing.{has_passing}
@@ -51,7 +51,7 @@ new-domain b c may i d limits run new own mappings trail visits =
     let first : v.first ≡ c.first_gen = new.first ∙ ap (λ (k : Layout). k.first) run in
     let few = limits.generation in
     let slots : d.mappings.slots ≡ [] = ap (λ (k : HandleMap Held). k.slots) mappings in
-    let none : (t r : ℕ) → pins (entry_steps t r v.steps) ≡ [] = λ t r. ap (λ (xs : List SeatStep). pins (entry_steps t r xs)) new.steps in
+    let none : (t r : ℕ) → live_pins (entry_steps t r v.steps) ≡ [] = λ t r. ap (λ (xs : List SeatStep). live_pins (entry_steps t r xs)) new.steps in
     record {
       domain = record {
         seat = new.seat;

@@ -31,7 +31,7 @@ use Rattle.gt_types.specs.declared.denial.Field.{Field}
 use Rattle.gt_calls.specs.declared.request.CopyArgs.{CopyArgs}
 use Rattle.gt_types.specs.declared.denial.Denial.{Denial}
 use Rattle.gt_calls.specs.declared.action.Verdict.TheVariants.{Given, Mapped}
-use Rattle.gt_calls.specs.Rules.{copy_begun, ends_framed, ends_named, ends_owned, ends_ranged, frames_of}
+use Rattle.gt_calls.specs.Rules.{copy_begun, ends_framed, ends_named, ends_owned, ends_ranged, frame_count_of}
 use Rattle.gt_calls.specs.Rules.{is_dest_granted, is_for_reading, is_foreign, is_past_frames, is_source_granted}
 use Rattle.gt_calls.specs.Rules.{own_access_begun, rights_to_copy, via_judged, CallerKnowledge, cannot_stand}
 use Rattle.gt_calls.specs.Rules.{change_begun, query_begun, denied, first, given_when, granted_when, has_valid}
@@ -174,7 +174,7 @@ module _ (k : CallerKnowledge) (caller : DomId) where
 
   once-own : (r : Asked) (frame off len : ℕ) → MayBe r (own_access_begun k.domains caller frame off len)
   once-own r frame off len =
-      let a = nat_lt FRAME_SIZE (off + len) in let b = nat_le (frames_of k.domains caller) frame in
+      let a = nat_lt FRAME_SIZE (off + len) in let b = nat_le (frame_count_of k.domains caller) frame in
       first-of r (refused_when a N3 ∷ refused_when b N16 ∷ []) (refused-may r a N3, (refused-may r b N16, tt))
 
   once-copy : (c : CopyArgs) → MayBe (asks.Copy c) (copy_begun k caller c)

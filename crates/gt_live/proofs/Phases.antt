@@ -18,7 +18,7 @@ use Rattle.gt_calls.specs.declared.leg.LegNext.TheVariants.{Going}
 use Rattle.gt_calls.specs.declared.leg.LegPhase.TheVariants.{Header}
 use Rattle.gt_calls.specs.declared.held.Pins.{Pins}
 use Rattle.gt_calls.specs.declared.request.CopyArgs.{CopyArgs}
-use Rattle.gt_calls.specs.CopyCalls.{BeginsAs, GoesOnAs, copy_call, unmoved_copy}
+use Rattle.gt_calls.specs.CopyCalls.{CopyBeginsAs, CopyGoesOnAs, copy_call, unmoved_copy}
 use Rattle.gt_calls.specs.Holding.{no_pins}
 use Rattle.gt_calls.specs.Machine.{action_at, after_leg, at_source, phase_after}
 use Rattle.gt_calls.specs.Legs.{leg_step}
@@ -28,7 +28,7 @@ use Rattle.gt_live.specs.Copies.{StopsSo, after_copy}
 use Rattle.gt_live.specs.Driving.{Knows}
 use Rattle.gt_live.specs.Legs.{CanWalkLeg, ComesBy, LegStep, WalksLeg}
 use Rattle.gt_live.specs.Phases.{CanRun, PhaseStep, Runs, RunsBy}
-use Rattle.gt_live.specs.Underway.{Underway}
+use Rattle.gt_live.specs.Underway.{IsUnderway}
 use Rattle.gt_live.specs.Walks.{MakesStep}
 use Rattle.gt_live.proofs.Stopping.{comes-there, ends-refused, goes-on, makes-copy, no-leg, starts}
 
@@ -93,17 +93,17 @@ module _ (c : CallerKnowledge) (k : Layout) (caller : DomId) where
   can-then start mid v u can x = λ at w step y acts other. can at w step (runs-then start mid at v u w x y) acts other
 
   -- a copy under way, and what it comes to
-  module _ (copy : CopyArgs) (law : (phase : Phase) (seen : Seen) → GoesOnAs c caller copy phase seen) (v : View)
+  module _ (copy : CopyArgs) (law : (phase : Phase) (seen : Seen) → CopyGoesOnAs c caller copy phase seen) (v : View)
       (knows : Knows c k caller v) where
     abbrev pub StandsAt : Phase → View → Type 0
-    StandsAt phase w = Underway c k v w (copy_call caller copy phase) (action_at caller phase)
+    StandsAt phase w = IsUnderway c k v w (copy_call caller copy phase) (action_at caller phase)
 
     step-further : (at : Phase) (seen : Seen) (u w : View) (action : Action) → action_at caller at ≡ action
         → MakesStep k (Some action) seen u w → StandsAt at u → StandsAt (phase_after c caller at seen) w
     step-further at seen u w (Makes s) acts made here =
         (goes-on c k v u w (copy_call caller copy at) (copy_call caller copy (phase_after c caller at seen))
         (action_at caller (phase_after c caller at seen)) s seen knows
-        (subst (λ (a : Action). Underway c k v u (copy_call caller copy at) a) acts here) made refl refl
+        (subst (λ (a : Action). IsUnderway c k v u (copy_call caller copy at) a) acts here) made refl refl
         (law at seen)).0
     step-further at seen u w (Done verdict) acts made here = absurd made
 
@@ -122,11 +122,11 @@ module _ (c : CallerKnowledge) (k : Layout) (caller : DomId) where
     pub may-run : (start : Phase) → StandsAt start v → CanRun c k caller start v
     may-run start here = λ at w step x acts other.
         makes-copy c k v w (copy_call caller copy at) step knows
-        (subst (λ (a : Action). Underway c k v w (copy_call caller copy at) a) acts (stands-then start at w here x))
+        (subst (λ (a : Action). IsUnderway c k v w (copy_call caller copy at) a) acts (stands-then start at w here x))
         other
 
     -- a copy that no rule answered at its beginning
-    pub stands-first : BeginsAs c caller copy → copy_begun c caller copy ≡ None
+    pub stands-first : CopyBeginsAs c caller copy → copy_begun c caller copy ≡ None
         → StandsAt (at_source c caller copy) v
     stands-first begins none =
         starts c k v (unmoved_copy caller copy) (copy_call caller copy (at_source c caller copy))

@@ -27,7 +27,7 @@ use Rattle.gt_calls.specs.Machine.{where_via}
 use Rattle.gt_calls.specs.Path.{dest_pair, end_leg, second_leg, source_pair}
 use Rattle.gt_calls.specs.Rules.{CallerKnowledge, is_dest_granted, is_source_granted, via_judged}
 use Rattle.gt_live.specs.Copies.{dest_leg, source_leg}
-use Rattle.gt_live.specs.Domains.{refusal_of}
+use Rattle.gt_live.specs.Domains.{denial_in}
 use Rattle.gt_live.specs.Legs.{CanWalkLeg, WalksLeg}
 use Rattle.gt_live.specs.Phases.{CanRun, Runs}
 use Rattle.gt_live.proofs.Once.{via-refused}
@@ -48,13 +48,13 @@ no-via (Via dom ro dom2 gref) other = absurd (other dom ro dom2 gref refl)
 module _ (c : CallerKnowledge) (k : Layout) (caller : DomId) where
   -- a Via whose pair is refused
   pub said : (pair : DomId × DomId) (dom : DomId) (verdict : Verdict) (denial : Denial)
-      → via_judged c pair dom ≡ Some verdict → denial ≡ refusal_of verdict → verdict ≡ Refused denial
+      → via_judged c pair dom ≡ Some verdict → denial ≡ denial_in verdict → verdict ≡ Refused denial
   said pair dom verdict denial e is =
       let n = via-refused c caller pair dom verdict e in
-      n.1 ∙ ap (λ (d : Denial). Refused d) (sym (is ∙ ap refusal_of n.1))
+      n.1 ∙ ap (λ (d : Denial). Refused d) (sym (is ∙ ap denial_in n.1))
 
   pub through-refused : (aim : Aim) (first : Leg) (pair : DomId × DomId) (dom : DomId) (gref : GrantRef)
-      (verdict : Verdict) (denial : Denial) → via_judged c pair dom ≡ Some verdict → denial ≡ refusal_of verdict
+      (verdict : Verdict) (denial : Denial) → via_judged c pair dom ≡ Some verdict → denial ≡ denial_in verdict
       → through_via c aim first pair dom gref ≡ Ending (pins_so_far aim) (Refused denial)
   through-refused aim first pair dom gref verdict denial e is =
       ap (λ (o : Option Verdict). where_via o aim (second_leg c first dom gref)) e
@@ -62,7 +62,7 @@ module _ (c : CallerKnowledge) (k : Layout) (caller : DomId) where
 
   pub refused-runs : (aim : Aim) (first : Leg) (pair : DomId × DomId) (dom : DomId) (gref : GrantRef)
       (verdict : Verdict) (denial : Denial) (v : View) → via_judged c pair dom ≡ Some verdict
-      → denial ≡ refusal_of verdict
+      → denial ≡ denial_in verdict
       → Runs c k caller (through_via c aim first pair dom gref) v (Ending (pins_so_far aim) (Refused denial)) v
   refused-runs aim first pair dom gref verdict denial v e is =
       let start = through_via c aim first pair dom gref in

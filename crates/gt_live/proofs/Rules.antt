@@ -22,7 +22,7 @@ use Rattle.gt_entry.specs.Permits.{is_copying, permits}
 use Rattle.gt_words.specs.Controls.{pins_in}
 use Rattle.gt_calls.specs.declared.leg.Leg.{Leg}
 use Rattle.gt_calls.specs.Resting.{Lets}
-use Rattle.gt_calls.specs.Rules.{before_pin, first, first_look, is_outside, is_past_owner, stands}
+use Rattle.gt_calls.specs.Rules.{before_pin, first, first_look, is_outside_sub, is_past_owner, stands}
 
 -- none of a list of rules stands: the first does not, and none of the others
 pub none-stands : (b : Bool) (n : Rule) (xs : List (Option Rule)) → first (stands b n ∷ xs) ≡ None → (b ≡ false) × (first xs ≡ None)
@@ -56,7 +56,7 @@ few Write word e = let ne = eqb-false _ _ e in let lt : word / 65536 % 4096 < 40
 -- a word before a pin has room for one
 pub room-for : (l : Leg) (word : ℕ) (entry : Entry) → before_pin l entry (pins_of l.dir (control_of word)) ≡ None → pins_in l.dir word < 4095
 room-for l word entry e =
-    let a = none-stands (is_outside l entry) N14 _ e in
+    let a = none-stands (is_outside_sub l entry) N14 _ e in
     let b = none-stands (is_past_owner l entry) N16 _ a.1 in
     let d = none-stands (pins_of l.dir (control_of word) == 4095) N17 _ b.1 in
     few l.dir word d.0

@@ -41,10 +41,10 @@ use Rattle.gt_calls.specs.Machine.{standing_after}
 use Rattle.gt_calls.specs.Path.{end_leg, give_back, path}
 use Rattle.gt_calls.specs.Resting.{Rests}
 use Rattle.gt_calls.specs.Rules.{CallerKnowledge, is_source_granted}
-use Rattle.gt_calls.specs.Standing.{IsAt, IsFresh, held_in, pins_at, pins_by_call}
+use Rattle.gt_calls.specs.Standing.{IsAt, IsFreshCall, held_in, pins_at, pins_by_call}
 use Rattle.gt_live.specs.Driving.{CanMake, Knows}
-use Rattle.gt_live.specs.Underway.{AreOfRun, AtAccess, EndsRefused, HasTaken, StandsWell, Underway}
-use Rattle.gt_live.specs.Walks.{Called, Made, MakesStep, after, shown, shown_by}
+use Rattle.gt_live.specs.Underway.{AreOfRun, AtAccess, EndsRefused, HasTaken, StandsWell, IsUnderway}
+use Rattle.gt_live.specs.Walks.{Called, Made, MakesStep, view_after, all_shown, shown_by}
 use Rattle.gt_live.proofs.Advancing.{same-call}
 use Rattle.gt_live.proofs.Copying.{IsCopy, Tries, can-walk, dest-stands, step-stands, tries-pin}
 use Rattle.gt_live.proofs.Making.{made-fits, made-gains, same-self}
@@ -65,15 +65,15 @@ source-stands c k caller v knows copy = by (is_source_granted copy)
     by false = dest-stands c k caller v knows v [] copy Own (none-taken k v v (same-self v)) tt
 
 -- a copy that was opened goes on from its first action
-pub starts : (c : CallerKnowledge) (k : Layout) (v : View) (call call' : Call) (action : Action) (copy : CopyArgs) → Knows c k call.caller v → IsFresh c call → call.request ≡ asks.Copy copy → call'.caller ≡ call.caller → call'.request ≡ call.request → Goes c call Nothing call' action
-    → Underway c k v v call' action
+pub starts : (c : CallerKnowledge) (k : Layout) (v : View) (call call' : Call) (action : Action) (copy : CopyArgs) → Knows c k call.caller v → IsFreshCall c call → call.request ≡ asks.Copy copy → call'.caller ≡ call.caller → call'.request ≡ call.request → Goes c call Nothing call' action
+    → IsUnderway c k v v call' action
 starts c k v call call' action copy knows fresh is callers requests goes =
     let on = goes.first fresh in let t = call.caller in let r = call.request in let phase = at_source c t copy in
     let same = same-call call call' callers requests in
     let there : call'.phase ≡ Some phase =
     goes.moves ∙ (ap (λ (o : Option Phase). Some (standing_after c t r o Nothing)) fresh.unmoved ∙ ap (λ (x : Asked). Some (first_phase c t x)) is) in
     let acts : action ≡ action_at t phase = goes.acts ∙ (ap (λ (o : Option Phase). action_at t (standing_after c t r o Nothing)) fresh.unmoved ∙ ap (λ (x : Asked). action_at t (first_phase c t x)) is) in
-    let here : Underway c k v v (record call { phase = call'.phase }) action =
+    let here : IsUnderway c k v v (record call { phase = call'.phase }) action =
     record {
       steps = [];
       view = refl;
@@ -88,44 +88,44 @@ starts c k v call call' action copy knows fresh is callers requests goes =
       acts = acts;
       stands = source-stands c k t v knows copy;
     } in
-    subst (λ (z : Call). Underway c k v v z action) same here
+    subst (λ (z : Call). IsUnderway c k v v z action) same here
 
 -- its next step can be made, where it is no access
-pub makes-copy : (c : CallerKnowledge) (k : Layout) (v w : View) (call : Call) (s : Step) → Knows c k call.caller v → Underway c k v w call (Makes s) → ((from to : Place) (len : ℕ) → s ≡ CopyBytes from to len → ⊥) → CanMake k w s
+pub makes-copy : (c : CallerKnowledge) (k : Layout) (v w : View) (call : Call) (s : Step) → Knows c k call.caller v → IsUnderway c k v w call (Makes s) → ((from to : Place) (len : ℕ) → s ≡ CopyBytes from to len → ⊥) → CanMake k w s
 makes-copy c k v w call s knows u other =
     let held = held-there call u.phase u.there in
     subst (λ (z : View). CanMake k z s) (sym u.view)
     (can-walk c k call.caller v knows call.request (is-copy call.request u.copy u.of_copy) (pins_by_call call) u.steps s u.walked
-    (subst (λ (h : Pins). HasTaken k (last_first h) v (after u.steps v)) (sym held) (subst (λ (z : View). HasTaken k (held_in u.phase) v z) u.view u.stands.taken))
+    (subst (λ (h : Pins). HasTaken k (last_first h) v (view_after u.steps v)) (sym held) (subst (λ (z : View). HasTaken k (held_in u.phase) v z) u.view u.stands.taken))
     (subst (λ (h : Pins). AreOfRun k (last_first h)) (sym held) u.stands.of_run) u.rests other)
 
 -- after a step that was made it goes on, and has fewer to come
-pub goes-on : (c : CallerKnowledge) (k : Layout) (v w w' : View) (call call' : Call) (action : Action) (s : Step) (x : Seen) → Knows c k call.caller v → Underway c k v w call (Makes s) → Made k s x w w' → call'.caller ≡ call.caller → call'.request ≡ call.request
-    → Goes c call x call' action → Underway c k v w' call' action × (steps_to_come call' < steps_to_come call)
+pub goes-on : (c : CallerKnowledge) (k : Layout) (v w w' : View) (call call' : Call) (action : Action) (s : Step) (x : Seen) → Knows c k call.caller v → IsUnderway c k v w call (Makes s) → Made k s x w w' → call'.caller ≡ call.caller → call'.request ≡ call.request
+    → Goes c call x call' action → IsUnderway c k v w' call' action × (steps_to_come call' < steps_to_come call)
 goes-on c k v w w' call call' action s x knows u m callers requests goes =
-    let t = call.caller in let r = call.request in let mid = after u.steps v in
-    let fits : FitsNext (path c t r (shown u.steps)) x = subst (λ (o : Option Action). FitsNext o x) (sym u.goes) (made-fits k s x w w' m) in
-    let on = goes.later (shown u.steps) u.at fits in
+    let t = call.caller in let r = call.request in let mid = view_after u.steps v in
+    let fits : FitsNext (path c t r (all_shown u.steps)) x = subst (λ (o : Option Action). FitsNext o x) (sym u.goes) (made-fits k s x w w' m) in
+    let on = goes.later (all_shown u.steps) u.at fits in
     let m1 : Made k s x mid w' = subst (λ (z : View). Made k s x z w') u.view m in
     let gain = made-gains k s x mid w' m1 in
-    let view : w' ≡ after (gain.step ∷ u.steps) v = gain.view in
-    let m2 : Made k s (shown_by gain.step) mid (after (gain.step ∷ u.steps) v) = subst (λ (z : View). Made k s (shown_by gain.step) mid z) view (subst (λ (y : Seen). Made k s y mid w') (sym gain.shows) m1) in
-    let made : MakesStep k (path c t r (shown u.steps)) (shown_by gain.step) mid (after (gain.step ∷ u.steps) v) =
-    subst (λ (o : Option Action). MakesStep k o (shown_by gain.step) mid (after (gain.step ∷ u.steps) v)) (sym u.goes) m2 in
+    let view : w' ≡ view_after (gain.step ∷ u.steps) v = gain.view in
+    let m2 : Made k s (shown_by gain.step) mid (view_after (gain.step ∷ u.steps) v) = subst (λ (z : View). Made k s (shown_by gain.step) mid z) view (subst (λ (y : Seen). Made k s y mid w') (sym gain.shows) m1) in
+    let made : MakesStep k (path c t r (all_shown u.steps)) (shown_by gain.step) mid (view_after (gain.step ∷ u.steps) v) =
+    subst (λ (o : Option Action). MakesStep k o (shown_by gain.step) mid (view_after (gain.step ∷ u.steps) v)) (sym u.goes) m2 in
     let held = held-there call u.phase u.there in
     let well : StandsWell k v mid u.steps u.phase = subst (λ (z : View). StandsWell k v z u.steps u.phase) u.view u.stands in
     let tries : (p : Held) → s ≡ Pin p → Tries c k t v knows p mid =
     λ p e. tries-pin c k t v knows r (is-copy r u.copy u.of_copy) (pins_by_call call) u.steps p u.walked (subst (λ (h : Pins). HasTaken k (last_first h) v mid) (sym held) well.taken)
-    (subst (λ (h : Pins). AreOfRun k (last_first h)) (sym held) well.of_run) (subst (λ (y : Step). Rests c t r (pins_by_call call) (shown u.steps) (Makes y)) e u.rests).1 in
+    (subst (λ (h : Pins). AreOfRun k (last_first h)) (sym held) well.of_run) (subst (λ (y : Step). Rests c t r (pins_by_call call) (all_shown u.steps) (Makes y)) e u.rests).1 in
     let same = same-call call call' callers requests in
-    let here : Underway c k v w' (record call { phase = call'.phase }) action =
+    let here : IsUnderway c k v w' (record call { phase = call'.phase }) action =
     record {
       steps = gain.step ∷ u.steps;
       view = view;
       walked = (made, u.walked);
-      at = subst (λ (z : Call). IsAt c z (shown u.steps ++ shown_by gain.step ∷ [])) (sym same) (subst (λ (y : Seen). IsAt c call' (shown u.steps ++ y ∷ [])) (sym gain.shows) on.0.at);
-      goes = subst (λ (y : Seen). path c t r (shown u.steps ++ y ∷ []) ≡ Some action) (sym gain.shows) on.0.follows;
-      rests = subst (λ (y : Seen). Rests c t r (pins_by_call call') (shown u.steps ++ y ∷ []) action) (sym gain.shows) on.0.rests;
+      at = subst (λ (z : Call). IsAt c z (all_shown u.steps ++ shown_by gain.step ∷ [])) (sym same) (subst (λ (y : Seen). IsAt c call' (all_shown u.steps ++ y ∷ [])) (sym gain.shows) on.0.at);
+      goes = subst (λ (y : Seen). path c t r (all_shown u.steps ++ y ∷ []) ≡ Some action) (sym gain.shows) on.0.follows;
+      rests = subst (λ (y : Seen). Rests c t r (pins_by_call call') (all_shown u.steps ++ y ∷ []) action) (sym gain.shows) on.0.rests;
       copy = u.copy;
       of_copy = u.of_copy;
       phase = phase_after c t u.phase x;
@@ -133,10 +133,10 @@ goes-on c k v w w' call call' action s x knows u m callers requests goes =
       acts = goes.acts ∙ ap (λ (o : Option Phase). action_at t (standing_after c t r o x)) u.there;
       stands = step-stands c k t v knows mid w' u.steps well.taken.seen well.taken.position u.phase s x u.acts well m1 tries;
     } in
-    (subst (λ (z : Call). Underway c k v w' z action) same here, on.2)
+    (subst (λ (z : Call). IsUnderway c k v w' z action) same here, on.2)
 
 -- the end of a copy that comes to no access
-pub ends-refused : (c : CallerKnowledge) (k : Layout) (v w : View) (call : Call) (verdict : Verdict) → Underway c k v w call (Done verdict) → EndsRefused c k call verdict v w
+pub ends-refused : (c : CallerKnowledge) (k : Layout) (v w : View) (call : Call) (verdict : Verdict) → IsUnderway c k v w call (Done verdict) → EndsRefused c k call verdict v w
 ends-refused c k v w call verdict u = by u.phase u.acts u.stands
   where
     at-end : (pins : Pins) (denial : Denial) (ps : List Held) → last_first pins ≡ ps → Done verdict ≡ next_to_give ps (Refused denial) → StandsWell k v w u.steps (Ending pins (Refused denial)) → EndsRefused c k call verdict v w
@@ -180,16 +180,16 @@ no-end [] verdict from to len e = cc
 no-end (p ∷ ps) verdict from to len e = cc
 
 -- a copy that comes to its access
-pub comes-there : (c : CallerKnowledge) (k : Layout) (v w : View) (call : Call) (from to : Place) (len : ℕ) → Underway c k v w call (Makes (CopyBytes from to len)) → AtAccess c k call from to len v w
+pub comes-there : (c : CallerKnowledge) (k : Layout) (v w : View) (call : Call) (from to : Place) (len : ℕ) → IsUnderway c k v w call (Makes (CopyBytes from to len)) → AtAccess c k call from to len v w
 comes-there c k v w call from to len u = by u.phase u.there u.acts u.stands
   where
     here : (copy : CopyArgs) (source dest : Route) → call.phase ≡ Some (Accessing copy source dest) → StandsWell k v w u.steps (Accessing copy source dest) → AtAccess c k call from to len v w
     here copy source dest there well =
         let t = call.caller in let r = call.request in let way = path c t r in
         let held : pins_by_call call ≡ record { source = source; dest = dest } = held-there call (Accessing copy source dest) there in
-        let at : IsAt c (record call { phase = Some (Accessing copy source dest) }) (shown u.steps) = subst (λ (o : Option Phase). IsAt c (record call { phase = o }) (shown u.steps)) there u.at in
-        let leads : (vs : List Seen) → way ((shown u.steps ++ Nothing ∷ []) ++ vs) ≡ give_back (last_first (record { source = source; dest = dest })) Granted vs =
-        λ vs. ap way (append_assoc (shown u.steps) (Nothing ∷ []) vs) ∙ at.leads (Nothing ∷ vs) in
+        let at : IsAt c (record call { phase = Some (Accessing copy source dest) }) (all_shown u.steps) = subst (λ (o : Option Phase). IsAt c (record call { phase = o }) (all_shown u.steps)) there u.at in
+        let leads : (vs : List Seen) → way ((all_shown u.steps ++ Nothing ∷ []) ++ vs) ≡ give_back (last_first (record { source = source; dest = dest })) Granted vs =
+        λ vs. ap way (append_assoc (all_shown u.steps) (Nothing ∷ []) vs) ∙ at.leads (Nothing ∷ vs) in
         record {
           comes = record { steps = u.steps; view = u.view; walked = u.walked; moments = walk-moments k way v u.steps u.walked; next = u.goes; is_access = tt };
           copy = copy;

@@ -7,7 +7,7 @@ use Rattle.gt_types.specs.declared.denial.Denial.{Denial}
 use Rattle.gt_words.specs.Rule.{Layout}
 use Rattle.gt_words.specs.declared.view.View.{View}
 use Rattle.gt_calls.specs.Legs.{leg_after, leg_step}
-use Rattle.gt_calls.specs.MapCalls.{BeginsAs, GoesOnAs, MapCall, call_of}
+use Rattle.gt_calls.specs.MapCalls.{MapBeginsAs, MapGoesOnAs, MapCall, call_of}
 use Rattle.gt_calls.specs.Path.{map_leg, path}
 use Rattle.gt_calls.specs.Rules.{CallerKnowledge, begun}
 use Rattle.gt_calls.specs.declared.action.Action.TheVariants.{Step as Makes}
@@ -52,10 +52,10 @@ Comes c k v w m next = Came c k v w (record m { at = Header }) next
 
 -- a map goes on as its leg does
 abbrev pub LegLaw : CallerKnowledge → Type 0
-LegLaw c = (m : MapCall) (seen : Seen) → GoesOnAs c m seen (leg_after m.leg m.at seen)
+LegLaw c = (m : MapCall) (seen : Seen) → MapGoesOnAs c m seen (leg_after m.leg m.at seen)
 
 comes-so : (c : CallerKnowledge) (k : Layout) (v w w' : View) (m : MapCall) (seen : Seen) (next : LegNext)
-    → Knows c k m.caller v → Stands c k v w m → Made k (leg_step m.leg m.at) seen w w' → GoesOnAs c m seen next
+    → Knows c k m.caller v → Stands c k v w m → Made k (leg_step m.leg m.at) seen w w' → MapGoesOnAs c m seen next
     → Comes c k v w' m next
 comes-so c k v w w' m seen (GoesTo at) knows g made goes = (map-on c k v w w' m seen at knows g made goes).0
 comes-so c k v w w' m seen (LegRefused denial) knows g made goes =
@@ -78,7 +78,7 @@ can-step c k v w m knows g = makes-next c k Nothing v w (call_of m) (leg_step m.
 -- a map begins with the look at the header
 abbrev pub BeginLaw : CallerKnowledge → Type 0
 BeginLaw c = (caller dom : DomId) (gref : GrantRef) (flags : ℕ)
-    → BeginsAs c (map_at caller dom gref flags (map_leg c caller dom gref flags) Header)
+    → MapBeginsAs c (map_at caller dom gref flags (map_leg c caller dom gref flags) Header)
 
 -- a map that no rule answered at its beginning
 pub opened : (c : CallerKnowledge) (k : Layout) (v : View) (caller dom : DomId) (gref : GrantRef) (flags : ℕ)

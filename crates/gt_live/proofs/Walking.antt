@@ -20,7 +20,7 @@ use Rattle.gt_calls.specs.declared.action.Step.TheVariants.{LookHeader, LookCont
 use Rattle.gt_calls.specs.Path.{Continuation}
 use Rattle.gt_calls.specs.Resting.{HasRead, HasSeenTable}
 use Rattle.gt_calls.specs.Rules.{is_kind}
-use Rattle.gt_live.specs.Walks.{IsWalk, Made, MakesStep, after, shown, shown_by}
+use Rattle.gt_live.specs.Walks.{IsWalk, Made, MakesStep, view_after, all_shown, shown_by}
 
 module _ {A : Type 0} where
   pub never : (xs : List A) (a : A) (ys : List A) → [] ≡ xs ++ a ∷ ys → ⊥
@@ -41,7 +41,7 @@ module _ {A : Type 0} where
   unsnoc a (b ∷ bs) = let more = unsnoc b bs in (a ∷ more.0, more.1, ap (λ (zs : List A). a ∷ zs) more.2)
 
 -- a seat stays at its position
-pub after-position : (xs : List Moment) (v : View) → (after xs v).position ≡ v.position
+pub after-position : (xs : List Moment) (v : View) → (view_after xs v).position ≡ v.position
 after-position [] v = refl
 after-position (x ∷ xs) v = after-position xs v
 
@@ -49,20 +49,20 @@ after-position (x ∷ xs) v = after-position xs v
 pub record MadeLast (k : Layout) (way : Continuation) (v : View) (steps : List Moment) (before : List Seen) (x : Seen) (s : Step) : Type 0 where
   pub rest : List Moment
   pub walked : IsWalk k way v rest
-  pub shown_is : shown rest ≡ before
-  pub made : Made k s x (after rest v) (after steps v)
+  pub shown_is : all_shown rest ≡ before
+  pub made : Made k s x (view_after rest v) (view_after steps v)
 
-pub made-last : (k : Layout) (way : Continuation) (v : View) (steps : List Moment) (before : List Seen) (x : Seen) (s : Step) → IsWalk k way v steps → shown steps ≡ before ++ x ∷ [] → way before ≡ Some (Makes s)
+pub made-last : (k : Layout) (way : Continuation) (v : View) (steps : List Moment) (before : List Seen) (x : Seen) (s : Step) → IsWalk k way v steps → all_shown steps ≡ before ++ x ∷ [] → way before ≡ Some (Makes s)
     → MadeLast k way v steps before x s
 made-last k way v [] before x s walk e f = absurd (never before x [] e)
 made-last k way v (y ∷ rest) before x s walk e f =
-    let i = snoc-inj (shown rest) before (shown_by y) x e in
-    let m : Made k s (shown_by y) (after rest v) (after (y ∷ rest) v) =
-    subst (λ (o : Option Action). MakesStep k o (shown_by y) (after rest v) (after (y ∷ rest) v)) (ap way i.0 ∙ f) walk.0 in
-    record { rest = rest; walked = walk.1; shown_is = i.0; made = subst (λ (z : Seen). Made k s z (after rest v) (after (y ∷ rest) v)) i.1 m }
+    let i = snoc-inj (all_shown rest) before (shown_by y) x e in
+    let m : Made k s (shown_by y) (view_after rest v) (view_after (y ∷ rest) v) =
+    subst (λ (o : Option Action). MakesStep k o (shown_by y) (view_after rest v) (view_after (y ∷ rest) v)) (ap way i.0 ∙ f) walk.0 in
+    record { rest = rest; walked = walk.1; shown_is = i.0; made = subst (λ (z : Seen). Made k s z (view_after rest v) (view_after (y ∷ rest) v)) i.1 m }
 
 -- a header that was shown has no larger table than there is room for
-shown-header : (k : Layout) (way : Continuation) (v : View) (steps : List Moment) (before : List Seen) (word : ℕ) (later : List Seen) (dom : DomId) → IsWalk k way v steps → shown steps ≡ before ++ Word word ∷ later
+shown-header : (k : Layout) (way : Continuation) (v : View) (steps : List Moment) (before : List Seen) (word : ℕ) (later : List Seen) (dom : DomId) → IsWalk k way v steps → all_shown steps ≡ before ++ Word word ∷ later
     → way before ≡ Some (Makes (LookHeader dom)) → size_of (header_of word) ≤ TABLE_ENTRIES
 shown-header k way v [] before word later dom walk e f = absurd (never before (Word word) later e)
 shown-header k way v (y ∷ rest) before word [] dom walk e f = (made-last k way v (y ∷ rest) before (Word word) (LookHeader dom) walk e f).made.size
@@ -70,7 +70,7 @@ shown-header k way v (y ∷ rest) before word (a ∷ bs) dom walk e f =
     let u = unsnoc a bs in
     let split : before ++ Word word ∷ (a ∷ bs) ≡ (before ++ Word word ∷ u.0) ++ u.1 ∷ [] =
     ap (λ (zs : List Seen). before ++ Word word ∷ zs) u.2 ∙ sym (append_assoc before (Word word ∷ u.0) (u.1 ∷ [])) in
-    shown-header k way v rest before word u.0 dom walk.1 (snoc-inj (shown rest) (before ++ Word word ∷ u.0) (shown_by y) u.1 (e ∙ split)).0 f
+    shown-header k way v rest before word u.0 dom walk.1 (snoc-inj (all_shown rest) (before ++ Word word ∷ u.0) (shown_by y) u.1 (e ∙ split)).0 f
 
 -- a table within the limit of frames has no more entries than there is room for
 pub few-entries : (b : Bool) (f : ℕ) → f ≤ MAX_TABLE_FRAMES → f * cond b ENTRIES_V2 ENTRIES_V1 ≤ TABLE_ENTRIES
@@ -78,16 +78,16 @@ few-entries true f h = omega arith
 few-entries false f h = omega arith
 
 -- a reference in a table seen is one that there is room for
-pub in-seen-table : (k : Layout) (way : Continuation) (v : View) (steps : List Moment) (dom : DomId) (gref : GrantRef) → IsWalk k way v steps → HasSeenTable way dom gref (shown steps) → gref.0 < TABLE_ENTRIES
+pub in-seen-table : (k : Layout) (way : Continuation) (v : View) (steps : List Moment) (dom : DomId) (gref : GrantRef) → IsWalk k way v steps → HasSeenTable way dom gref (all_shown steps) → gref.0 < TABLE_ENTRIES
 in-seen-table k way v steps dom gref walk t =
     let size = shown-header k way v steps t.before t.word t.after dom walk t.shown_is t.looked in let lt = t.inside in omega (arith, size, lt)
 
 -- the words of an entry that was read, and is no sub-page, are those that the seat saw last of it
-pub read-page : (k : Layout) (way : Continuation) (v : View) (steps : List Moment) (dom : DomId) (gref : GrantRef) (word body second : ℕ) → IsWalk k way v steps → HasRead way dom gref word body second (shown steps)
-    → is_kind (control_of word).kind KindSub ≡ false → seen (steps_on (position_in k.ids dom) gref.0 (after steps v)) ≡ Some (record { word = word; first = Some body; second = None })
+pub read-page : (k : Layout) (way : Continuation) (v : View) (steps : List Moment) (dom : DomId) (gref : GrantRef) (word body second : ℕ) → IsWalk k way v steps → HasRead way dom gref word body second (all_shown steps)
+    → is_kind (control_of word).kind KindSub ≡ false → seen (steps_on (position_in k.ids dom) gref.0 (view_after steps v)) ≡ Some (record { word = word; first = Some body; second = None })
 read-page k way v steps dom gref word body second walk r page =
     let at = position_in k.ids dom in
-    let split : shown steps ≡ (r.before ++ Word word ∷ []) ++ Word body ∷ [] =
+    let split : all_shown steps ≡ (r.before ++ Word word ∷ []) ++ Word body ∷ [] =
     r.shown_is ∙ (ap (λ (b : Bool). r.before ++ Word word ∷ Word body ∷ cond b (Word second ∷ []) []) page ∙ sym (append_assoc r.before (Word word ∷ []) (Word body ∷ []))) in
     let two = made-last k way v steps (r.before ++ Word word ∷ []) (Word body) (LookBody dom gref First) walk split r.first_read in
     let one = made-last k way v two.rest r.before (Word word) (LookControl dom gref) two.walked two.shown_is r.looked in

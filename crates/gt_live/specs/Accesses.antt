@@ -3,14 +3,8 @@ use Rattle.std.specs.Prelude.{◌≡◌, ◌⊎◌, ℕ, List, [], ◌∷◌, �
 use Rattle.gt_live.specs.Prelude.{DomId, Denial, N16, N26, NoFacts, denial_of, Layout, Moment, View, Copying, Reading}
 use Rattle.gt_live.specs.Prelude.{Writing, FrameName, Spot, IsReadOf, copying_at, writing_at, Makes, Place, Seen}
 use Rattle.gt_live.specs.Prelude.{Nothing, Step, ReadBytes, WriteBytes, CopyBytes, Granted, Refused, Continuation}
-use Rattle.gt_live.specs.Walks.{AreMoments, Called, IsWalk, after, shown}
-
--- the step is an access to bytes, and none on the words
-abbrev pub IsAccess : Step → Type 0
-IsAccess (ReadBytes dom frame off len) = Unit {0}
-IsAccess (WriteBytes dom frame off len) = Unit {0}
-IsAccess (CopyBytes from to len) = Unit {0}
-IsAccess step = ⊥
+use Rattle.gt_live.specs.Walks.{AreMoments, Called, IsWalk, view_after, all_shown}
+pub use Rattle.gt_calls.specs.Standing.{IsAccess}
 
 -- what follows on this way after these values
 abbrev pub onward : Continuation → List Seen → Continuation
@@ -20,10 +14,10 @@ onward way values vs = way (values ++ vs)
 -- its way, one after another, and the access is what comes next
 pub record ComesTo (k : Layout) (way : Continuation) (access : Step) (v w : View) : Type 0 where
   pub steps : List Moment
-  pub view : w ≡ after steps v
+  pub view : w ≡ view_after steps v
   pub walked : IsWalk k way v steps
   pub moments : AreMoments k v steps
-  pub next : way (shown steps) ≡ Some (Makes access)
+  pub next : way (all_shown steps) ≡ Some (Makes access)
   pub is_access : IsAccess access
 
 -- of the actions on this way, over the values of a whole call, none is an access to bytes but the one
@@ -38,8 +32,8 @@ IsOnlyAccess way before whole =
 pub record Accessed (k : Layout) (way : Continuation) (access : Step) (v w : View) : Type 0 where
   pub at : View
   pub comes : ComesTo k way access v at
-  pub ends : Called k (onward way (shown comes.steps ++ Nothing ∷ [])) Granted at w
-  pub only : IsOnlyAccess way (shown comes.steps) ((shown comes.steps ++ Nothing ∷ []) ++ shown ends.steps)
+  pub ends : Called k (onward way (all_shown comes.steps ++ Nothing ∷ [])) Granted at w
+  pub only : IsOnlyAccess way (all_shown comes.steps) ((all_shown comes.steps ++ Nothing ∷ []) ++ all_shown ends.steps)
 
 -- an access that was not made, since memory was refused or a frame of
 -- another name was in the place of the one wanted
@@ -49,10 +43,10 @@ IsOfAccess denial = (denial ≡ denial_of N26 NoFacts) ⊎ (denial ≡ denial_of
 -- A call with an access was answered so. Ok: by its whole way, and what it answers is of
 -- the access. A refusal: the way's own; or the access could not be made, and the call went
 -- on to its end all the same, which gives its pins back
-abbrev pub AnsweredBy : {R : Type 0} → Layout → Continuation → (Step → R → Type 0) → Result R Denial → View → View
+abbrev pub AnsweredAtAccess : {R : Type 0} → Layout → Continuation → (Step → R → Type 0) → Result R Denial → View → View
     → Type 0
-AnsweredBy k way tells (Ok r) v w = (access : Step) × Accessed k way access v w × tells access r
-AnsweredBy k way tells (Err denial) v w =
+AnsweredAtAccess k way tells (Ok r) v w = (access : Step) × Accessed k way access v w × tells access r
+AnsweredAtAccess k way tells (Err denial) v w =
     Called k way (Refused denial) v w ⊎ ((access : Step) × Accessed k way access v w × IsOfAccess denial)
 
 -- the frame of this owner with this number

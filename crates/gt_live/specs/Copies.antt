@@ -30,9 +30,9 @@ filled (Err denial) value = Err denial
 abbrev pub source_leg : CallerKnowledge → DomId → CopyArgs → Phase
 source_leg c caller copy = Walking (Source copy None) (end_leg c caller copy.source Read copy.len) Header
 
-abbrev pub after_source : CallerKnowledge → DomId → CopyArgs → Result Route Denial → Phase
-after_source c caller copy (Ok source) = at_dest c caller copy source
-after_source c caller copy (Err denial) = Ending no_pins (Refused denial)
+abbrev pub phase_after_source : CallerKnowledge → DomId → CopyArgs → Result Route Denial → Phase
+phase_after_source c caller copy (Ok source) = at_dest c caller copy source
+phase_after_source c caller copy (Err denial) = Ending no_pins (Refused denial)
 
 -- a copy before the leg to its destination, and after it
 abbrev pub dest_leg : CallerKnowledge → DomId → CopyArgs → Route → Phase

@@ -3,16 +3,18 @@ use Rattle.std.specs.Prelude.{◌≡◌, ◌⊎◌, ℕ, ◌<◌, Bool, length, 
 use Rattle.gt_live.specs.Prelude.{DomId, TypeId, GrantRef, Size, CopyEnd, Hypercall, Record, Reply, Perms, Config}
 use Rattle.gt_live.specs.Prelude.{Denial, N16, N26, NoFacts, TABLE_ENTRIES, denial_of, Board, IsSameSeat, IsSeatOf}
 use Rattle.gt_live.specs.Prelude.{KeepsPins, Unpins, generation_of, Moment, Layout, position_in, last_of, own_table}
-use Rattle.gt_live.specs.Prelude.{pins, steps_on, View, HandleMap, value_of, Handle, Verdict, Granted, Given, Mapped}
+use Rattle.gt_live.specs.Prelude.{live_pins, steps_on, View, HandleMap, value_of, Handle, Verdict, Granted, Given}
+use Rattle.gt_live.specs.Prelude.{Mapped}
 use Rattle.gt_live.specs.Prelude.{Refused, Frames, SizeTold, Version, Held, CopyArgs, End, Request, Copying, begun_of}
-use Rattle.gt_live.specs.Prelude.{path, path_of, IsFresh, MakesStep, Call, CallerKnowledge, knowledge_of, entry_in}
-use Rattle.gt_live.specs.Prelude.{generation_in, Domain, Left, Monitor, NotMade, Gone, OutOfMemory, Step, asked}
+use Rattle.gt_live.specs.Prelude.{path, path_of, IsFreshCall, IsStepAction, Call, CallerKnowledge, knowledge_of}
+use Rattle.gt_live.specs.Prelude.{entry_in}
+use Rattle.gt_live.specs.Prelude.{own_generation, Domain, Left, Monitor, NotMade, Gone, OutOfMemory, Step, asked}
 use Rattle.gt_audit.specs.declared.record.Hypercall.TheVariants as hypercalls
 use Rattle.gt_audit.specs.declared.record.Reply.TheVariants as replies
-use Rattle.gt_live.specs.Mappings.{Adds, IsMappingOf, KeepsMappings, PinsAreOf, Removes}
-use Rattle.gt_live.specs.Accesses.{AnsweredBy}
+use Rattle.gt_live.specs.Mappings.{AddsMapping, IsMappingOf, KeepsMappings, PinsAreOf, Removes}
+use Rattle.gt_live.specs.Accesses.{AnsweredAtAccess}
 use Rattle.gt_live.specs.Ending.{IsWordless}
-use Rattle.gt_live.specs.Walks.{AreMoments, Called, after}
+use Rattle.gt_live.specs.Walks.{AreMoments, Called, view_after}
 
 -- whose type may do what to whose (XSM FLASK)
 abbrev pub AllowRelation : Type 0
@@ -27,32 +29,32 @@ knowledge c may d = knowledge_of c.domains.items c.first_gen may d.own.items (ow
 pub record IsDomainOf (b : Board) (c : Config) (may : AllowRelation) (d : Domain) : Type 0 where
   pub seat : IsSeatOf b d.seat
   pub rows : (r : ℕ) → r < TABLE_ENTRIES → last_of r d.seat.view
-      ≡ record { generation = generation_in c.first_gen d.own.items r; entry = entry_in d.own.items r }
-  pub generations : (r : ℕ) → r < TABLE_ENTRIES → generation_in c.first_gen d.own.items r < 1048576
+      ≡ record { generation = own_generation c.first_gen d.own.items r; entry = entry_in d.own.items r }
+  pub generations : (r : ℕ) → r < TABLE_ENTRIES → own_generation c.first_gen d.own.items r < 1048576
   pub all_rows : length d.own.items ≡ TABLE_ENTRIES
   pub mapped : (h : Handle) (m : Held) → value_of d.mappings h ≡ Some m
       → IsMappingOf b.layout c.domains.items may d.seat.dom d.seat.view m
   pub pins : PinsAreOf b.layout d.seat.view d.mappings
 
 -- the domain came with this monitor
-abbrev pub IsOf : {P : Type 0} → (P → AllowRelation) → Monitor P → Domain → Type 0
-IsOf may m d = IsDomainOf m.words m.config (may m.rights) d
+abbrev pub BelongsTo : {P : Type 0} → (P → AllowRelation) → Monitor P → Domain → Type 0
+BelongsTo may m d = IsDomainOf m.words m.config (may m.rights) d
 
 -- what the domain knows by itself, and what the monitor allows
-abbrev pub known : {P : Type 0} → (P → AllowRelation) → Monitor P → Domain → CallerKnowledge
-known may m d = knowledge m.config (may m.rights) d
+abbrev pub known_on : {P : Type 0} → (P → AllowRelation) → Monitor P → Domain → CallerKnowledge
+known_on may m d = knowledge m.config (may m.rights) d
 
 -- a call of the domain d asked this and was answered so, after which the domain is e: its steps are those
 -- of the call's path, each made as the words say, and the answer is the path's
 abbrev pub Answered : {P : Type 0} → (P → AllowRelation) → Monitor P → Domain → Request → Verdict → Domain → Type 0
 Answered may m d request verdict e =
-    Called m.words.layout (path_of (known may m d) d.seat.dom request) verdict d.seat.view e.seat.view
+    Called m.words.layout (path_of (known_on may m d) d.seat.dom request) verdict d.seat.view e.seat.view
 
 -- the same of a call with an access, whose answer says this of it
 abbrev pub Accesses : {P R : Type 0} → (P → AllowRelation) → Monitor P → Domain → Request → (Step → R → Type 0)
     → Result R Denial → Domain → Type 0
 Accesses may m d request tells result e =
-    AnsweredBy m.words.layout (path_of (known may m d) d.seat.dom request) tells result d.seat.view e.seat.view
+    AnsweredAtAccess m.words.layout (path_of (known_on may m d) d.seat.dom request) tells result d.seat.view e.seat.view
 
 -- the domain has the mappings and pins that it had
 abbrev pub KeepsPinned : Domain → Domain → Type 0
@@ -88,21 +90,21 @@ verdict_of_frames (Err denial) = Refused denial
 abbrev pub MapAnswered : {P : Type 0} → (P → AllowRelation) → Monitor P → Domain → Request → Result Handle Denial
     → Domain → Type 0
 MapAnswered may m d request (Ok handle) e =
-    (p : Held) × Answered may m d request (Mapped p) e × Adds d.mappings e.mappings handle p
+    (p : Held) × Answered may m d request (Mapped p) e × AddsMapping d.mappings e.mappings handle p
 MapAnswered may m d request (Err denial) e =
     (Answered may m d request (Refused denial) e
-    ⊎ ((denial ≡ denial_of N26 NoFacts) × (begun_of (known may m d) d.seat.dom request ≡ None)
+    ⊎ ((denial ≡ denial_of N26 NoFacts) × (begun_of (known_on may m d) d.seat.dom request ≡ None)
     × (d.mappings.room ≡ 0) × (e.seat.view ≡ d.seat.view)))
     × KeepsPinned d e
 
 -- a call is open, has made no step, and begins with one
 pub record IsOpened (c : CallerKnowledge) (caller : DomId) (call : Call) : Type 0 where
   pub of_caller : call.caller ≡ caller
-  pub fresh : IsFresh c call
-  pub steps : MakesStep (path c caller call.request [])
+  pub fresh : IsFreshCall c call
+  pub steps : IsStepAction (path c caller call.request [])
 
 -- no rule stood at the beginning of this request, whose call is open
-pub record Opens (c : CallerKnowledge) (caller : DomId) (request : Request) (call : Call) : Type 0 where
+pub record OpensCall (c : CallerKnowledge) (caller : DomId) (request : Request) (call : Call) : Type 0 where
   pub unanswered : begun_of c caller request ≡ None
   pub asks : call.request ≡ asked request
   pub same_way : path_of c caller request ≡ path c caller call.request
@@ -163,17 +165,17 @@ pub record HasLeft (k : Layout) (d : Domain) (l : Left) : Type 0 where
   pub rest : HandleMap Held
   pub released : Released k handles d.mappings d.seat.view rest l.seat.view
   pub steps : List Moment
-  pub view : l.seat.view ≡ after steps d.seat.view
+  pub view : l.seat.view ≡ view_after steps d.seat.view
   pub moments : AreMoments k d.seat.view steps
   pub all_given : (h : Handle) → value_of rest h ≡ None
   pub seat : IsSameSeat d.seat l.seat
   pub records : l.trail ≡ d.trail
-  pub no_pins : (t r : ℕ) → pins (steps_on t r l.seat.view) ≡ []
+  pub no_pins : (t r : ℕ) → live_pins (steps_on t r l.seat.view) ≡ []
 
 -- the refusal of a call that was refused
-abbrev pub refusal_of : Verdict → Denial
-refusal_of (Refused denial) = denial
-refusal_of verdict = denial_of N26 NoFacts
+abbrev pub denial_in : Verdict → Denial
+denial_in (Refused denial) = denial
+denial_in verdict = denial_of N26 NoFacts
 
 -- how an access that was not made is refused
 abbrev pub not_made : NotMade → Denial

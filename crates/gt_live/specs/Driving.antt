@@ -5,16 +5,17 @@ use Rattle.gt_live.specs.Prelude.{DomId, DomainConfig, TABLE_ENTRIES, domain_of,
 use Rattle.gt_live.specs.Prelude.{CanChange, CanPin, HasDomain, Holds, KeepsPins, SeesNoEarlier, Changes, Unpins}
 use Rattle.gt_live.specs.Prelude.{IsKeptHeader, Layout, id_at, position_in, last_seen, record_seen, last_of, Moment}
 use Rattle.gt_live.specs.Prelude.{Action, Makes, Done, Change, Step, LookHeader, LookControl, LookBody, Pin, Unpin}
-use Rattle.gt_live.specs.Prelude.{StoreBody, StoreHeader, Exchange, Asked, Call, Held, Handle, raise_of, GoesOn, path}
+use Rattle.gt_live.specs.Prelude.{StoreBody, StoreHeader, Exchange, Asked, Call, Held, Handle, raise_of, GoesOnWith}
+use Rattle.gt_live.specs.Prelude.{path}
 use Rattle.gt_live.specs.Prelude.{Rests, CallerKnowledge, begun, IsAt, held_by_call, pins_by_call, Effect, Pinned}
 use Rattle.gt_live.specs.Prelude.{Unpinned, Changed, Stored}
 use Rattle.gt_words.specs.Answers.{Pins}
 use Rattle.gt_calls.specs.declared.request.Asked.TheVariants as asks
 use Rattle.gt_live.specs.declared.driving.Effect.TheVariants.{Nothing}
-use Rattle.gt_live.specs.Walks.{IsWalk, TellsSteps, after, shown}
+use Rattle.gt_live.specs.Walks.{IsWalk, TellsSteps, view_after, all_shown}
 use Rattle.gt_live.specs.Effects.{Answers}
 use Rattle.gt_live.specs.Ending.{IsHeaderChange, IsMap, IsOwnChange}
-use Rattle.gt_live.specs.Mappings.{HasPin, IsMappingOf, record_of}
+use Rattle.gt_live.specs.Mappings.{HasPin, IsMappingOf, entry_record_of}
 
 -- the seat may make this step of a call
 abbrev pub CanMake : Layout → View → Step → Type 0
@@ -58,7 +59,7 @@ pub record MapsBy (c : CallerKnowledge) (k : Layout) (caller : DomId) (request :
   pub before : View
   pub same : IsSame v before
   pub pins : Pins k (position_in k.ids p.dom) p.gref.0 p.dir p.word before w
-  pub entry_is : record_seen (last_seen (position_in k.ids p.dom) p.gref.0 before) ≡ record_of p
+  pub entry_is : record_seen (last_seen (position_in k.ids p.dom) p.gref.0 before) ≡ entry_record_of p
   pub mapping : IsMappingOf k c.domains c.may caller w p
   pub serial : c.maps_answered + 1 < 2 ^ 64
 
@@ -105,11 +106,11 @@ ActionTells k v steps (Done verdict) = TellsSteps k v steps verdict
 pub record Going (c : CallerKnowledge) (k : Layout) (effect : Effect) (v w : View) (call : Call)
     (action : Action) : Type 0 where
   pub steps : List Moment
-  pub view : w ≡ after steps v
+  pub view : w ≡ view_after steps v
   pub walked : IsWalk k (path c call.caller call.request) v steps
-  pub at : IsAt c call (shown steps)
-  pub goes : GoesOn c call.caller call.request (shown steps) action
-  pub rests : Rests c call.caller call.request (pins_by_call call) (shown steps) action
+  pub at : IsAt c call (all_shown steps)
+  pub goes : GoesOnWith c call.caller call.request (all_shown steps) action
+  pub rests : Rests c call.caller call.request (pins_by_call call) (all_shown steps) action
   pub held : held_by_call call ≡ []
   pub unanswered : begun c call.caller call.request ≡ None
   pub stands : StandsSo c k call.caller call.request v w effect action

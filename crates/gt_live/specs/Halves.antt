@@ -1,13 +1,13 @@
 -- A copy in two halves: the way to its access, which the monitor's caller makes, and the way from there to its end.
 use Rattle.std.specs.Prelude.{◌≡◌, ◌+◌, ◌≤◌, ℕ}
-use Rattle.gt_live.specs.Prelude.{Read, Write, ForCopy, IsSameSeat, KeepsPins, Layout, View, MayCopy, Reaches}
+use Rattle.gt_live.specs.Prelude.{Read, Write, ForCopy, IsSameSeat, KeepsPins, Layout, View, MayCopyBy, ReachesBy}
 use Rattle.gt_live.specs.Prelude.{Hypercall, Record, Place, CopyBytes, Call, CopyArgs, path, path_of, CallerKnowledge}
 use Rattle.gt_live.specs.Prelude.{pins_by_call, Domain, Halfway, Monitor}
 use Rattle.gt_audit.specs.declared.record.Hypercall.TheVariants as hypercalls
 use Rattle.gt_audit.specs.declared.record.Reply.TheVariants as replies
 use Rattle.gt_calls.specs.declared.request.Request.TheVariants as requests
 use Rattle.gt_live.specs.Accesses.{Accessed, spot_of}
-use Rattle.gt_live.specs.Domains.{AllowRelation, IsOf, IsUnsettled, known, told_end}
+use Rattle.gt_live.specs.Domains.{AllowRelation, BelongsTo, IsUnsettled, known_on, told_end}
 use Rattle.gt_live.specs.Underway.{AtAccess, GivesBack}
 
 -- what a record keeps of a copy
@@ -24,21 +24,21 @@ done_copy d c = record { dom = d.seat.dom; call = copy_told c; reply = replies.D
 pub record ComesHalfway {P : Type 0} (may : P → AllowRelation) (m : Monitor P) (d : Domain) (copy : CopyArgs)
     (h : Halfway) (e : Domain) : Type 0 where
   pub asked : h.copy ≡ copy
-  pub way : path_of (known may m d) d.seat.dom (requests.Copy copy)
-      ≡ path (known may m d) h.call.caller h.call.request
-  pub access : AtAccess (known may m d) m.words.layout h.call h.from h.to h.len d.seat.view e.seat.view
-  pub source : Reaches m.words.layout e.seat Read ForCopy (spot_of h.from).frame h.from.off h.len
+  pub way : path_of (known_on may m d) d.seat.dom (requests.Copy copy)
+      ≡ path (known_on may m d) h.call.caller h.call.request
+  pub access : AtAccess (known_on may m d) m.words.layout h.call h.from h.to h.len d.seat.view e.seat.view
+  pub source : ReachesBy m.words.layout e.seat Read ForCopy (spot_of h.from).frame h.from.off h.len
       (pins_by_call h.call).source
-  pub dest : Reaches m.words.layout e.seat Write ForCopy (spot_of h.to).frame h.to.off h.len
+  pub dest : ReachesBy m.words.layout e.seat Write ForCopy (spot_of h.to).frame h.to.off h.len
       (pins_by_call h.call).dest
-  pub allowed : MayCopy m.config.domains.items (may m.rights) e.seat.dom (pins_by_call h.call)
+  pub allowed : MayCopyBy m.config.domains.items (may m.rights) e.seat.dom (pins_by_call h.call)
   pub source_range : h.from.off + h.len ≤ 4096
   pub dest_range : h.to.off + h.len ≤ 4096
   pub kept : IsUnsettled d e
 
 -- the domain stands at the access of this copy, since it was one of this monitor's run and was asked it
 abbrev pub IsHalfway : {P : Type 0} → (P → AllowRelation) → Monitor P → Halfway → Domain → Type 0
-IsHalfway may m h e = (d : Domain) × IsOf may m d × ComesHalfway may m d h.copy h e
+IsHalfway may m h e = (d : Domain) × BelongsTo may m d × ComesHalfway may m d h.copy h e
 
 -- the pins of a copy at its access were given back, one after another, the last one first, and nothing else changed but
 -- the trail

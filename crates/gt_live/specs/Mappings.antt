@@ -1,10 +1,10 @@
 -- The mappings of a domain, and the pins of its seat.
 use Rattle.std.specs.Prelude.{◌≡◌, ℕ, ◌==◌, ◌&&◌, Bool, true, false, nat_le, List}
-use Rattle.gt_live.specs.Prelude.{DomId, Dir, Read, Write, ForMap, Perms, permits, Reaches, FrameName, SeatOf, Direct}
+use Rattle.gt_live.specs.Prelude.{DomId, Dir, Read, Write, ForMap, Perms, permits, ReachesBy, FrameName, SeatOf, Direct}
 use Rattle.gt_live.specs.Prelude.{generation_of, Layout, position_in, held, is_same_dir, View, HandleMap, KeepsSpent}
-use Rattle.gt_live.specs.Prelude.{IsInserted, IsTaken, count_passing, Handle, Held, frame_of, IsAllowed, frames_of}
+use Rattle.gt_live.specs.Prelude.{IsInserted, IsTaken, count_passing, Handle, Held, frame_of, IsAllowed, frame_count_of}
 use Rattle.gt_live.specs.Prelude.{label_of, map_perms, triples, TypeId, DomainConfig}
-pub use Rattle.gt_access.specs.Routes.{HasPin, record_of}
+pub use Rattle.gt_access.specs.Routes.{HasPin, entry_record_of}
 
 -- a mapping: its pin is held, of an entry that permits the caller, of a frame
 -- of its owner's, and what its map asked is allowed
@@ -12,7 +12,7 @@ pub record IsMappingOf (k : Layout) (domains : List DomainConfig) (may : TypeId 
     (caller : DomId) (v : View) (p : Held) : Type 0 where
   pub pin : HasPin k v p
   pub permitted : permits p.entry caller p.dir ForMap 0 0 ≡ true
-  pub in_frames : nat_le (frames_of domains p.dom) (frame_of p.entry) ≡ false
+  pub in_frames : nat_le (frame_count_of domains p.dom) (frame_of p.entry) ≡ false
   pub allowed : IsAllowed may (triples (label_of domains caller) (label_of domains p.dom) (map_perms p.dir))
 
 -- the frame that a mapping is of
@@ -21,8 +21,8 @@ frame_mapped p = record { owner = p.dom; number = frame_of p.entry }
 
 -- by its mapping the seat's domain reaches any range of the frame, to write it if the pin is a write pin
 pub record ReachesItsFrame (k : Layout) (s : SeatOf) (p : Held) : Type 0 where
-  pub reads : (off len : ℕ) → Reaches k s Read ForMap (frame_mapped p) off len (Direct p)
-  pub writes : p.dir ≡ Write → (off len : ℕ) → Reaches k s Write ForMap (frame_mapped p) off len (Direct p)
+  pub reads : (off len : ℕ) → ReachesBy k s Read ForMap (frame_mapped p) off len (Direct p)
+  pub writes : p.dir ≡ Write → (off len : ℕ) → ReachesBy k s Write ForMap (frame_mapped p) off len (Direct p)
 
 -- the mapping has a pin of this kind and generation of the entry r of the domain t
 abbrev pub is_mapping_of : Layout → ℕ → ℕ → Dir → ℕ → Held → Bool
@@ -39,7 +39,7 @@ pub record KeepsMappings (old new : HandleMap Held) : Type 0 where
   pub given : new.given ≡ old.given
 
 -- this mapping is kept under a new handle, and all else is as it was
-pub record Adds (old new : HandleMap Held) (h : Handle) (p : Held) : Type 0 where
+pub record AddsMapping (old new : HandleMap Held) (h : Handle) (p : Held) : Type 0 where
   pub serial : h.serial ≡ old.given
   pub inserted : IsInserted old new h p
   pub spent : KeepsSpent old new

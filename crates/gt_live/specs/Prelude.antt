@@ -1,6 +1,6 @@
 -- The names of other crates, and of the code, that the definitions here speak of.
 pub use Rattle.gt_access.specs.Accesses.{IsReadOf, copying_at, writing_at}
-pub use Rattle.gt_access.specs.Routes.{MayCopy, Reaches}
+pub use Rattle.gt_access.specs.Routes.{MayCopyBy, ReachesBy}
 pub use Rattle.gt_access.specs.declared.by.Refused.{Refused as NotMade}
 pub use Rattle.gt_access.specs.declared.by.Refused.TheVariants.{Gone, Memory as OutOfMemory}
 pub use Rattle.gt_audit.specs.declared.record.CopyEnd.{CopyEnd}
@@ -10,16 +10,17 @@ pub use Rattle.gt_audit.specs.declared.record.Reply.{Reply}
 pub use Rattle.gt_calls.specs.Asking.{asked, begun_of}
 pub use Rattle.gt_calls.specs.Changes.{raise_of}
 pub use Rattle.gt_calls.specs.CopyCalls.{copy_call, unmoved_copy}
-pub use Rattle.gt_calls.specs.Following.{GoesOn, MakesStep}
+pub use Rattle.gt_calls.specs.Following.{GoesOnWith, IsStepAction}
 pub use Rattle.gt_calls.specs.Holding.{last_first, no_pins, pins_so_far, without_last}
 pub use Rattle.gt_calls.specs.Machine.{action_at, after_pin_of, at_dest}
 pub use Rattle.gt_calls.specs.Opening.{IsAllowed}
 pub use Rattle.gt_calls.specs.Path.{AfterPin, AfterRefusal, Continuation, end_leg, entry_refusal, give_back, path}
 pub use Rattle.gt_calls.specs.Path.{path_of, place_of, refused_at, second_leg, tries, try_pin, turn, turns}
 pub use Rattle.gt_calls.specs.Resting.{Rests, RestsOnWays}
-pub use Rattle.gt_calls.specs.Rules.{CallerKnowledge, begun, entry_in, frames_of, generation_in, knowledge_of, label_of}
+pub use Rattle.gt_calls.specs.Rules.{CallerKnowledge, begun, entry_in, frame_count_of, own_generation, knowledge_of}
+pub use Rattle.gt_calls.specs.Rules.{label_of}
 pub use Rattle.gt_calls.specs.Rules.{map_perms, triples}
-pub use Rattle.gt_calls.specs.Standing.{IsAt, IsFresh, held_by_call, held_in, pins_by_call}
+pub use Rattle.gt_calls.specs.Standing.{IsAt, IsFreshCall, held_by_call, held_in, pins_by_call}
 pub use Rattle.gt_calls.specs.declared.action.Action.{Action}
 pub use Rattle.gt_calls.specs.declared.action.Action.TheVariants.{Done, Step as Makes}
 pub use Rattle.gt_calls.specs.declared.action.Place.{Place}
@@ -98,7 +99,8 @@ pub use Rattle.gt_words.specs.History.{Moment, part_of}
 pub use Rattle.gt_words.specs.Keeping.{held}
 pub use Rattle.gt_words.specs.Rule.{IsKeptHeader, Layout, id_at, position_in}
 pub use Rattle.gt_words.specs.Steps.{on_entry, on_header}
-pub use Rattle.gt_words.specs.Views.{IsIn, LivePin, is_same_dir, last_of, last_seen, own_table, pins, record_seen}
+pub use Rattle.gt_words.specs.Views.{IsAmong, LivePin, is_same_dir, last_of, last_seen, own_table, live_pins}
+pub use Rattle.gt_words.specs.Views.{record_seen}
 pub use Rattle.gt_words.specs.Views.{steps_on, with_step}
 pub use Rattle.gt_words.specs.declared.view.EntryStep.{EntryStep}
 pub use Rattle.gt_words.specs.declared.view.EntryStep.TheVariants.{ChangeMissed, Looked, PinMissed, ReadBody}

@@ -1,30 +1,32 @@
 -- A copy under way: the pins that it holds, and where it stops. The code's own
 -- representation. It is in specs/ because contracts cite it.
 use Rattle.std.specs.Prelude.{◌≡◌, ℕ, ◌<◌, ◌==◌, ◌&&◌, Bool, cond, List, [], ◌∷◌, ◌++◌, Some}
-use Rattle.gt_live.specs.Prelude.{Denial, TABLE_ENTRIES, HasDomain, Layout, position_in, LivePin, last_of, pins}
+use Rattle.gt_live.specs.Prelude.{Denial, TABLE_ENTRIES, HasDomain, Layout, position_in, LivePin, last_of, live_pins}
 use Rattle.gt_live.specs.Prelude.{steps_on, Moment, View, Action, Place, Nothing, CopyBytes, Verdict, Granted, Refused}
 use Rattle.gt_live.specs.Prelude.{Call, Phase, Accessing, Ending, Walking, Source, Dest, Held, Pins, CopyArgs, Copy}
-use Rattle.gt_live.specs.Prelude.{GoesOn, last_first, action_at, give_back, path, Rests, RestsOnWays, CallerKnowledge}
+use Rattle.gt_live.specs.Prelude.{GoesOnWith, last_first, action_at, give_back, path, Rests, RestsOnWays}
+use Rattle.gt_live.specs.Prelude.{CallerKnowledge}
 use Rattle.gt_live.specs.Prelude.{IsAt, held_by_call, held_in, pins_by_call}
 use Rattle.gt_words.specs.Keeping.{SeesNoEarlier}
 use Rattle.gt_calls.specs.declared.action.Action.TheVariants as actions
 use Rattle.gt_live.specs.Accesses.{ComesTo, onward}
 use Rattle.gt_live.specs.Driving.{IsSame}
-use Rattle.gt_live.specs.Mappings.{record_of}
-use Rattle.gt_live.specs.Walks.{Called, CarriesFound, IsWalk, after, shown}
+use Rattle.gt_live.specs.Mappings.{entry_record_of}
+use Rattle.gt_live.specs.Walks.{Called, CarriesFound, IsWalk, view_after, all_shown}
 
 -- the pin is one of the entry r of the domain t
 abbrev pub is_of_entry : Layout → ℕ → ℕ → Held → Bool
 is_of_entry k t r p = (position_in k.ids p.dom == t) && (p.gref.0 == r)
 
 -- of these pins those of the entry r of the domain t, as a view has them
-abbrev pub live_of : Layout → ℕ → ℕ → List Held → List LivePin
-live_of k t r [] = []
-live_of k t r (p ∷ ps) = cond (is_of_entry k t r p) ((p.dir, record_of p) ∷ live_of k t r ps) (live_of k t r ps)
+abbrev pub live_pins_by : Layout → ℕ → ℕ → List Held → List LivePin
+live_pins_by k t r [] = []
+live_pins_by k t r (p ∷ ps) =
+    cond (is_of_entry k t r p) ((p.dir, entry_record_of p) ∷ live_pins_by k t r ps) (live_pins_by k t r ps)
 
 -- the seat has taken these pins, the last one first, and else has the pins and records that it had
 pub record HasTaken (k : Layout) (taken : List Held) (v w : View) : Type 0 where
-  pub pins : (t r : ℕ) → pins (steps_on t r w) ≡ live_of k t r taken ++ pins (steps_on t r v)
+  pub pins : (t r : ℕ) → live_pins (steps_on t r w) ≡ live_pins_by k t r taken ++ live_pins (steps_on t r v)
   pub records : (r : ℕ) → last_of r w ≡ last_of r v
   pub seen : SeesNoEarlier v w
   pub position : w.position ≡ v.position
@@ -41,7 +43,7 @@ abbrev pub StandsInCopy : Layout → View → List Moment → Phase → Type 0
 StandsInCopy k v steps (Walking (Source c via) l at) = Unit {0}
 StandsInCopy k v steps (Walking (Dest c source via) l at) = Unit {0}
 StandsInCopy k v steps (Accessing c source dest) = Unit {0}
-StandsInCopy k v steps (Ending pins (Refused denial)) = CarriesFound k v steps denial.facts
+StandsInCopy k v steps (Ending live_pins (Refused denial)) = CarriesFound k v steps denial.facts
 StandsInCopy k v steps phase = ⊥
 
 -- the same, and its seat has just the pins that it holds there, besides those that it had
@@ -52,13 +54,13 @@ pub record StandsWell (k : Layout) (v w : View) (steps : List Moment) (phase : P
 
 -- a copy under way: it added steps to its seat's view, which are those of
 -- its path, and the action is what comes next
-pub record Underway (c : CallerKnowledge) (k : Layout) (v w : View) (call : Call) (action : Action) : Type 0 where
+pub record IsUnderway (c : CallerKnowledge) (k : Layout) (v w : View) (call : Call) (action : Action) : Type 0 where
   pub steps : List Moment
-  pub view : w ≡ after steps v
+  pub view : w ≡ view_after steps v
   pub walked : IsWalk k (path c call.caller call.request) v steps
-  pub at : IsAt c call (shown steps)
-  pub goes : GoesOn c call.caller call.request (shown steps) action
-  pub rests : Rests c call.caller call.request (pins_by_call call) (shown steps) action
+  pub at : IsAt c call (all_shown steps)
+  pub goes : GoesOnWith c call.caller call.request (all_shown steps) action
+  pub rests : Rests c call.caller call.request (pins_by_call call) (all_shown steps) action
   pub copy : CopyArgs
   pub of_copy : call.request ≡ Copy copy
   pub phase : Phase
@@ -76,7 +78,7 @@ pub record AtAccess (c : CallerKnowledge) (k : Layout) (call : Call) (from to : 
   pub rests : RestsOnWays c call.caller call.request (pins_by_call call) from to len
   pub taken : HasTaken k (held_by_call call) v w
   pub of_run : AreOfRun k (held_by_call call)
-  pub ends : onward (path c call.caller call.request) (shown comes.steps ++ Nothing ∷ [])
+  pub ends : onward (path c call.caller call.request) (all_shown comes.steps ++ Nothing ∷ [])
       ≡ give_back (held_by_call call) Granted
 
 -- a copy ended without its access: it was refused, and its seat has the pins and records that it had
@@ -89,7 +91,7 @@ pub record EndsRefused (c : CallerKnowledge) (k : Layout) (call : Call) (verdict
 -- the pins that a copy held at its access were given back, one after another, and nothing else
 pub record GivesBack (k : Layout) (routes : Pins) (v w : View) : Type 0 where
   pub steps : List Moment
-  pub view : w ≡ after steps v
+  pub view : w ≡ view_after steps v
   pub walked : IsWalk k (give_back (last_first routes) Granted) v steps
-  pub ended : give_back (last_first routes) Granted (shown steps) ≡ Some (actions.Done Granted)
+  pub ended : give_back (last_first routes) Granted (all_shown steps) ≡ Some (actions.Done Granted)
   pub back : (base : View) → HasTaken k (last_first routes) base v → HasTaken k [] base w

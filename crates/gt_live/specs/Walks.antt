@@ -3,7 +3,7 @@ use Rattle.std.specs.Prelude.{◌≡◌, ℕ, Bool, true, false, List, [], ◌�
 use Rattle.gt_live.specs.Prelude.{generation_of, IsNotEarlier, IsWordOf, LooksAtHeader, LooksAtControl, LooksAtBody}
 use Rattle.gt_live.specs.Prelude.{MissesPin, Unpins, StoresBody, StoresHeader, Changes, MissesChange, MissesBusy}
 use Rattle.gt_live.specs.Prelude.{Publishes, Revokes, Demotes, Layout, id_at, position_in, on_entry, on_header}
-use Rattle.gt_live.specs.Prelude.{TookPlace, Moment, part_of, IsIn, last_of, with_step, EntryStep, DomId, GrantRef}
+use Rattle.gt_live.specs.Prelude.{TookPlace, Moment, part_of, IsAmong, last_of, with_step, EntryStep, DomId, GrantRef}
 use Rattle.gt_live.specs.Prelude.{Facts, Looked, ReadBody, PinMissed, StoredBody, ChangeMissed, SeatStep, Entry, View}
 use Rattle.gt_live.specs.Prelude.{Action, Makes, Done, control_of, is_kind, Publish, Revoke, Withdraw, Demote, Promote}
 use Rattle.gt_live.specs.Prelude.{FirstHalf, SecondHalf, Sub, Leg, Seen, Nothing, Word, Taken, Missed, Step, LookHeader}
@@ -16,31 +16,31 @@ use Rattle.gt_words.specs.declared.view.HeaderStep.TheVariants as header
 use Rattle.gt_words.specs.declared.view.SeatStep.TheVariants.{Header}
 
 -- what a step of a seat shows to its call
-abbrev pub shown_in : SeatStep → Seen
-shown_in (Entry t r (Looked n)) = Word n
-shown_in (Entry t r (ReadBody h n)) = Word n
-shown_in (Entry t r (Pinned d e y)) = Taken
-shown_in (Entry t r (PinMissed d e y n)) = Missed n
-shown_in (Entry t r (Unpinned d g)) = Nothing
-shown_in (Entry t r (StoredBody h n)) = Nothing
-shown_in (Entry t r (Changed c e n y)) = Taken
-shown_in (Entry t r (ChangeMissed c e y n)) = Missed n
-shown_in (Header t (header.Looked n)) = Word n
-shown_in (Header t (header.Stored n)) = Nothing
+abbrev pub seen_in_step : SeatStep → Seen
+seen_in_step (Entry t r (Looked n)) = Word n
+seen_in_step (Entry t r (ReadBody h n)) = Word n
+seen_in_step (Entry t r (Pinned d e y)) = Taken
+seen_in_step (Entry t r (PinMissed d e y n)) = Missed n
+seen_in_step (Entry t r (Unpinned d g)) = Nothing
+seen_in_step (Entry t r (StoredBody h n)) = Nothing
+seen_in_step (Entry t r (Changed c e n y)) = Taken
+seen_in_step (Entry t r (ChangeMissed c e y n)) = Missed n
+seen_in_step (Header t (header.Looked n)) = Word n
+seen_in_step (Header t (header.Stored n)) = Nothing
 
 -- the same of a step with its moment
 abbrev pub shown_by : Moment → Seen
-shown_by x = shown_in x.1
+shown_by x = seen_in_step x.1
 
 -- what steps show, the first first; the steps are listed with the last first
-abbrev pub shown : List Moment → List Seen
-shown [] = []
-shown (x ∷ xs) = shown xs ++ shown_by x ∷ []
+abbrev pub all_shown : List Moment → List Seen
+all_shown [] = []
+all_shown (x ∷ xs) = all_shown xs ++ shown_by x ∷ []
 
 -- the view after these steps more, the last first
-abbrev pub after : List Moment → View → View
-after [] v = v
-after (x ∷ xs) v = with_step x.0 x.1 (after xs v)
+abbrev pub view_after : List Moment → View → View
+view_after [] v = v
+view_after (x ∷ xs) v = with_step x.0 x.1 (view_after xs v)
 
 -- The step of a call was made on the words, by a seat whose view it took from v to w, and
 -- showed this: what each of the words' own calls promises of it
@@ -87,13 +87,14 @@ MakesStep k _ seen v w = ⊥
 abbrev pub AreMoments : Layout → View → List Moment → Type 0
 AreMoments k v [] = Unit {0}
 AreMoments k v (x ∷ xs) =
-    TookPlace k v.position x × (part_of v.position x.0 ≡ (after xs v).steps) × AreMoments k v xs
+    TookPlace k v.position x × (part_of v.position x.0 ≡ (view_after xs v).steps) × AreMoments k v xs
 
 -- each of these steps from the view v on, the last first, is what comes next
 -- on this way after what the steps before it showed
 abbrev pub IsWalk : Layout → Continuation → View → List Moment → Type 0
 IsWalk k way v [] = Unit {0}
-IsWalk k way v (x ∷ xs) = MakesStep k (way (shown xs)) (shown_by x) (after xs v) (after (x ∷ xs) v) × IsWalk k way v xs
+IsWalk k way v (x ∷ xs) =
+    MakesStep k (way (all_shown xs)) (shown_by x) (view_after xs v) (view_after (x ∷ xs) v) × IsWalk k way v xs
 
 -- what a step on an entry found in the control word
 abbrev pub found_by : EntryStep → Option ℕ
@@ -106,14 +107,15 @@ found_by m = None
 pub record FindsWord (k : Layout) (v : View) (steps : List Moment) (dom : DomId) (gref : GrantRef)
     (word : ℕ) : Type 0 where
   pub step : EntryStep
-  pub taken : IsIn (on_entry (position_in k.ids dom) gref.0 step) (map (λ x. x.1) steps)
+  pub taken : IsAmong (on_entry (position_in k.ids dom) gref.0 step) (map (λ x. x.1) steps)
   pub found : found_by step ≡ Some word
   pub not_earlier : IsNotEarlier (position_in k.ids dom) gref.0 v word
 
 -- the word that a refusal carries, if it carries one, is of one of these steps
 abbrev pub CarriesFound : Layout → View → List Moment → Facts → Type 0
 CarriesFound k v steps (facts.Entry dom gref word) = FindsWord k v steps dom gref word
-CarriesFound k v steps (facts.Header dom word) = IsIn (on_header (position_in k.ids dom) (header.Looked word)) (map (λ x. x.1) steps)
+CarriesFound k v steps (facts.Header dom word) =
+    IsAmong (on_header (position_in k.ids dom) (header.Looked word)) (map (λ x. x.1) steps)
 CarriesFound k v steps other = Unit {0}
 
 -- the same of an answer
@@ -126,8 +128,8 @@ TellsSteps k v steps verdict = Unit {0}
 -- found
 pub record Called (k : Layout) (way : Continuation) (verdict : Verdict) (v w : View) : Type 0 where
   pub steps : List Moment
-  pub view : w ≡ after steps v
+  pub view : w ≡ view_after steps v
   pub walked : IsWalk k way v steps
   pub moments : AreMoments k v steps
-  pub answered : way (shown steps) ≡ Some (Done verdict)
+  pub answered : way (all_shown steps) ≡ Some (Done verdict)
   pub carried : TellsSteps k v steps verdict

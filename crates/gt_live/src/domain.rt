@@ -6,7 +6,7 @@ ghost use Rattle.gt_calls.specs.Path.{path};
 ghost use Rattle.gt_words.specs.Conditions.{IsSameSeat};
 ghost use Rattle.gt_live.specs.Rows.{row_changed};
 ghost use Rattle.gt_live.specs.Ending.{IsAnswerTo, IsOfMapping, WaitsForNobody};
-ghost use Rattle.gt_live.specs.Domains.{Answered, IsOf, done_by, known, outcome_of, refusal_of};
+ghost use Rattle.gt_live.specs.Domains.{Answered, BelongsTo, done_by, known_on, outcome_of, denial_in};
 ghost use Rattle.gt_live.specs.Domains.{reply_of, told_by, version_told, size_told, frames_told, without_mapping};
 ghost use Rattle.gt_live.specs.Walks.{Called};
 ghost use Rattle.gt_live.specs.Driving.{Leaves};
@@ -124,7 +124,7 @@ fn frames_told(verdict: Verdict) -> Result<u32, Denial>
 
 // The refusal of a call that was refused.
 pub(crate) fn refusal_of(verdict: Verdict) -> Denial
-    ensures { result ≡ refusal_of verdict }
+    ensures { result ≡ denial_in verdict }
 {
     match verdict {
         Verdict::Refused(denial) => denial,
@@ -179,16 +179,16 @@ fn tell_refusal(trail: &mut Trail, dom: DomId, call: Hypercall, denial: Denial)
 impl Domain {
     ghost use Rattle.std.specs.Prelude.{◌≡◌, ◌≤◌, ℕ, List, [], OnOk, OnErr, IfOk, IfErr, IfSome, None, Some};
     ghost use Rattle.gt_audit.specs.Telling.{ArePartsOf, HasNone, Tells};
-    ghost use Rattle.gt_live.specs.Domains.{mapping_reply, subject_of, told_of, Answered, HasLeft, IsOf};
+    ghost use Rattle.gt_live.specs.Domains.{mapping_reply, subject_of, told_of, Answered, HasLeft, BelongsTo};
     ghost use Rattle.gt_live.specs.Domains.{IsOpened, IsUnsettled, KeepsPinned, MapAnswered};
     ghost use Rattle.gt_live.specs.Domains.{Released, StaysOfRun};
     ghost use Rattle.gt_live.specs.Maps.{pin_effect, pin_verdict};
     ghost use Rattle.gt_calls.specs.Rules.{knows, label_of, map_begun, unmap_begun};
     ghost use Rattle.gt_calls.specs.declared.request.Asked.TheVariants as asks;
-    ghost use Rattle.gt_live.specs.Domains.{known, verdict_of, verdict_of_frames, verdict_of_size};
+    ghost use Rattle.gt_live.specs.Domains.{known_on, verdict_of, verdict_of_frames, verdict_of_size};
     ghost use Rattle.gt_live.specs.Domains.{verdict_of_version};
     ghost use Rattle.gt_live.specs.Mappings.{ReachesItsFrame, Removes};
-    ghost use Rattle.gt_access.specs.Routes.{MayAccess};
+    ghost use Rattle.gt_access.specs.Routes.{MayAccessBy};
     ghost use Rattle.gt_calls.specs.declared.held.Route.TheVariants.{Direct};
     ghost use Rattle.gt_handles.specs.Handles.{value_of};
     ghost use Rattle.gt_calls.specs.declared.held.Held.{Held};
@@ -275,18 +275,18 @@ impl Domain {
     /// The mapping under a handle, by whose pin the domain reaches any range of the mapping's frame; None if the
     /// handle names none of its mappings.
     pub fn mapping<P: Allows>(&self, monitor: &Monitor<P>, handle: Handle) -> Option<Held>
-        requires mine { IsOf P.may monitor.now self.now }
+        requires mine { BelongsTo P.may monitor.now self.now }
         ensures value { result ≡ value_of self.now.mappings handle }
         ensures reaches { IfSome result (ReachesItsFrame monitor.now.words.layout self.now.seat) }
         ensures may { IfSome result (λ p.
-            MayAccess monitor.now.config.domains.items (P.may monitor.now.rights) self.now.seat.dom (Direct p)) }
+            MayAccessBy monitor.now.config.domains.items (P.may monitor.now.rights) self.now.seat.dom (Direct p)) }
     {
         self.mappings.get(handle).copied()
     }
 
     // What it knows by itself, and what the monitor allows.
     fn known<'a, P: Allows>(&'a self, monitor: &'a Monitor<P>) -> Known<'a, P>
-        ensures { knows P.may result ≡ known P.may monitor.now self.now }
+        ensures { knows P.may result ≡ known_on P.may monitor.now self.now }
     {
         Known {
             config: &monitor.config,
@@ -299,21 +299,21 @@ impl Domain {
 
     // Judges a call at its beginning.
     fn begin<P: Allows>(&self, monitor: &Monitor<P>, request: Request<'_>) -> Start
-        ensures { Starts (known P.may monitor.now self.now) self.now.seat.dom request.entry result }
+        ensures { Starts (known_on P.may monitor.now self.now) self.now.seat.dom request.entry result }
     {
         Call::begin(self.seat.dom(), request, &self.known(monitor))
     }
 
     // Drives an open call to its end.
     fn drive<P: Allows>(&mut self, monitor: &Monitor<P>, call: &mut Call) -> Finished
-        requires mine { IsOf P.may monitor.now self.old }
-        requires opened { IsOpened (known P.may monitor.now self.old) self.old.seat.dom call.old }
+        requires mine { BelongsTo P.may monitor.now self.old }
+        requires opened { IsOpened (known_on P.may monitor.now self.old) self.old.seat.dom call.old }
         requires waits { WaitsForNobody call.old.request }
         ensures kept { IsUnsettled self.old self.new }
         ensures called { Called monitor.now.words.layout
-            (path (known P.may monitor.now self.old) self.old.seat.dom call.old.request)
+            (path (known_on P.may monitor.now self.old) self.old.seat.dom call.old.request)
             result.verdict self.old.seat.view self.new.seat.view }
-        ensures leaves { Leaves (known P.may monitor.now self.old) monitor.now.words.layout
+        ensures leaves { Leaves (known_on P.may monitor.now self.old) monitor.now.words.layout
             self.old.seat.dom call.old.request self.old.seat.view self.new.seat.view result.effect }
         ensures answers { Answers result.effect result.verdict × IsAnswerTo call.old.request result.verdict }
     {
@@ -329,13 +329,13 @@ impl Domain {
 
     // Drives an open call to its end, and keeps what it changed. It neither maps nor unmaps.
     fn run<P: Allows>(&mut self, monitor: &Monitor<P>, call: &mut Call) -> Verdict
-        requires mine { IsOf P.may monitor.now self.old }
-        requires opened { IsOpened (known P.may monitor.now self.old) self.old.seat.dom call.old }
+        requires mine { BelongsTo P.may monitor.now self.old }
+        requires opened { IsOpened (known_on P.may monitor.now self.old) self.old.seat.dom call.old }
         requires waits { WaitsForNobody call.old.request × (IsOfMapping call.old.request → ⊥) }
-        ensures mine { IsOf P.may monitor.now self.new }
+        ensures mine { BelongsTo P.may monitor.now self.new }
         ensures seat { IsSameSeat self.old.seat self.new.seat }
         ensures called { Called monitor.now.words.layout
-            (path (known P.may monitor.now self.old) self.old.seat.dom call.old.request)
+            (path (known_on P.may monitor.now self.old) self.old.seat.dom call.old.request)
             result self.old.seat.view self.new.seat.view }
         ensures answer { IsAnswerTo call.old.request result }
         ensures kept { KeepsPinned self.old self.new }
@@ -351,9 +351,9 @@ impl Domain {
 
     // Makes a call that takes no memory, and neither maps nor unmaps.
     fn call<P: Allows>(&mut self, monitor: &Monitor<P>, request: Request<'_>) -> Verdict
-        requires mine { IsOf P.may monitor.now self.old }
+        requires mine { BelongsTo P.may monitor.now self.old }
         requires waits { WaitsForNobody (asked request) × (IsOfMapping (asked request) → ⊥) }
-        ensures mine { IsOf P.may monitor.now self.new }
+        ensures mine { BelongsTo P.may monitor.now self.new }
         ensures seat { IsSameSeat self.old.seat self.new.seat }
         ensures answered { Answered P.may monitor.now self.old request.entry result self.new }
         ensures answer { IsAnswerTo (asked request.entry) result }
@@ -384,9 +384,9 @@ impl Domain {
         request: Request<'_>,
         call: Hypercall,
     ) -> Verdict
-        requires mine { IsOf P.may monitor.now self.old }
+        requires mine { BelongsTo P.may monitor.now self.old }
         requires waits { WaitsForNobody (asked request) × (IsOfMapping (asked request) → ⊥) }
-        ensures mine { IsOf P.may monitor.now self.new }
+        ensures mine { BelongsTo P.may monitor.now self.new }
         ensures seat { IsSameSeat self.old.seat self.new.seat }
         ensures answered { Answered P.may monitor.now self.old request.entry result self.new }
         ensures answer { IsAnswerTo (asked request.entry) result }
@@ -411,8 +411,8 @@ impl Domain {
         gref: GrantRef,
         entry: &Entry,
     ) -> Result<(), Denial>
-        requires mine { IsOf P.may monitor.now self.old }
-        ensures mine { IsOf P.may monitor.now self.new }
+        requires mine { BelongsTo P.may monitor.now self.old }
+        ensures mine { BelongsTo P.may monitor.now self.new }
         ensures seat { IsSameSeat self.old.seat self.new.seat }
         ensures answered { Answered P.may monitor.now self.old
             (Request.Grant gref entry.now) (verdict_of result) self.new }
@@ -435,8 +435,8 @@ impl Domain {
         gref: GrantRef,
         bytes: &[u8],
     ) -> Result<(), Denial>
-        requires mine { IsOf P.may monitor.now self.old }
-        ensures mine { IsOf P.may monitor.now self.new }
+        requires mine { BelongsTo P.may monitor.now self.old }
+        ensures mine { BelongsTo P.may monitor.now self.new }
         ensures seat { IsSameSeat self.old.seat self.new.seat }
         ensures answered { Answered P.may monitor.now self.old
             (Request.GrantBytes gref bytes.entry) (verdict_of result) self.new }
@@ -452,8 +452,8 @@ impl Domain {
     /// # Errors
     /// N9, N10 or, with the word found, N19, and nothing changes.
     pub fn revoke<P: Allows>(&mut self, monitor: &Monitor<P>, gref: GrantRef) -> Result<(), Denial>
-        requires mine { IsOf P.may monitor.now self.old }
-        ensures mine { IsOf P.may monitor.now self.new }
+        requires mine { BelongsTo P.may monitor.now self.old }
+        ensures mine { BelongsTo P.may monitor.now self.new }
         ensures seat { IsSameSeat self.old.seat self.new.seat }
         ensures answered { Answered P.may monitor.now self.old (Request.Revoke gref) (verdict_of result) self.new }
         ensures kept { KeepsPinned self.old self.new }
@@ -472,8 +472,8 @@ impl Domain {
         monitor: &Monitor<P>,
         gref: GrantRef,
     ) -> Result<(), Denial>
-        requires mine { IsOf P.may monitor.now self.old }
-        ensures mine { IsOf P.may monitor.now self.new }
+        requires mine { BelongsTo P.may monitor.now self.old }
+        ensures mine { BelongsTo P.may monitor.now self.new }
         ensures seat { IsSameSeat self.old.seat self.new.seat }
         ensures answered { Answered P.may monitor.now self.old (Request.Withdraw gref) (verdict_of result) self.new }
         ensures kept { KeepsPinned self.old self.new }
@@ -488,8 +488,8 @@ impl Domain {
     /// # Errors
     /// N9, N10, N22, or with the word found N18 or N19, and nothing changes.
     pub fn demote<P: Allows>(&mut self, monitor: &Monitor<P>, gref: GrantRef) -> Result<(), Denial>
-        requires mine { IsOf P.may monitor.now self.old }
-        ensures mine { IsOf P.may monitor.now self.new }
+        requires mine { BelongsTo P.may monitor.now self.old }
+        ensures mine { BelongsTo P.may monitor.now self.new }
         ensures seat { IsSameSeat self.old.seat self.new.seat }
         ensures answered { Answered P.may monitor.now self.old (Request.Demote gref) (verdict_of result) self.new }
         ensures kept { KeepsPinned self.old self.new }
@@ -504,8 +504,8 @@ impl Domain {
     /// # Errors
     /// N9, N10, N22, or with the word found N18, and nothing changes.
     pub fn promote<P: Allows>(&mut self, monitor: &Monitor<P>, gref: GrantRef) -> Result<(), Denial>
-        requires mine { IsOf P.may monitor.now self.old }
-        ensures mine { IsOf P.may monitor.now self.new }
+        requires mine { BelongsTo P.may monitor.now self.old }
+        ensures mine { BelongsTo P.may monitor.now self.new }
         ensures seat { IsSameSeat self.old.seat self.new.seat }
         ensures answered { Answered P.may monitor.now self.old (Request.Promote gref) (verdict_of result) self.new }
         ensures kept { KeepsPinned self.old self.new }
@@ -525,8 +525,8 @@ impl Domain {
         monitor: &Monitor<P>,
         version: u32,
     ) -> Result<(), Denial>
-        requires mine { IsOf P.may monitor.now self.old }
-        ensures mine { IsOf P.may monitor.now self.new }
+        requires mine { BelongsTo P.may monitor.now self.old }
+        ensures mine { BelongsTo P.may monitor.now self.new }
         ensures seat { IsSameSeat self.old.seat self.new.seat }
         ensures answered { Answered P.may monitor.now self.old
             (Request.SetVersion version) (verdict_of result) self.new }
@@ -548,8 +548,8 @@ impl Domain {
         monitor: &Monitor<P>,
         frames: u32,
     ) -> Result<u32, Denial>
-        requires mine { IsOf P.may monitor.now self.old }
-        ensures mine { IsOf P.may monitor.now self.new }
+        requires mine { BelongsTo P.may monitor.now self.old }
+        ensures mine { BelongsTo P.may monitor.now self.new }
         ensures seat { IsSameSeat self.old.seat self.new.seat }
         ensures answered { Answered P.may monitor.now self.old
             (Request.SetupTable frames) (verdict_of_frames result) self.new }
@@ -571,8 +571,8 @@ impl Domain {
         monitor: &Monitor<P>,
         dom: DomId,
     ) -> Result<Size, Denial>
-        requires mine { IsOf P.may monitor.now self.old }
-        ensures mine { IsOf P.may monitor.now self.new }
+        requires mine { BelongsTo P.may monitor.now self.old }
+        ensures mine { BelongsTo P.may monitor.now self.new }
         ensures seat { IsSameSeat self.old.seat self.new.seat }
         ensures answered { Answered P.may monitor.now self.old
             (Request.QuerySize dom) (verdict_of_size result) self.new }
@@ -594,8 +594,8 @@ impl Domain {
         monitor: &Monitor<P>,
         dom: DomId,
     ) -> Result<u32, Denial>
-        requires mine { IsOf P.may monitor.now self.old }
-        ensures mine { IsOf P.may monitor.now self.new }
+        requires mine { BelongsTo P.may monitor.now self.old }
+        ensures mine { BelongsTo P.may monitor.now self.new }
         ensures seat { IsSameSeat self.old.seat self.new.seat }
         ensures answered { Answered P.may monitor.now self.old
             (Request.GetVersion dom) (verdict_of_version result) self.new }
@@ -616,13 +616,13 @@ impl Domain {
         gref: GrantRef,
         flags: u32,
     ) -> Result<Held, Denial>
-        requires mine { IsOf P.may monitor.now self.old }
-        requires unanswered { map_begun (known P.may monitor.now self.old) self.old.seat.dom dom flags ≡ None }
+        requires mine { BelongsTo P.may monitor.now self.old }
+        requires unanswered { map_begun (known_on P.may monitor.now self.old) self.old.seat.dom dom flags ≡ None }
         ensures kept { IsUnsettled self.old self.new }
         ensures called { Called monitor.now.words.layout
-            (path (known P.may monitor.now self.old) self.old.seat.dom (asks.Map dom gref flags))
+            (path (known_on P.may monitor.now self.old) self.old.seat.dom (asks.Map dom gref flags))
             (pin_verdict result) self.old.seat.view self.new.seat.view }
-        ensures leaves { Leaves (known P.may monitor.now self.old) monitor.now.words.layout
+        ensures leaves { Leaves (known_on P.may monitor.now self.old) monitor.now.words.layout
             self.old.seat.dom (asks.Map dom gref flags) self.old.seat.view self.new.seat.view (pin_effect result) }
     {
         let known = Known {
@@ -652,8 +652,8 @@ impl Domain {
         gref: GrantRef,
         flags: u32,
     ) -> Result<Handle, Denial>
-        requires mine { IsOf P.may monitor.now self.old }
-        ensures mine { IsOf P.may monitor.now self.new }
+        requires mine { BelongsTo P.may monitor.now self.old }
+        ensures mine { BelongsTo P.may monitor.now self.new }
         ensures seat { IsSameSeat self.old.seat self.new.seat }
         ensures answered { MapAnswered P.may monitor.now self.old (Request.Map dom gref flags) result self.new }
         ensures silent { self.new.trail ≡ self.old.trail }
@@ -685,8 +685,8 @@ impl Domain {
         gref: GrantRef,
         flags: u32,
     ) -> Result<Handle, Denial>
-        requires mine { IsOf P.may monitor.now self.old }
-        ensures mine { IsOf P.may monitor.now self.new }
+        requires mine { BelongsTo P.may monitor.now self.old }
+        ensures mine { BelongsTo P.may monitor.now self.new }
         ensures seat { IsSameSeat self.old.seat self.new.seat }
         ensures answered { MapAnswered P.may monitor.now self.old (Request.Map dom gref flags) result self.new }
         ensures told { Tells self.old.trail
@@ -704,7 +704,7 @@ impl Domain {
 
     // Its label, which stands at its place in the configuration.
     fn label<P: Allows>(&self, monitor: &Monitor<P>) -> TypeId
-        requires mine { IsOf P.may monitor.now self.now }
+        requires mine { BelongsTo P.may monitor.now self.now }
         ensures { result ≡ label_of monitor.now.config.domains.items self.now.seat.dom }
     {
         monitor.config.config().domains[self.seat.position()].label
@@ -712,8 +712,8 @@ impl Domain {
 
     // The verdict at the beginning of a map, if one is given there.
     fn judge_map<P: Allows>(&self, monitor: &Monitor<P>, dom: DomId, flags: u32) -> Option<Verdict>
-        requires mine { IsOf P.may monitor.now self.now }
-        ensures { result ≡ map_begun (known P.may monitor.now self.now) self.now.seat.dom dom flags }
+        requires mine { BelongsTo P.may monitor.now self.now }
+        ensures { result ≡ map_begun (known_on P.may monitor.now self.now) self.now.seat.dom dom flags }
     {
         let (caller, label) = (self.seat.dom(), self.label(monitor));
         judge_map(&self.known(monitor), caller, label, dom, flags)
@@ -721,16 +721,16 @@ impl Domain {
 
     // The verdict at the beginning of an unmap, if one is given there.
     fn judge_unmap<P: Allows>(&self, monitor: &Monitor<P>, handle: Handle) -> Option<Verdict>
-        requires mine { IsOf P.may monitor.now self.now }
-        ensures { result ≡ unmap_begun (known P.may monitor.now self.now) self.now.seat.dom handle }
+        requires mine { BelongsTo P.may monitor.now self.now }
+        ensures { result ≡ unmap_begun (known_on P.may monitor.now self.now) self.now.seat.dom handle }
     {
         judge_unmap(&self.known(monitor), self.label(monitor), handle)
     }
 
     // Gives a mapping up, without a record.
     fn give_up<P: Allows>(&mut self, monitor: &Monitor<P>, handle: Handle) -> Result<(), Denial>
-        requires mine { IsOf P.may monitor.now self.old }
-        ensures mine { IsOf P.may monitor.now self.new }
+        requires mine { BelongsTo P.may monitor.now self.old }
+        ensures mine { BelongsTo P.may monitor.now self.new }
         ensures seat { IsSameSeat self.old.seat self.new.seat }
         ensures answered { Answered P.may monitor.now self.old (Request.Unmap handle) (verdict_of result) self.new }
         ensures removed { OnOk result ((p : Held) × Removes self.old.mappings self.new.mappings handle p) }
@@ -751,8 +751,8 @@ impl Domain {
     /// # Errors
     /// N6 or N5, and mappings and pins are as they were.
     pub fn unmap<P: Allows>(&mut self, monitor: &Monitor<P>, handle: Handle) -> Result<(), Denial>
-        requires mine { IsOf P.may monitor.now self.old }
-        ensures mine { IsOf P.may monitor.now self.new }
+        requires mine { BelongsTo P.may monitor.now self.old }
+        ensures mine { BelongsTo P.may monitor.now self.new }
         ensures seat { IsSameSeat self.old.seat self.new.seat }
         ensures answered { Answered P.may monitor.now self.old (Request.Unmap handle) (verdict_of result) self.new }
         ensures removed { OnOk result ((p : Held) × Removes self.old.mappings self.new.mappings handle p) }
@@ -772,8 +772,8 @@ impl Domain {
 
     // Gives each mapping's pin back.
     fn release<P: Allows>(&mut self, monitor: &Monitor<P>)
-        requires mine { IsOf P.may monitor.now self.old }
-        ensures mine { IsOf P.may monitor.now self.new }
+        requires mine { BelongsTo P.may monitor.now self.old }
+        ensures mine { BelongsTo P.may monitor.now self.new }
         ensures seat { IsSameSeat self.old.seat self.new.seat }
         ensures released { (handles : List Handle) × Released monitor.now.words.layout handles
             self.old.mappings self.old.seat.view self.new.mappings self.new.seat.view }
@@ -787,7 +787,7 @@ impl Domain {
 
     /// Leaves the run: each of its mappings is given up, and its pin back.
     pub fn finish<P: Allows>(mut self, monitor: &Monitor<P>) -> Left
-        requires mine { IsOf P.may monitor.now self }
+        requires mine { BelongsTo P.may monitor.now self }
         ensures left { HasLeft monitor.now.words.layout self result }
     {
         self.release(monitor);

@@ -2,8 +2,8 @@
 ghost use Rattle.std.specs.Prelude.{◌≡◌, ◌<◌, None, Some, [], ◌∷◌, MatchResult};
 ghost use Rattle.gt_calls.specs.Rules.{knows, map_begun};
 ghost use Rattle.gt_calls.specs.Path.{path};
-ghost use Rattle.gt_calls.specs.Following.{MakesStep};
-ghost use Rattle.gt_calls.specs.Standing.{IsFresh};
+ghost use Rattle.gt_calls.specs.Following.{IsStepAction};
+ghost use Rattle.gt_calls.specs.Standing.{IsFreshCall};
 ghost use Rattle.gt_words.specs.Conditions.{IsSeatOf, IsSameSeat};
 ghost use Rattle.gt_live.specs.Walks.{Made, Called, ReadsBody};
 ghost use Rattle.gt_live.specs.Effects.{Answers, effect_of};
@@ -154,8 +154,8 @@ pub(crate) fn drive<P: Allows>(
     call: &mut Call,
 ) -> Finished
     requires seat { IsSeatOf words.now seat.old }
-    requires fresh { IsFresh (knows P.may known.now) call.old }
-    requires steps { MakesStep (path (knows P.may known.now) call.old.caller call.old.request []) }
+    requires fresh { IsFreshCall (knows P.may known.now) call.old }
+    requires steps { IsStepAction (path (knows P.may known.now) call.old.caller call.old.request []) }
     requires knows { Knows (knows P.may known.now) words.now.layout call.old.caller seat.old.view }
     requires waits { WaitsForNobody call.old.request }
     ensures seat { IsSameSeat seat.old seat.new }

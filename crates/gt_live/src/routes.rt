@@ -8,7 +8,7 @@ ghost use Rattle.gt_calls.specs.Holding.{held_by, last_first, no_pins};
 ghost use Rattle.gt_calls.specs.Machine.{at_dest, at_source, through_via};
 ghost use Rattle.gt_calls.specs.Rules.{copy_begun, knows};
 ghost use Rattle.gt_live.specs.Copies.{CanGiveBack, IsGivenBack, IsLastOf, StopsSo, dest_leg, source_leg};
-ghost use Rattle.gt_live.specs.Copies.{after_copy, after_dest, after_source, after_through, filled};
+ghost use Rattle.gt_live.specs.Copies.{after_copy, after_dest, phase_after_source, after_through, filled};
 ghost use Rattle.gt_live.specs.Driving.{CanMake, Knows};
 ghost use Rattle.gt_live.specs.Phases.{CanRun, Runs};
 ghost use Rattle.gt_live.specs.Underway.{AreOfRun, GivesBack, HasTaken};
@@ -89,7 +89,7 @@ fn reach_source<P: Allows>(
     ensures seat { IsSameSeat seat.old seat.new }
     ensures goes { Runs (knows P.may known.now) words.now.layout caller
         (source_leg (knows P.may known.now) caller copy.now) seat.old.view
-        (after_source (knows P.may known.now) caller copy.now (filled result route.new)) seat.new.view }
+        (phase_after_source (knows P.may known.now) caller copy.now (filled result route.new)) seat.new.view }
 {
     let leg = end_leg(known, caller, copy.source, Dir::Read, copy.len);
     let first = match walk_leg(words, seat, &leg) {

@@ -80,7 +80,7 @@ fn make_domains<P: Allows>(
 }
 
 impl<P: Allows + Drop> Monitor<P> {
-    ghost use Rattle.gt_live.specs.Domains.{IsOf};
+    ghost use Rattle.gt_live.specs.Domains.{BelongsTo};
 
     /// The monitor of a run, and its domains in order.
     ///
@@ -97,7 +97,7 @@ impl<P: Allows + Drop> Monitor<P> {
         ensures domains { IfOk result (λ r.
             (i : ℕ) → i < length config.domains.items
             → HoldsAt (λ d. IsNewDomain r.0.words config (P.may rights) i d) r.1.items i) }
-        ensures mine { IfOk result (λ r. All (λ d. IsOf P.may r.0 d) r.1.items) }
+        ensures mine { IfOk result (λ r. All (λ d. BelongsTo P.may r.0 d) r.1.items) }
         ensures err { IfErr result (IsStartFault config) }
     {
         let (words, seats) = match Words::new(alloc, &config) {

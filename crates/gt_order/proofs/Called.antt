@@ -13,7 +13,7 @@ use Rattle.gt_live.specs.Mappings.{KeepsMappings}
 use Rattle.gt_live.specs.declared.monitor.Monitor.{Monitor}
 use Rattle.gt_order.specs.Calling.{MapsAreMade, PlainCallsAreMade, UnmapsAreMade}
 use Rattle.gt_order.specs.Runs.{LeavesMappings}
-use Rattle.gt_order.specs.Runs.Outcome.{Told, Kept, Starved}
+use Rattle.gt_order.specs.Runs.CallOutcome.{Told, Kept, Starved}
 
 leaves : (request : Asked) (verdict : Verdict) (old new : HandleMap Held) → (IsOfMapping request → ⊥) → KeepsMappings old new → LeavesMappings request verdict old new
 leaves (Unmap handle) verdict old new n k = absurd (n tt)

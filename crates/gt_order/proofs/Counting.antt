@@ -23,7 +23,7 @@ use Rattle.gt_entry.specs.declared.entry.Entry.{Entry as EntryOf}
 use Rattle.gt_entry.specs.declared.entry.Entry.TheVariants.{Invalid, Page, Sub, Via}
 use Rattle.gt_words.specs.Conditions.{HasDomain}
 use Rattle.gt_words.specs.Controls.{generation_of, pins_in}
-use Rattle.gt_words.specs.History.{History, Layout, half_index, word_after}
+use Rattle.gt_words.specs.History.{StepHistory, Layout, half_index, word_after}
 use Rattle.gt_words.specs.Rule.{header_place, layout_of, place, position_in}
 use Rattle.gt_words.specs.Steps.{changed, changed_word}
 use Rattle.gt_words.specs.declared.view.EntryRecord.{EntryRecord}
@@ -38,7 +38,8 @@ use Rattle.gt_core.proofs.Steps.Observers.{new_pin, other-entry, other-raises, p
 use Rattle.gt_core.proofs.Steps.Observers.{unpinned-live, unpins, unstored}
 use Rattle.gt_core.proofs.Steps.Unpin.{Loses}
 use Rattle.gt_core.proofs.Words.{count_by, is_pin_on, without}
-use Rattle.gt_core.specs.History.{History as Items, Setting, control_at, entry_after, entry_at, generation_at, live}
+use Rattle.gt_core.specs.History.{History as Items, Setting, control_at, changed_entry_of, entry_at, generation_at}
+use Rattle.gt_core.specs.History.{live}
 use Rattle.gt_core.specs.History.{raise_after, raises_at, reads_at, same_dir, word_at, writes_at}
 use Rattle.gt_core.specs.Standing.{FitsWord}
 use Rattle.gt_core.specs.declared.trace.Answer.{Answer}
@@ -142,7 +143,7 @@ change-word Withdraw e g r w f t i = let b = read-back e g r w f in
 change-word Demote e g r w f t i = demoted e g r w t.0 t.1
 change-word Promote e g r w f t i = promoted e g r w t.0 t.1
 
-module _ (c : Config) (s : Setting) (k : Layout) (g : Items) (h : History) (i : ℕ) (is : k ≡ layout_of c) (limits : IsWithinLimits c) (agree : Agree s k g h) (inside : i < k.domains) where
+module _ (c : Config) (s : Setting) (k : Layout) (g : Items) (h : StepHistory) (i : ℕ) (is : k ≡ layout_of c) (limits : IsWithinLimits c) (agree : Agree s k g h) (inside : i < k.domains) where
   abbrev d : DomId
   d = dom_at k i
 
@@ -245,7 +246,7 @@ module _ (c : Config) (s : Setting) (k : Layout) (g : Items) (h : History) (i : 
   unfolding entry_at raises_at
   changes-here q looked change answer =
       let e : cond (d.0 == d.0) (cond (q.0 == q.0) (Some change) None) None ≡ Some change = ap (λ (b : Bool). cond b (cond (q.0 == q.0) (Some change) None) None) (eq-eqb d.0 d.0 refl) ∙ ap (λ (b : Bool). cond b (Some change) None) (eq-eqb q.0 q.0 refl) in
-      (ap (λ (o : Option Change). entry_after o (entry_at g d.0 q.0)) e, ap (λ (o : Option Change). raises_at g d.0 q.0 + raise_after o) e)
+      (ap (λ (o : Option Change). changed_entry_of o (entry_at g d.0 q.0)) e, ap (λ (o : Option Change). raises_at g d.0 q.0 + raise_after o) e)
 
   changes-else : (q : GrantRef) (looked : ℕ) (change : Change) (answer : Option Answer) (t r : ℕ) → t < k.domains → (i ≡ t → q.0 ≡ r → ⊥)
       → (entry_at (exchanged d q looked change answer ∷ g) (dom_at k t).0 r ≡ entry_at g (dom_at k t).0 r) × (raises_at (exchanged d q looked change answer ∷ g) (dom_at k t).0 r ≡ raises_at g (dom_at k t).0 r)
@@ -254,7 +255,7 @@ module _ (c : Config) (s : Setting) (k : Layout) (g : Items) (h : History) (i : 
       elim (cases_eq i t) [
         | inl e ↦ let f : (q.0 == r) ≡ false = ne_eqb q.0 r (apart e) in
             let z : cond (d.0 == (dom_at k t).0) (cond (q.0 == r) (Some change) None) None ≡ None = ap (λ (b : Bool). cond (d.0 == (dom_at k t).0) (cond b (Some change) None) None) f ∙ none (d.0 == (dom_at k t).0) in
-            (ap (λ (o : Option Change). entry_after o (entry_at g (dom_at k t).0 r)) z, ap (λ (o : Option Change). raises_at g (dom_at k t).0 r + raise_after o) z ∙ (let y : raises_at g (dom_at k t).0 r + 0 ≡ raises_at g (dom_at k t).0 r = omega arith in y))
+            (ap (λ (o : Option Change). changed_entry_of o (entry_at g (dom_at k t).0 r)) z, ap (λ (o : Option Change). raises_at g (dom_at k t).0 r + raise_after o) z ∙ (let y : raises_at g (dom_at k t).0 r + 0 ≡ raises_at g (dom_at k t).0 r = omega arith in y))
         | inr e ↦ (other-entry item g (dom_at k t).0 r (test-apart c k i t is limits inside l e), other-raises item g (dom_at k t).0 r (test-apart c k i t is limits inside l e))
       ]
     where

@@ -22,15 +22,15 @@ use Rattle.gt_entry.specs.Words.{header_of, header_word}
 use Rattle.gt_handles.specs.Handles.{HandleMap}
 use Rattle.gt_handles.specs.declared.handles.Handle.{Handle}
 use Rattle.gt_words.specs.Conditions.{Board, SeatOf}
-use Rattle.gt_words.specs.History.{History, Layout, Moment, part_of, word_after}
+use Rattle.gt_words.specs.History.{StepHistory, Layout, Moment, part_of, word_after}
 use Rattle.gt_words.specs.Rule.{header_place, layout_of}
 use Rattle.gt_words.specs.Steps.{StoodWith}
 use Rattle.gt_words.specs.Views.{own_header, own_table}
 use Rattle.gt_words.specs.declared.view.View.{View}
 use Rattle.gt_calls.proofs.Advancing.{opens as starts-open}
 use Rattle.gt_calls.proofs.Saying.{plain-asked, plain-begun}
-use Rattle.gt_calls.specs.Asking.{IsSaid, asked, asked_by, begun_of, bytes_of, given_by, judged_as, plainly_asked}
-use Rattle.gt_calls.specs.Following.{MakesStep as MakesFirst}
+use Rattle.gt_calls.specs.Asking.{IsSaid, asked, asked_by, begun_of, bytes_of, bytes_given_by, judged_as, plainly_asked}
+use Rattle.gt_calls.specs.Following.{IsStepAction as MakesFirst}
 use Rattle.gt_calls.specs.Path.{FitsStep, after_beginning, path, path_of, steps_of}
 use Rattle.gt_calls.specs.Standing.{pins_at}
 use Rattle.gt_calls.specs.Rules.{CallerKnowledge, begun, denied, first, knowledge_of, map_begun, map_dir, refused_when}
@@ -52,7 +52,7 @@ use Rattle.gt_core.proofs.Mappings.{mappings-same}
 use Rattle.gt_core.proofs.Steps.Observers.{kept-table, stepped}
 use Rattle.gt_core.proofs.Steps.See.{table-fits}
 use Rattle.gt_core.specs.Effects.{Adds}
-use Rattle.gt_core.specs.GoingOn.{IsReached}
+use Rattle.gt_core.specs.GoingOn.{CanBeReached}
 use Rattle.gt_core.specs.History.{History as Items, Setting, Underway, known_at, maps_answered_at, mappings_at}
 use Rattle.gt_core.specs.History.{one_if_mapped, open_call, seen_by, table_at, underway_after, values}
 use Rattle.gt_core.specs.Standing.{MappingsAgree}
@@ -63,8 +63,8 @@ use Rattle.gt_core.specs.declared.trace.Happened.TheVariants.{Stepped}
 use Rattle.gt_core.specs.declared.trace.Item.{Item}
 use Rattle.gt_live.specs.Domains.{AllowRelation, IsDomainOf, knowledge}
 use Rattle.gt_live.specs.Ending.{IsMap}
-use Rattle.gt_live.specs.Mappings.{Adds as KeepsOneMore, KeepsMappings}
-use Rattle.gt_live.specs.Walks.{shown, shown_by, shown_in}
+use Rattle.gt_live.specs.Mappings.{AddsMapping as KeepsOneMore, KeepsMappings}
+use Rattle.gt_live.specs.Walks.{all_shown, shown_by, seen_in_step}
 use Rattle.gt_live.specs.declared.domain.Domain.{Domain}
 use Rattle.gt_order.proofs.Ends.{KeepsOwn, clean-steps, handles-kept, keeps-own, kept-maps, last-leaves, leaves-known}
 use Rattle.gt_order.proofs.Ends.{leaves-of, maps-quiet, stands-open, told-maps}
@@ -78,7 +78,7 @@ use Rattle.gt_order.specs.Agreeing.{Agree, dom_at}
 use Rattle.gt_order.specs.Ordering.{item_of, item_of_beginning, items_by, items_by_outcome, items_of_call}
 use Rattle.gt_order.specs.Ordering.{items_of_calls, items_of_steps, step_in, way_of}
 use Rattle.gt_order.specs.Runs.{CallMade, IsAtRest, IsCall, LeavesMappings, domain_after}
-use Rattle.gt_order.specs.Runs.Outcome.{Told, Kept, Starved, Wrote}
+use Rattle.gt_order.specs.Runs.CallOutcome.{Told, Kept, Starved, Wrote}
 
 -- what answers a call at its beginning
 
@@ -189,37 +189,37 @@ module _ (b : Board) (c : Config) (may : AllowRelation) (limits : IsWithinLimits
 
   -- the step goes on
   pub going-on : (g : Items) (ms : List CallMade) (m : CallMade) (xs : List Moment) (x : Moment) (v w : View) (call : IsCall b c may m) (seat : SeatNow c may g d first (Going ms m xs))
-      → (r : GoesSo c may k g i seat.call.0 (shown xs) (way_of c may m) x v w None) → SeatNow c may (stepped d r.step (shown_in x.1) None ∷ g) d first (Going ms m (x ∷ xs))
+      → (r : GoesSo c may k g i seat.call.0 (all_shown xs) (way_of c may m) x v w None) → SeatNow c may (stepped d r.step (seen_in_step x.1) None ∷ g) d first (Going ms m (x ∷ xs))
   going-on g ms m xs x v w call seat r = record {
     items = own-items item g refl ∙ (λ j. same j ∷ seat.items j);
     maps = mappings-same m.old.mappings _ _ _ _ (sym keeps.mappings) (sym keeps.answered) seat.maps;
     known = keeps.known ∙ seat.known;
-    call = (then, open-then, seat.call.2, map-append (λ (p : Step × Seen). p.1) cl.steps ((r.step, shown_in x.1) ∷ []) ∙ ap (λ (z : List Seen). z ++ shown_by x ∷ []) seat.call.3);
+    call = (then, open-then, seat.call.2, map-append (λ (p : Step × Seen). p.1) cl.steps ((r.step, seen_in_step x.1) ∷ []) ∙ ap (λ (z : List Seen). z ++ shown_by x ∷ []) seat.call.3);
   }
     where
       cl : Underway
       cl = seat.call.0
 
       item : Item
-      item = stepped d r.step (shown_in x.1) None
+      item = stepped d r.step (seen_in_step x.1) None
 
       then : Underway
-      then = record { request = cl.request; given = cl.given; steps = cl.steps ++ (r.step, shown_in x.1) ∷ [] }
+      then = record { request = cl.request; given = cl.given; steps = cl.steps ++ (r.step, seen_in_step x.1) ∷ [] }
 
       open-then : open_call (item ∷ g) d.0 ≡ Some then
       open-then = open_call-own item g ∙ ap (underway_after item) seat.call.1
 
       keeps : KeepsOwn s g d item
       keeps = let o = stands-open s (item ∷ g) d then r.reached named open-then in
-          leaves-known s g d r.step (shown_in x.1) (leaves-of (known_at s g d) d cl.request (pins_at r.here.phase) (values cl) r.step (shown_in x.1) r.quiet r.here.here.rests
-          (λ waits. last-leaves cl.steps (r.step, shown_in x.1) (clean-steps s (item ∷ g) d then o.0 o.1 waits)))
+          leaves-known s g d r.step (seen_in_step x.1) (leaves-of (known_at s g d) d cl.request (pins_at r.here.phase) (values cl) r.step (seen_in_step x.1) r.quiet r.here.here.rests
+          (λ waits. last-leaves cl.steps (r.step, seen_in_step x.1) (clean-steps s (item ∷ g) d then o.0 o.1 waits)))
 
-      same : item ≡ item_of d (way_of c may m) (shown xs) x None
+      same : item ≡ item_of d (way_of c may m) (all_shown xs) x None
       same = λ j. record { actor = d; happened = Stepped (step_in (sym r.next j)) (shown_by x); answer = None }
 
   -- what a domain knows after its call's last step
 
-  ends-known : (g : Items) (m : CallMade) (x : Moment) (v w : View) (item : Item) → IsCall b c may m → IsReached s (item ∷ g) → Agree s k (item ∷ g) ((i, x.1) ∷ x.0) → StoodWith (Unit {0}) k ((v.position, x.1) ∷ x.0) w → v.position ≡ i → w.position ≡ i → m.new.seat.view ≡ w
+  ends-known : (g : Items) (m : CallMade) (x : Moment) (v w : View) (item : Item) → IsCall b c may m → CanBeReached s (item ∷ g) → Agree s k (item ∷ g) ((i, x.1) ∷ x.0) → StoodWith (Unit {0}) k ((v.position, x.1) ∷ x.0) w → v.position ≡ i → w.position ≡ i → m.new.seat.view ≡ w
       → m.new.seat.view.steps ≡ part_of i ((i, x.1) ∷ x.0) → MappingsAgree m.new.mappings (mappings_at (item ∷ g) d.0) (maps_answered_at (item ∷ g) d.0) → known_at s (item ∷ g) d ≡ knowledge c may m.new
   ends-known g m x v w item call reached agree stands at-v at-w view steps maps =
       let st : StoodWith (Unit {0}) k ((i, x.1) ∷ x.0) w = subst (λ (n : ℕ). StoodWith (Unit {0}) k ((n, x.1) ∷ x.0) w) at-v stands in
@@ -242,17 +242,17 @@ module _ (b : Board) (c : Config) (may : AllowRelation) (limits : IsWithinLimits
   -- its items with those of the call
 
   one-call : (ms : List CallMade) (m : CallMade) (xs : List Moment) (x : Moment) (a : Option Answer) (rest : List Item)
-      → item_of d (way_of c may m) (shown xs) x a ∷ (items_of_steps d (way_of c may m) None xs ++ item_of_beginning d m.request None ∷ rest) ≡ items_of_call d (way_of c may m) m.request a (x ∷ xs) ++ rest
-  one-call ms m xs x a rest = ap (λ (z : List Item). item_of d (way_of c may m) (shown xs) x a ∷ z) (sym (append_assoc (items_of_steps d (way_of c may m) None xs) (item_of_beginning d m.request None ∷ []) rest))
+      → item_of d (way_of c may m) (all_shown xs) x a ∷ (items_of_steps d (way_of c may m) None xs ++ item_of_beginning d m.request None ∷ rest) ≡ items_of_call d (way_of c may m) m.request a (x ∷ xs) ++ rest
+  one-call ms m xs x a rest = ap (λ (z : List Item). item_of d (way_of c may m) (all_shown xs) x a ∷ z) (sym (append_assoc (items_of_steps d (way_of c may m) None xs) (item_of_beginning d m.request None ∷ []) rest))
 
-  item-same : (m : CallMade) (xs : List Moment) (x : Moment) (step : Step) (a : Option Answer) → way_of c may m (shown xs) ≡ Some (Makes step) → stepped d step (shown_in x.1) a ≡ item_of d (way_of c may m) (shown xs) x a
+  item-same : (m : CallMade) (xs : List Moment) (x : Moment) (step : Step) (a : Option Answer) → way_of c may m (all_shown xs) ≡ Some (Makes step) → stepped d step (seen_in_step x.1) a ≡ item_of d (way_of c may m) (all_shown xs) x a
   item-same m xs x step a e = λ j. record { actor = d; happened = Stepped (step_in (sym e j)) (shown_by x); answer = a }
 
   -- the step ends the call
 
   pub ends-told : (g : Items) (ms : List CallMade) (m : CallMade) (xs : List Moment) (x : Moment) (v w : View) (verdict : Verdict) (call : IsCall b c may m) (seat : SeatNow c may g d first (Going ms m xs))
-      → (r : GoesSo c may k g i seat.call.0 (shown xs) (way_of c may m) x v w (Some (answer_of verdict))) → m.steps ≡ x ∷ xs → m.outcome ≡ Told verdict → LeavesMappings (asked m.request) verdict m.old.mappings m.new.mappings
-      → v.position ≡ i → w.position ≡ i → m.new.seat.view ≡ w → m.new.seat.view.steps ≡ part_of i ((i, x.1) ∷ x.0) → SeatNow c may (stepped d r.step (shown_in x.1) (Some (answer_of verdict)) ∷ g) d first (Resting (m ∷ ms))
+      → (r : GoesSo c may k g i seat.call.0 (all_shown xs) (way_of c may m) x v w (Some (answer_of verdict))) → m.steps ≡ x ∷ xs → m.outcome ≡ Told verdict → LeavesMappings (asked m.request) verdict m.old.mappings m.new.mappings
+      → v.position ≡ i → w.position ≡ i → m.new.seat.view ≡ w → m.new.seat.view.steps ≡ part_of i ((i, x.1) ∷ x.0) → SeatNow c may (stepped d r.step (seen_in_step x.1) (Some (answer_of verdict)) ∷ g) d first (Resting (m ∷ ms))
   ends-told g ms m xs x v w verdict call seat r made out leaves at-v at-w view steps = record {
     items = own-items item g refl ∙ ((λ j. item-same m xs x r.step (Some (answer_of verdict)) r.next j ∷ seat.items j) ∙ (one-call ms m xs x (Some (answer_of verdict)) (items_of_calls c may d ms)
         ∙ (λ j. items_by_outcome d (way_of c may m) m.request (sym out j) (sym made j) ++ items_of_calls c may d ms)));
@@ -265,19 +265,19 @@ module _ (b : Board) (c : Config) (may : AllowRelation) (limits : IsWithinLimits
       cl = seat.call.0
 
       item : Item
-      item = stepped d r.step (shown_in x.1) (Some (answer_of verdict))
+      item = stepped d r.step (seen_in_step x.1) (Some (answer_of verdict))
 
       maps : MappingsAgree m.new.mappings (mappings_at (item ∷ g) d.0) (maps_answered_at (item ∷ g) d.0)
-      maps = told-maps s g d cl (values cl) (shown_in x.1) verdict m.old.mappings m.new.mappings seat.call.1 seat.maps
+      maps = told-maps s g d cl (values cl) (seen_in_step x.1) verdict m.old.mappings m.new.mappings seat.call.1 seat.maps
           (subst (λ (z : Asked). LeavesMappings z verdict m.old.mappings m.new.mappings) (sym seat.call.2) leaves) r.here.core.domains r.here.phase r.step r.here.here r.quiet r.on_path r.right
 
   pub core-adds : (old new : HandleMap Held) (handle : Handle) (p : Held) → KeepsOneMore old new handle p → Adds old new handle p
   core-adds old new handle p a = record { serial = a.serial; fresh = a.inserted.fresh; given = a.inserted.given; updates = a.inserted.updates; count = a.inserted.count }
 
   pub ends-kept : (g : Items) (ms : List CallMade) (m : CallMade) (xs : List Moment) (x : Moment) (v w : View) (handle : Handle) (p : Held) (call : IsCall b c may m) (seat : SeatNow c may g d first (Going ms m xs))
-      → (r : GoesSo c may k g i seat.call.0 (shown xs) (way_of c may m) x v w (Some (Mapped handle))) → path (known_at s g d) d seat.call.0.request (values seat.call.0 ++ seen_by s g d r.step ∷ []) ≡ Some (Done (KeptPin p)) → m.steps ≡ x ∷ xs → m.outcome ≡ Kept handle p
+      → (r : GoesSo c may k g i seat.call.0 (all_shown xs) (way_of c may m) x v w (Some (Mapped handle))) → path (known_at s g d) d seat.call.0.request (values seat.call.0 ++ seen_by s g d r.step ∷ []) ≡ Some (Done (KeptPin p)) → m.steps ≡ x ∷ xs → m.outcome ≡ Kept handle p
       → KeepsOneMore m.old.mappings m.new.mappings handle p
-      → v.position ≡ i → w.position ≡ i → m.new.seat.view ≡ w → m.new.seat.view.steps ≡ part_of i ((i, x.1) ∷ x.0) → SeatNow c may (stepped d r.step (shown_in x.1) (Some (Mapped handle)) ∷ g) d first (Resting (m ∷ ms))
+      → v.position ≡ i → w.position ≡ i → m.new.seat.view ≡ w → m.new.seat.view.steps ≡ part_of i ((i, x.1) ∷ x.0) → SeatNow c may (stepped d r.step (seen_in_step x.1) (Some (Mapped handle)) ∷ g) d first (Resting (m ∷ ms))
   ends-kept g ms m xs x v w handle p call seat r last made out adds at-v at-w view steps = record {
     items = own-items item g refl ∙ ((λ j. item-same m xs x r.step (Some (Mapped handle)) r.next j ∷ seat.items j) ∙ (one-call ms m xs x (Some (Mapped handle)) (items_of_calls c may d ms)
         ∙ (λ j. items_by_outcome d (way_of c may m) m.request (sym out j) (sym made j) ++ items_of_calls c may d ms)));
@@ -290,7 +290,7 @@ module _ (b : Board) (c : Config) (may : AllowRelation) (limits : IsWithinLimits
       cl = seat.call.0
 
       item : Item
-      item = stepped d r.step (shown_in x.1) (Some (Mapped handle))
+      item = stepped d r.step (seen_in_step x.1) (Some (Mapped handle))
 
       maps : MappingsAgree m.new.mappings (mappings_at (item ∷ g) d.0) (maps_answered_at (item ∷ g) d.0)
       maps = subst (λ (z : Seen). let it = stepped d r.step z (Some (Mapped handle)) in MappingsAgree m.new.mappings (mappings_at (it ∷ g) d.0) (maps_answered_at (it ∷ g) d.0)) r.sees
@@ -308,13 +308,13 @@ module _ (b : Board) (c : Config) (may : AllowRelation) (limits : IsWithinLimits
         maps = subst (λ (z : HandleMap Held). MappingsAgree z (mappings_at (item_of_beginning d m.request None ∷ g) d.0) (maps_answered_at (item_of_beginning d m.request None ∷ g) d.0)) (sym rest.mappings)
             (mappings-same _ _ _ _ _ (sym keeps.mappings) (sym keeps.answered) seat.maps);
         known = keeps.known ∙ (seat.known ∙ sym (known-alike (domain_after first ms) m.old rest));
-        call = (record { request = asked m.request; given = given_by m.request; steps = [] }, open_call-own (item_of_beginning d m.request None) g, refl, refl);
+        call = (record { request = asked m.request; given = bytes_given_by m.request; steps = [] }, open_call-own (item_of_beginning d m.request None) g, refl, refl);
       }
 
   -- a call without a step
 
   -- what the domain knows after it, where it has the view that it had
-  stays-known : (g new : Items) (h : History) (D E : Domain) → IsReached s new → Agree s k new h → IsDomainOf b c may E → E.seat.view ≡ D.seat.view → D.seat.view.position ≡ i → D.seat.view.first ≡ k.first → D.seat.view.steps ≡ part_of i h
+  stays-known : (g new : Items) (h : StepHistory) (D E : Domain) → CanBeReached s new → Agree s k new h → IsDomainOf b c may E → E.seat.view ≡ D.seat.view → D.seat.view.position ≡ i → D.seat.view.first ≡ k.first → D.seat.view.steps ≡ part_of i h
       → known_at s g d ≡ knowledge c may D → table_at s new d ≡ table_at s g d → MappingsAgree E.mappings (mappings_at new d.0) (maps_answered_at new d.0) → known_at s new d ≡ knowledge c may E
   stays-known g new h D E reached agree of-run view at first-is steps known table maps =
       let t = state-there s new reached.0.domains d reached.1.domains named in
@@ -322,7 +322,7 @@ module _ (b : Board) (c : Config) (may : AllowRelation) (limits : IsWithinLimits
       (table ∙ (ap (λ (z : CallerKnowledge). z.header) known ∙ ap (λ (z : View). own_table z) (sym view))) maps
 
   -- it was refused for want of memory, and is no item
-  pub starves : (g : Items) (h : History) (ms : List CallMade) (m : CallMade) → IsReached s g → Agree s k g h → IsCall b c may m → IsAtRest (domain_after first ms) m.old → m.outcome ≡ Starved → m.new.seat.view ≡ m.old.seat.view → KeepsMappings m.old.mappings m.new.mappings
+  pub starves : (g : Items) (h : StepHistory) (ms : List CallMade) (m : CallMade) → CanBeReached s g → Agree s k g h → IsCall b c may m → IsAtRest (domain_after first ms) m.old → m.outcome ≡ Starved → m.new.seat.view ≡ m.old.seat.view → KeepsMappings m.old.mappings m.new.mappings
       → (domain_after first ms).seat.view.position ≡ i → (domain_after first ms).seat.view.first ≡ k.first → (domain_after first ms).seat.view.steps ≡ part_of i h → SeatNow c may g d first (Resting ms) → SeatNow c may g d first (Resting (m ∷ ms))
   starves g h ms m reached agree call rest out view keeps at first-is steps seat =
       let D = domain_after first ms in
@@ -334,7 +334,7 @@ module _ (b : Board) (c : Config) (may : AllowRelation) (limits : IsWithinLimits
       }
 
   -- it was answered at its beginning
-  pub answers : (g : Items) (h : History) (ms : List CallMade) (m : CallMade) (verdict : Verdict) → IsReached s (item_of_beginning d m.request (Some (answer_of verdict)) ∷ g) → Agree s k (item_of_beginning d m.request (Some (answer_of verdict)) ∷ g) h
+  pub answers : (g : Items) (h : StepHistory) (ms : List CallMade) (m : CallMade) (verdict : Verdict) → CanBeReached s (item_of_beginning d m.request (Some (answer_of verdict)) ∷ g) → Agree s k (item_of_beginning d m.request (Some (answer_of verdict)) ∷ g) h
       → IsCall b c may m → IsAtRest (domain_after first ms) m.old → m.outcome ≡ Told verdict → m.steps ≡ [] → m.new.seat.view ≡ m.old.seat.view → KeepsMappings m.old.mappings m.new.mappings
       → (domain_after first ms).seat.view.position ≡ i → (domain_after first ms).seat.view.first ≡ k.first → (domain_after first ms).seat.view.steps ≡ part_of i h → SeatNow c may g d first (Resting ms)
       → SeatNow c may (item_of_beginning d m.request (Some (answer_of verdict)) ∷ g) d first (Resting (m ∷ ms))
@@ -350,8 +350,8 @@ module _ (b : Board) (c : Config) (may : AllowRelation) (limits : IsWithinLimits
       }
 
   -- it was a store or a poke, and wrote
-  pub wrote : (g : Items) (h : History) (ms : List CallMade) (m : CallMade) (dom : DomId) (frame off len : ℕ) → let item : Item = record { actor = d; happened = Stepped (WriteBytes dom frame off len) Nothing; answer = Some AnswerDone } in
-      IsReached s (item ∷ g) → Agree s k (item ∷ g) h → IsCall b c may m → m.outcome ≡ Wrote → way_of c may m [] ≡ Some (Makes (WriteBytes dom frame off len)) → m.new.seat.view ≡ m.old.seat.view → KeepsMappings m.old.mappings m.new.mappings
+  pub wrote : (g : Items) (h : StepHistory) (ms : List CallMade) (m : CallMade) (dom : DomId) (frame off len : ℕ) → let item : Item = record { actor = d; happened = Stepped (WriteBytes dom frame off len) Nothing; answer = Some AnswerDone } in
+      CanBeReached s (item ∷ g) → Agree s k (item ∷ g) h → IsCall b c may m → m.outcome ≡ Wrote → way_of c may m [] ≡ Some (Makes (WriteBytes dom frame off len)) → m.new.seat.view ≡ m.old.seat.view → KeepsMappings m.old.mappings m.new.mappings
       → m.old.seat.view.position ≡ i → m.old.seat.view.first ≡ k.first → m.old.seat.view.steps ≡ part_of i h → SeatNow c may g d first (Going ms m []) → SeatNow c may (item ∷ g) d first (Resting (m ∷ ms))
   wrote g h ms m dom frame off len reached agree call out next view keeps at first-is steps seat =
       let item : Item = record { actor = d; happened = Stepped (WriteBytes dom frame off len) Nothing; answer = Some AnswerDone } in

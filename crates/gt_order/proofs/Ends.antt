@@ -15,7 +15,8 @@ use Rattle.gt_core.proofs.Words.{WriteBytes, CopyBytes, Verdict, Granted, Given,
 use Rattle.gt_core.proofs.Words.{Ending, path, known_at, action_at, Setting, Underway, values, open_call, CallAgrees}
 use Rattle.gt_core.proofs.Words.{IsClean, IsRight, StepsRightIn, LeavesAll, Rests, pins_at, PhaseStands, next_to_give}
 use Rattle.gt_core.proofs.Words.{mapping_of, mappings_at, maps_answered_at, MappingsAgree, one_if_mapped, header_stored}
-use Rattle.gt_core.proofs.Words.{change_at, taken, gather, by_mapping, seen_by, word_at, answer_of, FitsStep, Slot}
+use Rattle.gt_core.proofs.Words.{change_at, handle_taken, gather, mapping_named, seen_by, word_at, answer_of, FitsStep}
+use Rattle.gt_core.proofs.Words.{Slot}
 use Rattle.gt_core.proofs.Words.{after_beginning, same_handle, Denial, holder_after, FitsNext, eq-eqb, State}
 use Rattle.gt_calls.specs.declared.action.Value.TheVariants.{Frames, Size as SizeTold, Version as VersionTold}
 use Rattle.gt_calls.specs.declared.action.Action.{Action}
@@ -31,7 +32,7 @@ use Rattle.gt_core.proofs.Steps.Pin.{can-pin, leg-maps, map-agrees}
 use Rattle.gt_core.proofs.Steps.Unpin.{leg-mappings, mapping-agrees}
 use Rattle.gt_core.proofs.Values.{MapEnds, call-ends}
 use Rattle.gt_core.specs.Effects.{Adds}
-use Rattle.gt_core.specs.GoingOn.{IsOnWords, IsReached}
+use Rattle.gt_core.specs.GoingOn.{IsOnWords, CanBeReached}
 use Rattle.gt_core.specs.History.{History as Items}
 use Rattle.gt_core.specs.declared.trace.Answer.TheVariants.{Denied, Mapped}
 use Rattle.gt_core.specs.declared.trace.Item.{Item}
@@ -44,7 +45,7 @@ use Rattle.gt_order.specs.Runs.{LeavesMappings}
 
 -- where the core stands at an open call
 
-pub stands-open : (s : Setting) (g : Items) (d : DomId) (c : Underway) → IsReached s g → domain_of s.domains d ≢ None → open_call g d.0 ≡ Some c → (step : Step) × StandsHere s g d c step
+pub stands-open : (s : Setting) (g : Items) (d : DomId) (c : Underway) → CanBeReached s g → domain_of s.domains d ≢ None → open_call g d.0 ≡ Some c → (step : Step) × StandsHere s g d c step
 stands-open s g d c (core, st) named call =
     let t = state-there s g core.domains d st.domains named in
     let o = open-there s g d t.0.underway (open_call g d.0) c (subst (λ (z : DomId). CallAgrees s g z t.0.underway (open_call g z.0)) t.2 t.3.call) call in (
@@ -115,7 +116,7 @@ keeps-own s g d item changes head maps same = let n = answered-stays g item d.0 
 }
 
 pub maps-quiet : (g : Items) (d : DomId) (item : Item) → KeepsWords item → mappings_at (item ∷ g) d.0 ≡ mappings_at g d.0
-maps-quiet g d item q = ap (gather by_mapping d.0) (live-kept item g q)
+maps-quiet g d item q = ap (gather mapping_named d.0) (live-kept item g q)
 
 -- a step that leaves all as it is, of a call that goes on
 pub leaves-known : (s : Setting) (g : Items) (d : DomId) (step : Step) (seen : Seen) → LeavesAll (step, seen) → KeepsOwn s g d (stepped d step seen None)
@@ -154,7 +155,7 @@ set-none (x ∷ xs) zero (suc at) = grind arith
 set-none (x ∷ xs) (suc key) zero = grind arith
 set-none (x ∷ xs) (suc key) (suc at) = grind (arith, set-none xs key at)
 
-taken-of : (kept : HandleMap Held) (handle other : Handle) (m : Held) → value_of kept handle ≡ Some m → value_of (taken handle kept) other ≡ cond (same_handle other handle) None (value_of kept other)
+taken-of : (kept : HandleMap Held) (handle other : Handle) (m : Held) → value_of kept handle ≡ Some m → value_of (handle_taken handle kept) other ≡ cond (same_handle other handle) None (value_of kept other)
 taken-of kept handle other m has = grind (arith, set-none, eqb-true)
 
 count-set : (slots : List (Option (Slot Held))) (key : ℕ) (slot : Slot Held) → slice_index_or slots key None ≡ Some slot → count_by is_some (slice_set slots key None) + 1 ≡ count_by is_some slots
@@ -164,19 +165,19 @@ count-set (o ∷ os) (suc key) slot e =
     omega (arith, count-set os key slot e, sum_by-cons (λ (o : Option (Slot Held)). cond (is_some o) 1 0) o os, sum_by-cons (λ (o : Option (Slot Held)). cond (is_some o) 1 0) o (slice_set os key None))
 count-set slots key slot e = absurd (none-some slot e)
 
-count-taken : (kept : HandleMap Held) (handle : Handle) (m : Held) → value_of kept handle ≡ Some m → count_of (taken handle kept) + 1 ≡ count_of kept
+count-taken : (kept : HandleMap Held) (handle : Handle) (m : Held) → value_of kept handle ≡ Some m → count_of (handle_taken handle kept) + 1 ≡ count_of kept
 count-taken kept handle m has = grind (arith, count-set)
 
-given-taken : (kept : HandleMap Held) (handle : Handle) → (taken handle kept).given ≡ kept.given
+given-taken : (kept : HandleMap Held) (handle : Handle) → (handle_taken handle kept).given ≡ kept.given
 given-taken kept handle = by (is_some (value_of kept handle)) where
   by : (b : Bool) → (cond b (record kept { slots = slice_set kept.slots handle.key None }) kept).given ≡ kept.given
   by true = refl
   by false = refl
 
-handles-less : (old new : HandleMap Held) (handle : Handle) (p q : Held) (ms : List (Handle × Held)) (n : ℕ) → Removes old new handle q → value_of old handle ≡ Some p → MappingsAgree (taken handle old) ms n → MappingsAgree new ms n
+handles-less : (old new : HandleMap Held) (handle : Handle) (p q : Held) (ms : List (Handle × Held)) (n : ℕ) → Removes old new handle q → value_of old handle ≡ Some p → MappingsAgree (handle_taken handle old) ms n → MappingsAgree new ms n
 handles-less old new handle p q ms n removes has a = let t = removes.taken in record {
   named = fun_ext (λ other. t.updates other ∙ (sym (taken-of old handle other p has) ∙ ap (λ (f : Handle → Option Held). f other) a.named));
-  count = (let z = count-taken old handle p has in let y = t.count in let w : count_of new ≡ count_of (taken handle old) = omega arith in w) ∙ a.count;
+  count = (let z = count-taken old handle p has in let y = t.count in let w : count_of new ≡ count_of (handle_taken handle old) = omega arith in w) ∙ a.count;
   given = t.given ∙ (sym (given-taken old handle) ∙ a.given);
   apart = a.apart;
 }
@@ -232,7 +233,7 @@ module _ (s : Setting) (g : Items) (d : DomId) (cl : Underway) (vs : List Seen) 
           last-leaves cl.steps (Unpin p (ByMapping handle), seen) (r.left (λ e. none-some denial (sym e))).0
 
       by : (v : Verdict) → LeavesMappings (Unmap handle) v old new → IsRight s g (stepped d (Unpin p (ByMapping handle)) seen (Some (answer_of v)))
-          → MappingsAgree (taken handle old) (mappings_at (stepped d (Unpin p (ByMapping handle)) seen (Some (answer_of v)) ∷ g) d.0) (maps_answered_at (stepped d (Unpin p (ByMapping handle)) seen (Some (answer_of v)) ∷ g) d.0)
+          → MappingsAgree (handle_taken handle old) (mappings_at (stepped d (Unpin p (ByMapping handle)) seen (Some (answer_of v)) ∷ g) d.0) (maps_answered_at (stepped d (Unpin p (ByMapping handle)) seen (Some (answer_of v)) ∷ g) d.0)
           → MappingsAgree new (mappings_at (stepped d (Unpin p (ByMapping handle)) seen (Some (answer_of v)) ∷ g) d.0) (maps_answered_at (stepped d (Unpin p (ByMapping handle)) seen (Some (answer_of v)) ∷ g) d.0)
       by (Refused denial) l ok t = absurd (refused denial ok)
       by v l ok t = handles-less old new handle p l.0 _ _ l.1 has t
@@ -266,7 +267,7 @@ module _ (s : Setting) (g : Items) (d : DomId) (cl : Underway) (vs : List Seen) 
       by (Exchange gref looked change) e r n ok = as-it-was _ n (λ p handle f. cc) (turned seen)
         where
           turned : (v : Seen) → mappings_at (stepped d (Exchange gref looked change) v (Some (answer_of verdict)) ∷ g) d.0 ≡ mappings_at g d.0
-          turned Taken = ap (gather by_mapping d.0) (exchanged-live g d gref looked change (Some (answer_of verdict)))
+          turned Taken = ap (gather mapping_named d.0) (exchanged-live g d gref looked change (Some (answer_of verdict)))
           turned v = maps-quiet g d _ (record { changes = λ z. refl; pins = λ before ps. refl; unpins = λ ps. refl })
       by (ReadBytes dom frame off len) e r n ok = absurd (subst IsOnWords e quiet)
       by (WriteBytes dom frame off len) e r n ok = absurd (subst IsOnWords e quiet)

@@ -28,7 +28,7 @@ use Rattle.gt_calls.specs.declared.request.Holder.TheVariants.{Mapping as ByMapp
 use Rattle.gt_calls.specs.declared.request.Request.{Request}
 use Rattle.gt_core.proofs.GoingOn.{open-calls-can-go-on}
 use Rattle.gt_core.proofs.Steps.Observers.{stepped}
-use Rattle.gt_core.specs.GoingOn.{AnsweredSo, IsOnWords, IsReached}
+use Rattle.gt_core.specs.GoingOn.{AnsweredSo, IsOnWords, CanBeReached}
 use Rattle.gt_core.specs.History.{History as Items, Setting, Underway, known_at, mapping_of, mappings_at, seen_by}
 use Rattle.gt_core.specs.History.{values}
 use Rattle.gt_core.specs.Legal.{IsRight}
@@ -37,7 +37,7 @@ use Rattle.gt_core.specs.declared.trace.Answer.{Answer}
 use Rattle.gt_live.proofs.Making.{made-fits}
 use Rattle.gt_live.proofs.Walking.{after-position}
 use Rattle.gt_live.specs.Domains.{AllowRelation, knowledge}
-use Rattle.gt_live.specs.Walks.{Made, MakesStep, after, shown, shown_by, shown_in}
+use Rattle.gt_live.specs.Walks.{Made, MakesStep, view_after, all_shown, shown_by, seen_in_step}
 use Rattle.gt_live.specs.declared.domain.Domain.{Domain}
 use Rattle.gt_order.proofs.Bytes.{said}
 use Rattle.gt_order.proofs.Making.{MadeAs, made-as, on-words, one-moment}
@@ -66,22 +66,22 @@ pub record GoesSo (c : Config) (may : AllowRelation) (k : Layout) (g : Items) (i
   pub step : Step
   pub next : way before ≡ Some (Makes step)
   pub the : IsThe k i step x.1
-  pub right : IsRight (setting_of c may) g (stepped (dom_at k i) step (shown_in x.1) answer)
-  pub reached : IsReached (setting_of c may) (stepped (dom_at k i) step (shown_in x.1) answer ∷ g)
-  pub agree : Agree (setting_of c may) k (stepped (dom_at k i) step (shown_in x.1) answer ∷ g) ((i, x.1) ∷ x.0)
+  pub right : IsRight (setting_of c may) g (stepped (dom_at k i) step (seen_in_step x.1) answer)
+  pub reached : CanBeReached (setting_of c may) (stepped (dom_at k i) step (seen_in_step x.1) answer ∷ g)
+  pub agree : Agree (setting_of c may) k (stepped (dom_at k i) step (seen_in_step x.1) answer ∷ g) ((i, x.1) ∷ x.0)
   pub inner : IsWithin k step
   pub here : StandsHere (setting_of c may) g (dom_at k i) cl step
   pub quiet : IsOnWords step
-  pub sees : seen_by (setting_of c may) g (dom_at k i) step ≡ shown_in x.1
-  pub fits : FitsStep step (shown_in x.1)
+  pub sees : seen_by (setting_of c may) g (dom_at k i) step ≡ seen_in_step x.1
+  pub fits : FitsStep step (seen_in_step x.1)
   pub on_path : path (known_at (setting_of c may) g (dom_at k i)) (dom_at k i) cl.request (values cl) ≡ Some (Makes step)
   pub stood : StoodWith (Unit {0}) k x.0 v
   pub stands : StoodWith (Unit {0}) k ((v.position, x.1) ∷ x.0) w
 
 module _ (b : Board) (c : Config) (may : AllowRelation) (limits : IsWithinLimits c) (is : b.layout ≡ layout_of c) (g : Items) (i : ℕ) (inside : i < b.layout.domains) (m : CallMade) (ms : List CallMade) (first : Domain)
-    (xs : List Moment) (x : Moment) (call : IsCall b c may m) (at : m.old.seat.view.position ≡ i) (named : domain_of c.domains.items (dom_at b.layout i) ≢ None) (reached : IsReached (setting_of c may) g)
+    (xs : List Moment) (x : Moment) (call : IsCall b c may m) (at : m.old.seat.view.position ≡ i) (named : domain_of c.domains.items (dom_at b.layout i) ≢ None) (reached : CanBeReached (setting_of c may) g)
     (agree : Agree (setting_of c may) b.layout g x.0) (seat : SeatNow c may g (dom_at b.layout i) first (Going ms m xs))
-    (bounded : AreBounded b.layout g) (walk : MakesStep b.layout (way_of c may m (shown xs)) (shown_by x) (after xs m.old.seat.view) (after (x ∷ xs) m.old.seat.view)) where
+    (bounded : AreBounded b.layout g) (walk : MakesStep b.layout (way_of c may m (all_shown xs)) (shown_by x) (view_after xs m.old.seat.view) (view_after (x ∷ xs) m.old.seat.view)) where
   abbrev k : Layout
   k = b.layout
 
@@ -92,10 +92,10 @@ module _ (b : Board) (c : Config) (may : AllowRelation) (limits : IsWithinLimits
   d = dom_at k i
 
   abbrev v : View
-  v = after xs m.old.seat.view
+  v = view_after xs m.old.seat.view
 
   abbrev w : View
-  w = after (x ∷ xs) m.old.seat.view
+  w = view_after (x ∷ xs) m.old.seat.view
 
   abbrev know : CallerKnowledge
   know = knowledge c may m.old
@@ -112,31 +112,31 @@ module _ (b : Board) (c : Config) (may : AllowRelation) (limits : IsWithinLimits
   stood-at : v.position ≡ i
   stood-at = after-position xs m.old.seat.view ∙ at
 
-  pub on-way : (step : Step) → way (shown xs) ≡ Some (Makes step) → (vs : List Seen) → path (known_at s g d) d cl.request vs ≡ way vs
+  pub on-way : (step : Step) → way (all_shown xs) ≡ Some (Makes step) → (vs : List Seen) → path (known_at s g d) d cl.request vs ≡ way vs
   on-way step next vs =
-      let none : begun_of know m.old.seat.dom m.request ≡ None = unanswered (begun_of know m.old.seat.dom m.request) (steps_of know m.old.seat.dom (asked m.request)) (shown xs) step next in
+      let none : begun_of know m.old.seat.dom m.request ≡ None = unanswered (begun_of know m.old.seat.dom m.request) (steps_of know m.old.seat.dom (asked m.request)) (all_shown xs) step next in
       (λ j. path (seat.known j) (sym own j) (seat.call.2 j) vs) ∙ same-way know m.old.seat.dom m.request none (said know m.old.seat.dom m.request call.fits.1) vs
 
-  values-then : (seen : Seen) → seen ≡ shown_by x → values cl ++ seen ∷ [] ≡ shown (x ∷ xs)
+  values-then : (seen : Seen) → seen ≡ shown_by x → values cl ++ seen ∷ [] ≡ all_shown (x ∷ xs)
   values-then seen e = λ j. seat.call.3 j ++ e j ∷ []
 
-  goes-with : (step : Step) → way (shown xs) ≡ Some (Makes step) → Made k step (shown_by x) v w → (action : Action) (answer : Option Answer) → way (shown (x ∷ xs)) ≡ Some action → AnsweredSo g d action answer → GoesSo c may k g i cl (shown xs) way x v w answer
+  goes-with : (step : Step) → way (all_shown xs) ≡ Some (Makes step) → Made k step (shown_by x) v w → (action : Action) (answer : Option Answer) → way (all_shown (x ∷ xs)) ≡ Some action → AnsweredSo g d action answer → GoesSo c may k g i cl (all_shown xs) way x v w answer
   goes-with step next made action answer then answered =
       let quiet : IsOnWords step = on-words k step (shown_by x) v w made in
       let y = made-as k i v w stood-at step (shown_by x) made in
       let same : x ≡ y.0 = one-moment x y.0 v y.1.view in
       let so : MadeAs k i step (shown_by x) v w x = subst (MadeAs k i step (shown_by x) v w) (sym same) y.1 in
-      let on : path (known_at s g d) d cl.request (values cl) ≡ Some (Makes step) = ap (path (known_at s g d) d cl.request) seat.call.3 ∙ (on-way step next (shown xs) ∙ next) in
+      let on : path (known_at s g d) d cl.request (values cl) ≡ Some (Makes step) = ap (path (known_at s g d) d cl.request) seat.call.3 ∙ (on-way step next (all_shown xs) ∙ next) in
       let here = stands-here s g d cl step reached named seat.call.1 on in
       let inner : IsWithin k step = within c may k g d cl step is here quiet (λ p holder e. unpinned step here p holder e) in
-      let saw : seen_by s g d step ≡ shown_in x.1 = sees c s k g x.0 i is agree inside step x.1 inner so.the so.says in
+      let saw : seen_by s g d step ≡ seen_in_step x.1 = sees c s k g x.0 i is agree inside step x.1 inner so.the so.says in
       let goes = open-calls-can-go-on s g d cl step action answer reached named seat.call.1 on quiet (on-way step next (values cl ++ seen_by s g d step ∷ []) ∙ (ap way (values-then (seen_by s g d step) saw) ∙ then)) answered in
-      let right : IsRight s g (stepped d step (shown_in x.1) answer) = subst (λ (z : Seen). IsRight s g (stepped d step z answer)) saw goes.0 in record {
+      let right : IsRight s g (stepped d step (seen_in_step x.1) answer) = subst (λ (z : Seen). IsRight s g (stepped d step z answer)) saw goes.0 in record {
         step = step;
         next = next;
         the = so.the;
         right = right;
-        reached = subst (λ (z : Seen). IsReached s (stepped d step z answer ∷ g)) saw goes.1;
+        reached = subst (λ (z : Seen). CanBeReached s (stepped d step z answer ∷ g)) saw goes.1;
         agree = step-kept c may k g x.0 i cl step x.1 answer is limits inside reached agree named seat.call.1 on inner so.the so.stores so.says right;
         inner = inner;
         here = here;
@@ -156,10 +156,10 @@ module _ (b : Board) (c : Config) (may : AllowRelation) (limits : IsWithinLimits
       unpinned z here p (ByLeg n) e = let r = subst (StandsHere s g d cl) e here in
           leg-all (IsBounded k) s g r.core.domains d cl.request (values cl) (reverse cl.steps) r.phase (Unpin p (ByLeg n)) p n r.here r.here.rests.1 bounded
 
-  pub goes-so : (action : Action) (answer : Option Answer) → way (shown (x ∷ xs)) ≡ Some action → AnsweredSo g d action answer → GoesSo c may k g i cl (shown xs) way x v w answer
-  goes-so action answer then answered = by (way (shown xs)) refl walk
+  pub goes-so : (action : Action) (answer : Option Answer) → way (all_shown (x ∷ xs)) ≡ Some action → AnsweredSo g d action answer → GoesSo c may k g i cl (all_shown xs) way x v w answer
+  goes-so action answer then answered = by (way (all_shown xs)) refl walk
     where
-      by : (o : Option Action) → way (shown xs) ≡ o → MakesStep k o (shown_by x) v w → GoesSo c may k g i cl (shown xs) way x v w answer
+      by : (o : Option Action) → way (all_shown xs) ≡ o → MakesStep k o (shown_by x) v w → GoesSo c may k g i cl (all_shown xs) way x v w answer
       by (Some (Makes step)) e made = goes-with step e made action answer then answered
       by (Some (Done verdict)) e made = absurd made
       by None e made = absurd made

@@ -10,7 +10,7 @@ use Rattle.gt_entry.specs.Spelling.{control_with}
 use Rattle.gt_entry.specs.Words.{control_word, header_word}
 use Rattle.gt_entry.specs.declared.change.Half.{Half}
 use Rattle.gt_entry.specs.declared.change.Half.TheVariants.{First, Second}
-use Rattle.gt_words.specs.History.{History, Layout, half_index, left_by, word_after}
+use Rattle.gt_words.specs.History.{StepHistory, Layout, half_index, left_by, word_after}
 use Rattle.gt_words.specs.Rule.{header_place, layout_of, place}
 use Rattle.gt_words.specs.declared.view.EntryStep.TheVariants.{StoredBody}
 use Rattle.gt_words.specs.declared.view.HeaderStep.TheVariants as header
@@ -54,7 +54,7 @@ pub half-some : (half : Half) → 0 ≡ half_index half → ⊥
 half-some First e = absurd (omega arith)
 half-some Second e = absurd (omega arith)
 
-module _ (c : Config) (s : Setting) (k : Layout) (g : Items) (h : History) (i : ℕ) (is : k ≡ layout_of c) (limits : IsWithinLimits c) (agree : Agree s k g h) (inside : i < k.domains) where
+module _ (c : Config) (s : Setting) (k : Layout) (g : Items) (h : StepHistory) (i : ℕ) (is : k ≡ layout_of c) (limits : IsWithinLimits c) (agree : Agree s k g h) (inside : i < k.domains) where
   abbrev d : DomId
   d = dom_at k i
 

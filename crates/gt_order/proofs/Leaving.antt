@@ -32,7 +32,7 @@ use Rattle.gt_live.specs.Domains.{AllowRelation, IsDomainOf, Released, knowledge
 use Rattle.gt_live.specs.declared.domain.Domain.{Domain}
 use Rattle.gt_order.specs.Leaving.{AreUnmaps, LeavingIsUnmapping, MayUnmapAll}
 use Rattle.gt_order.specs.Runs.{AreCalls, CallMade, domain_after}
-use Rattle.gt_order.specs.Runs.Outcome.{Told}
+use Rattle.gt_order.specs.Runs.CallOutcome.{Told}
 
 allowed-none : (may : TypeId → TypeId → Perms → Bool) (ts : List Triple) → IsAllowed may ts → denied may ts ≡ None
 allowed-none may [] a = refl

@@ -4,7 +4,7 @@ use Rattle.atomic_table.proofs.Lists.{at_map}
 use Rattle.gt_entry.specs.declared.change.Change.{Change}
 use Rattle.gt_entry.specs.declared.change.Change.TheVariants.{Publish, Revoke, Withdraw, Demote, Promote}
 use Rattle.gt_words.proofs.Lists.{whose_at}
-use Rattle.gt_words.specs.History.{History, Layout, Moment, Says, place_of, word_after}
+use Rattle.gt_words.specs.History.{StepHistory, Layout, Moment, SaysWord, word_place_of, word_after}
 use Rattle.gt_words.specs.Rule.{header_place}
 use Rattle.gt_words.specs.Steps.{StoodWith, TakesStep, changed, changed_word}
 use Rattle.gt_words.specs.Views.{entry_steps, last_of, last_record, own_header, steps_on_header, with_step}
@@ -19,26 +19,26 @@ use Rattle.gt_calls.specs.declared.action.Step.TheVariants.{LookHeader, LookCont
 use Rattle.gt_calls.specs.declared.action.Step.TheVariants.{StoreHeader, Exchange, Read as ReadBytes}
 use Rattle.gt_calls.specs.declared.action.Step.TheVariants.{Write as WriteBytes, Copy as CopyBytes}
 use Rattle.gt_core.specs.GoingOn.{IsOnWords}
-use Rattle.gt_live.specs.Walks.{Made, shown_in}
+use Rattle.gt_live.specs.Walks.{Made, seen_in_step}
 use Rattle.gt_order.specs.Agreeing.{IsThe, StoresChange, last_at}
 
 -- a step of a call was made so: it is this step of its seat, taken after these steps of all seats
 pub record MadeAs (k : Layout) (i : ℕ) (step : Step) (seen : Seen) (v w : View) (x : Moment) : Type 0 where
   pub view : w ≡ with_step x.0 x.1 v
   pub the : IsThe k i step x.1
-  pub shows : shown_in x.1 ≡ seen
+  pub shows : seen_in_step x.1 ≡ seen
   pub stores : StoresChange k x.0 x.1
-  pub says : Says x.1 (word_after k x.0 (place_of x.1))
+  pub says : SaysWord x.1 (word_after k x.0 (word_place_of x.1))
   pub stood : StoodWith (Unit {0}) k x.0 v
   pub stands : StoodWith (Unit {0}) k ((v.position, x.1) ∷ x.0) w
 
 -- the owner's last record by its own steps is that of the history
-last-is : (k : Layout) (r : ℕ) (v : View) (past : History) → StoodWith (Unit {0}) k past v → last_of r v ≡ last_at k v.position r past
+last-is : (k : Layout) (r : ℕ) (v : View) (past : StepHistory) → StoodWith (Unit {0}) k past v → last_of r v ≡ last_at k v.position r past
 last-is k r v past stood = let p = stood.1.led_here.parts v.position v stood.2 in let q = stood.1.seats v.position v stood.2 in
     λ j. last_record (q.1 j) (entry_steps v.position r (p.0 j))
 
 module _ (k : Layout) (i : ℕ) (v w : View) (at : v.position ≡ i) where
-  made : (step : Step) (seen : Seen) (past : History) (x : SeatStep) (found left : ℕ) → w ≡ with_step past x v → TakesStep (Unit {0}) k v past x (place_of x) found left → IsThe k i step x → shown_in x ≡ seen → StoresChange k past x
+  made : (step : Step) (seen : Seen) (past : StepHistory) (x : SeatStep) (found left : ℕ) → w ≡ with_step past x v → TakesStep (Unit {0}) k v past x (word_place_of x) found left → IsThe k i step x → seen_in_step x ≡ seen → StoresChange k past x
       → (y : Moment) × MadeAs k i step seen v w y
   made step seen past x found left view takes the shows stores = (
     (past, x),
@@ -47,14 +47,14 @@ module _ (k : Layout) (i : ℕ) (v w : View) (at : v.position ≡ i) where
       the = the;
       shows = shows;
       stores = stores;
-      says = subst (Says x) (sym takes.found_is) takes.says;
+      says = subst (SaysWord x) (sym takes.found_is) takes.says;
       stood = takes.stood;
       stands = subst (StoodWith (Unit {0}) k ((v.position, x) ∷ past)) (sym view) takes.still_stands;
     },
   )
 
   -- an exchange that was taken stores what its change makes of the last record
-  stored : (q : ℕ) (word : ℕ) (change : Change) (past : History) → StoodWith (Unit {0}) k past v
+  stored : (q : ℕ) (word : ℕ) (change : Change) (past : StepHistory) → StoodWith (Unit {0}) k past v
       → (changed_word change (last_of q v) word ≡ changed_word change (last_at k v.position q past) word) × (changed change (last_of q v) ≡ changed change (last_at k v.position q past))
   stored q word change past stood = let e = last-is k q v past stood in (ap (λ (z : EntryRecord). changed_word change z word) e, ap (λ (z : EntryRecord). changed change z) e)
 
@@ -104,11 +104,11 @@ on-words k (CopyBytes from to len) Nothing v w m = absurd m
 
 -- a step and what came before it are known by the view after it
 
-abbrev first_or : SeatStep → History → SeatStep
+abbrev first_or : SeatStep → StepHistory → SeatStep
 first_or x [] = x
 first_or x (p ∷ h) = p.1
 
-abbrev rest_of : History → History
+abbrev rest_of : StepHistory → StepHistory
 rest_of [] = []
 rest_of (p ∷ h) = h
 
@@ -118,7 +118,7 @@ one-moment x y u e =
     λ i. (rest i, head i)
 
 -- the header in the words is the one that its domain stored last
-pub header-is : (k : Layout) (h : History) (v : View) → StoodWith (Unit {0}) k h v → v.position < k.domains → word_after k h (header_place v.position) ≡ own_header v
+pub header-is : (k : Layout) (h : StepHistory) (v : View) → StoodWith (Unit {0}) k h v → v.position < k.domains → word_after k h (header_place v.position) ≡ own_header v
 header-is k h v stood inside =
     let p = stood.1.seats v.position v stood.2 in let n = stood.1.headers v.position inside in
     let here : get_or (map (steps_on_header v.position) stood.0.views) v.position [] ≡ steps_on_header v.position v = whose_at (map (steps_on_header v.position) stood.0.views) v.position (steps_on_header v.position v) (at_map (steps_on_header v.position) stood.0.views v.position v stood.2) in

@@ -11,7 +11,7 @@ use Rattle.gt_types.specs.declared.config.Config.{Config}
 use Rattle.gt_types.specs.declared.config.DomainConfig.{DomainConfig}
 use Rattle.gt_words.proofs.Order.{part_else, part_here, up_else}
 use Rattle.gt_words.specs.Conditions.{Board, HasDomain, SeatOf}
-use Rattle.gt_words.specs.History.{History, Layout, Moment, part_of, up_to}
+use Rattle.gt_words.specs.History.{StepHistory, Layout, Moment, part_of, up_to}
 use Rattle.gt_words.specs.Laws.{domain_of_run, seat_at}
 use Rattle.gt_words.specs.Rule.{layout_of, position_in}
 use Rattle.gt_words.specs.Views.{with_step}
@@ -35,7 +35,7 @@ use Rattle.gt_core.specs.declared.trace.Happened.TheVariants.{Stepped}
 use Rattle.gt_core.specs.declared.trace.Item.{Item}
 use Rattle.gt_live.specs.Mappings.{KeepsMappings}
 use Rattle.gt_core.proofs.Steps.Observers.{stepped}
-use Rattle.gt_core.specs.GoingOn.{AnsweredSo, IsReached, MayBeGiven, begin_answer, beginning}
+use Rattle.gt_core.specs.GoingOn.{AnsweredSo, CanBeReached, MayBeGiven, begin_answer, beginning}
 use Rattle.gt_core.specs.History.{History as Items, Setting, known_at, seen_by, table_at, values}
 use Rattle.gt_core.specs.Legal.{IsRight}
 use Rattle.gt_core.specs.Acting.{answer_of, setting_of}
@@ -43,7 +43,7 @@ use Rattle.gt_core.specs.declared.trace.Answer.TheVariants.{Done as AnswerDone, 
 use Rattle.gt_live.proofs.Walking.{after-position}
 use Rattle.gt_live.specs.Domains.{AllowRelation, knowledge}
 use Rattle.gt_live.specs.Starting.{IsNewDomain}
-use Rattle.gt_live.specs.Walks.{IsWalk, MakesStep, after, shown, shown_by, shown_in}
+use Rattle.gt_live.specs.Walks.{IsWalk, MakesStep, view_after, all_shown, shown_by, seen_in_step}
 use Rattle.gt_live.specs.declared.domain.Domain.{Domain}
 use Rattle.gt_order.proofs.Bytes.{said}
 use Rattle.gt_order.proofs.Ending.{RefusesOnly, answered-at-once, answers, asked-refuses, begins, core-adds, ends-kept}
@@ -58,9 +58,9 @@ use Rattle.gt_order.proofs.Stepping.{bounded-quiet, bounded-step}
 use Rattle.gt_order.specs.Agreeing.{IsThe, dom_at}
 use Rattle.gt_order.specs.Laws.{RunsHaveLegalOrders}
 use Rattle.gt_order.specs.Ordering.{AreStepsOf, IsLegalOrder, ThenStep, item_of_beginning, way_of}
-use Rattle.gt_order.specs.Runs.{AreCalls, CallMade, IsAnswered, IsAtRest, IsCall, IsWrite, KeepsNoPin, Outcome}
+use Rattle.gt_order.specs.Runs.{AreCalls, CallMade, IsAnswered, IsAtRest, IsCall, IsWriteStep, KeepsNoPin, CallOutcome}
 use Rattle.gt_order.specs.Runs.{TookSteps, domain_after}
-use Rattle.gt_order.specs.Runs.Outcome.{Told, Kept, Starved, Wrote}
+use Rattle.gt_order.specs.Runs.CallOutcome.{Told, Kept, Starved, Wrote}
 
 -- a stage in the place of another
 abbrev put : ℕ → Stage → (ℕ → Stage) → ℕ → Stage
@@ -91,7 +91,7 @@ module _ {A : Type 0} where
   no-head x xs e = cc
 
 -- a step of the words is the newest one
-then-more : (k : Layout) (d : DomId) (i : ℕ) (step : Step) (seen : Seen) (x : SeatStep) (rest : History → Type 0) (h : History) → d ≡ dom_at k i → IsThe k i step x → seen ≡ shown_in x → rest h → ThenStep k d step seen rest ((i, x) ∷ h)
+then-more : (k : Layout) (d : DomId) (i : ℕ) (step : Step) (seen : Seen) (x : SeatStep) (rest : StepHistory → Type 0) (h : StepHistory) → d ≡ dom_at k i → IsThe k i step x → seen ≡ seen_in_step x → rest h → ThenStep k d step seen rest ((i, x) ∷ h)
 then-more k d i (WriteBytes dom frame off len) seen x rest h own the shows r = absurd the
 then-more k d i step seen x rest h own the shows r = (own, the, shows, r)
 
@@ -127,44 +127,44 @@ module _ (b : Board) (c : Config) (may : AllowRelation) (limits : IsWithinLimits
       some-there None a e = cc
       some-there (Some x) a e = cc
 
-  abbrev FitAll : History → (ℕ → Stage) → Type 0
+  abbrev FitAll : StepHistory → (ℕ → Stage) → Type 0
   FitAll h stages = (i : ℕ) → i < k.domains → Fits b c may h i (firsts i) (stages i)
 
   -- one stage is another
-  refit : (h' h : History) (stages : ℕ → Stage) (i : ℕ) (y : Stage) → FitAll h stages → ((j : ℕ) → i ≢ j → (part_of j h' ≡ part_of j h) × (up_to j h' ≡ up_to j h)) → Fits b c may h' i (firsts i) y → FitAll h' (put i y stages)
+  refit : (h' h : StepHistory) (stages : ℕ → Stage) (i : ℕ) (y : Stage) → FitAll h stages → ((j : ℕ) → i ≢ j → (part_of j h' ≡ part_of j h) × (up_to j h' ≡ up_to j h)) → Fits b c may h' i (firsts i) y → FitAll h' (put i y stages)
   refit h' h stages i y fits same here j l = elim (cases_eq i j) [
     | inl e ↦ subst (λ (z : ℕ). Fits b c may h' z (firsts z) (put i y stages z)) e (subst (Fits b c may h' i (firsts i)) (sym (put-here i y stages)) here)
     | inr n ↦ let f = fits j l in let p = same j n in subst (Fits b c may h' j (firsts j)) (sym (put-else i y stages j n)) (record { is = f.is; steps = f.steps ∙ sym p.0; past = f.past ∙ sym p.1 })
   ]
 
   -- the moment of a step is its place in the history
-  at-moment : (h : History) (x : Moment) (i : ℕ) (p : ℕ × SeatStep) (v : View) → v.position ≡ i → p.0 ≡ i → (with_step x.0 x.1 v).past ≡ up_to i (p ∷ h) → (x.0 ≡ h) × (x.1 ≡ p.1)
+  at-moment : (h : StepHistory) (x : Moment) (i : ℕ) (p : ℕ × SeatStep) (v : View) → v.position ≡ i → p.0 ≡ i → (with_step x.0 x.1 v).past ≡ up_to i (p ∷ h) → (x.0 ≡ h) × (x.1 ≡ p.1)
   at-moment h x i p v at here e =
       let top : up_to i (p ∷ h) ≡ p ∷ h = ap (λ (z : Bool). cond z (p ∷ h) (up_to i h)) (eq-eqb p.0 i here) in
       let all : (v.position, x.1) ∷ x.0 ≡ p ∷ h = e ∙ top in
       (tail-same _ _ _ _ all, ap (λ (q : ℕ × SeatStep). q.1) (head-same _ _ _ _ all))
 
   -- the call goes back by one step
-  back : (h : History) (p : ℕ × SeatStep) (i : ℕ) (ms : List CallMade) (m : CallMade) (xs : List Moment) (x : Moment) → p.0 ≡ i → AreCalls b c may (firsts i) ms → IsAtRest (domain_after (firsts i) ms) m.old → IsCall b c may m → m.old.seat.view.position ≡ i
-      → IsWalk k (way_of c may m) m.old.seat.view (x ∷ xs) → (after (x ∷ xs) m.old.seat.view).steps ≡ part_of i (p ∷ h) → (after (x ∷ xs) m.old.seat.view).past ≡ up_to i (p ∷ h)
+  back : (h : StepHistory) (p : ℕ × SeatStep) (i : ℕ) (ms : List CallMade) (m : CallMade) (xs : List Moment) (x : Moment) → p.0 ≡ i → AreCalls b c may (firsts i) ms → IsAtRest (domain_after (firsts i) ms) m.old → IsCall b c may m → m.old.seat.view.position ≡ i
+      → IsWalk k (way_of c may m) m.old.seat.view (x ∷ xs) → (view_after (x ∷ xs) m.old.seat.view).steps ≡ part_of i (p ∷ h) → (view_after (x ∷ xs) m.old.seat.view).past ≡ up_to i (p ∷ h)
       → ((x.0 ≡ h) × (x.1 ≡ p.1)) × Fits b c may h i (firsts i) (Going ms m xs)
   back h p i ms m xs x here calls rest call at walk steps past =
-      let v = after xs m.old.seat.view in let at-v : v.position ≡ i = after-position xs m.old.seat.view ∙ at in
+      let v = view_after xs m.old.seat.view in let at-v : v.position ≡ i = after-position xs m.old.seat.view ∙ at in
       let same = at-moment h x i p v at-v here past in
       let top : part_of i (p ∷ h) ≡ p.1 ∷ part_of i h = ap (λ (z : Bool). cond z (p.1 ∷ part_of i h) (part_of i h)) (eq-eqb p.0 i here) in
       let before : v.steps ≡ part_of i h = tail-same _ _ _ _ (steps ∙ top) in
-      (same, by (way_of c may m (shown xs)) refl walk.0 before at-v same.0)
+      (same, by (way_of c may m (all_shown xs)) refl walk.0 before at-v same.0)
     where
-      by : (o : Option Action) → way_of c may m (shown xs) ≡ o → MakesStep k o (shown_by x) (after xs m.old.seat.view) (after (x ∷ xs) m.old.seat.view) → (after xs m.old.seat.view).steps ≡ part_of i h → (after xs m.old.seat.view).position ≡ i → x.0 ≡ h
+      by : (o : Option Action) → way_of c may m (all_shown xs) ≡ o → MakesStep k o (shown_by x) (view_after xs m.old.seat.view) (view_after (x ∷ xs) m.old.seat.view) → (view_after xs m.old.seat.view).steps ≡ part_of i h → (view_after xs m.old.seat.view).position ≡ i → x.0 ≡ h
           → Fits b c may h i (firsts i) (Going ms m xs)
       by (Some (Makes z)) e made before at-v same =
-          let u = made-as k i (after xs m.old.seat.view) (after (x ∷ xs) m.old.seat.view) at-v z (shown_by x) made in
-          let w = one-moment x u.0 (after xs m.old.seat.view) u.1.view in
+          let u = made-as k i (view_after xs m.old.seat.view) (view_after (x ∷ xs) m.old.seat.view) at-v z (shown_by x) made in
+          let w = one-moment x u.0 (view_after xs m.old.seat.view) u.1.view in
           let stood = u.1.stood in
           record {
             is = record { calls = calls; rests = rest; call = call; walked = walk.1; step = z; next = e };
             steps = before;
-            past = (stood.1.led_here.parts (after xs m.old.seat.view).position (after xs m.old.seat.view) stood.2).1 ∙ (λ j. up_to (at-v j) ((sym (ap (λ (q : Moment). q.0) w) ∙ same) j));
+            past = (stood.1.led_here.parts (view_after xs m.old.seat.view).position (view_after xs m.old.seat.view) stood.2).1 ∙ (λ j. up_to (at-v j) ((sym (ap (λ (q : Moment). q.0) w) ∙ same) j));
           }
       by (Some (Done verdict)) e made before at-v same = absurd made
       by None e made before at-v same = absurd made
@@ -172,9 +172,9 @@ module _ (b : Board) (c : Config) (may : AllowRelation) (limits : IsWithinLimits
   -- a call that made no step kept its view
 
   took-none : (request : Request) (verdict : Verdict) (steps : List Moment) (D E : Domain) → TookSteps b c may request verdict steps D E → steps ≡ [] → E.seat.view ≡ D.seat.view
-  took-none request verdict steps D E t none = t.0.view ∙ ap (λ (xs : List Moment). after xs D.seat.view) (t.1 ∙ none)
+  took-none request verdict steps D E t none = t.0.view ∙ ap (λ (xs : List Moment). view_after xs D.seat.view) (t.1 ∙ none)
 
-  same-view : (request : Request) (o : Outcome) (steps : List Moment) (D E : Domain) → IsAnswered b c may request o steps D E → steps ≡ [] → E.seat.view ≡ D.seat.view
+  same-view : (request : Request) (o : CallOutcome) (steps : List Moment) (D E : Domain) → IsAnswered b c may request o steps D E → steps ≡ [] → E.seat.view ≡ D.seat.view
   same-view request (Told verdict) steps D E a none = took-none request verdict steps D E a.1 none
   same-view request (Kept handle p) steps D E a none = took-none request (KeptPin p) steps D E a.1 none
   same-view request Starved steps D E a none = a.1
@@ -182,7 +182,7 @@ module _ (b : Board) (c : Config) (may : AllowRelation) (limits : IsWithinLimits
 
   -- the beginning of a call that is to make a step
 
-  begin-call : (h : History) (i : ℕ) (l : i < k.domains) (m : CallMade) (ms : List CallMade) (stages : ℕ → Stage) → stages i ≡ Going ms m [] → IsGoing b c may (firsts i) ms m [] → Ordered b c may h firsts (put i (Resting ms) stages) → Ordered b c may h firsts stages
+  begin-call : (h : StepHistory) (i : ℕ) (l : i < k.domains) (m : CallMade) (ms : List CallMade) (stages : ℕ → Stage) → stages i ≡ Going ms m [] → IsGoing b c may (firsts i) ms m [] → Ordered b c may h firsts (put i (Resting ms) stages) → Ordered b c may h firsts stages
   begin-call h i l m ms stages e going o =
       let d = dom_at k i in let call = going.call in let rest = going.rests in let at = placed i l ms going.calls in
       let seat = subst (SeatNow c may o.g d (firsts i)) (put-here i (Resting ms) stages) (o.each i l) in
@@ -194,7 +194,7 @@ module _ (b : Board) (c : Config) (may : AllowRelation) (limits : IsWithinLimits
       let begun = calls-can-begin s o.g d m.request o.reached (named i l) seat.call call.fits.0 spelled in
       let item = item_of_beginning d m.request None in
       let right : IsRight s o.g item = subst (λ (z : Option Verdict). IsRight s o.g (beginning d m.request (begin_answer z))) here begun.0 in
-      let reached : IsReached s (item ∷ o.g) = subst (λ (z : Option Verdict). IsReached s (beginning d m.request (begin_answer z) ∷ o.g)) here begun.1 in
+      let reached : CanBeReached s (item ∷ o.g) = subst (λ (z : Option Verdict). CanBeReached s (beginning d m.request (begin_answer z) ∷ o.g)) here begun.1 in
       one-more b c may limits is h h firsts (put i (Resting ms) stages) stages i item o l refl (named i l) right reached
       (keeps-agreement s k o.g h item (record { changes = λ z. refl; pins = λ before ps. refl; unpins = λ ps. refl }) refl (λ z half. refl) o.agree) o.steps (bounded-quiet k o.g item (record { changes = λ z. refl; pins = λ before ps. refl; unpins = λ ps. refl }) o.bounded)
       (λ j n. sym (put-else i (Resting ms) stages j n))
@@ -209,8 +209,8 @@ module _ (b : Board) (c : Config) (may : AllowRelation) (limits : IsWithinLimits
       both true x = refl
       both false x = refl
 
-  wrote-call : (h : History) (i : ℕ) (l : i < k.domains) (m : CallMade) (ms : List CallMade) (stages : ℕ → Stage) → stages i ≡ Resting (m ∷ ms) → m.outcome ≡ Wrote → AreCalls b c may (firsts i) (m ∷ ms) → m.new.seat.view ≡ m.old.seat.view
-      → KeepsMappings m.old.mappings m.new.mappings → (domain_after (firsts i) ms).seat.view.steps ≡ part_of i h → (access : Step) → IsWrite access → way_of c may m [] ≡ Some (Makes access) → way_of c may m (Nothing ∷ []) ≡ Some (Done Granted)
+  wrote-call : (h : StepHistory) (i : ℕ) (l : i < k.domains) (m : CallMade) (ms : List CallMade) (stages : ℕ → Stage) → stages i ≡ Resting (m ∷ ms) → m.outcome ≡ Wrote → AreCalls b c may (firsts i) (m ∷ ms) → m.new.seat.view ≡ m.old.seat.view
+      → KeepsMappings m.old.mappings m.new.mappings → (domain_after (firsts i) ms).seat.view.steps ≡ part_of i h → (access : Step) → IsWriteStep access → way_of c may m [] ≡ Some (Makes access) → way_of c may m (Nothing ∷ []) ≡ Some (Done Granted)
       → Ordered b c may h firsts (put i (Resting ms) stages) → Ordered b c may h firsts stages
   wrote-call h i l m ms stages e out calls view keeps steps (WriteBytes dom frame off len) writes next done o =
       let d = dom_at k i in let call : IsCall b c may m = calls.0 in let rest = calls.1 in let at = placed i l ms calls.2 in
@@ -238,7 +238,7 @@ module _ (b : Board) (c : Config) (may : AllowRelation) (limits : IsWithinLimits
 
   -- a call without a step, after those before it
 
-  quiet-call : (h : History) (i : ℕ) (l : i < k.domains) (m : CallMade) (ms : List CallMade) (stages : ℕ → Stage) → stages i ≡ Resting (m ∷ ms) → m.steps ≡ [] → AreCalls b c may (firsts i) (m ∷ ms)
+  quiet-call : (h : StepHistory) (i : ℕ) (l : i < k.domains) (m : CallMade) (ms : List CallMade) (stages : ℕ → Stage) → stages i ≡ Resting (m ∷ ms) → m.steps ≡ [] → AreCalls b c may (firsts i) (m ∷ ms)
       → (domain_after (firsts i) ms).seat.view.steps ≡ part_of i h → Ordered b c may h firsts (put i (Resting ms) stages) → Ordered b c may h firsts stages
   quiet-call h i l m ms stages e none calls steps o = by m.outcome refl calls.0.answered
     where
@@ -268,12 +268,12 @@ module _ (b : Board) (c : Config) (may : AllowRelation) (limits : IsWithinLimits
 
       -- what answers it at once
       at-once : (v : Verdict) → TookSteps b c may m.request v m.steps m.old m.new → begun_of (knowledge c may m.old) m.old.seat.dom m.request ≡ Some v
-      at-once v t = answered-at-once (knowledge c may m.old) m.old.seat.dom m.request v (said (knowledge c may m.old) m.old.seat.dom m.request call.fits.1) (ap (λ (xs : List Moment). way_of c may m (shown xs)) (sym (t.1 ∙ none)) ∙ t.0.answered)
+      at-once v t = answered-at-once (knowledge c may m.old) m.old.seat.dom m.request v (said (knowledge c may m.old) m.old.seat.dom m.request call.fits.1) (ap (λ (xs : List Moment). way_of c may m (all_shown xs)) (sym (t.1 ∙ none)) ∙ t.0.answered)
 
       same : (j : ℕ) → i ≢ j → stages j ≡ put i (Resting ms) stages j
       same j n = sym (put-else i (Resting ms) stages j n)
 
-      by : (out : Outcome) → m.outcome ≡ out → IsAnswered b c may m.request out m.steps m.old m.new → Ordered b c may h firsts stages
+      by : (out : CallOutcome) → m.outcome ≡ out → IsAnswered b c may m.request out m.steps m.old m.new → Ordered b c may h firsts stages
       by Starved out a = record {
         g = o.g;
         reached = o.reached;
@@ -308,9 +308,9 @@ module _ (b : Board) (c : Config) (may : AllowRelation) (limits : IsWithinLimits
       let at-old : m.old.seat.view.position ≡ i = ap (λ (z : SeatOf). z.view.position) going.rests.seat ∙ at.0 in
       let seat = subst (SeatNow c may o.g d (firsts i)) (put-here i (Going ms m xs) stages) (o.each i l) in
       let r = goes-so b c may limits is o.g i l m ms (firsts i) xs x call at-old (named i l) o.reached o.agree seat o.bounded going.walked.0 (Makes going.step) None going.next refl in
-      one-more b c may limits is x.0 ((i, x.1) ∷ x.0) firsts (put i (Going ms m xs) stages) stages i (stepped d r.step (shown_in x.1) None) o l refl (named i l) r.right r.reached r.agree (then-more k d i r.step (shown_in x.1) x.1 (AreStepsOf k o.g) x.0 refl r.the refl o.steps) (bounded-step k o.g d r.step (shown_in x.1) None r.inner o.bounded)
+      one-more b c may limits is x.0 ((i, x.1) ∷ x.0) firsts (put i (Going ms m xs) stages) stages i (stepped d r.step (seen_in_step x.1) None) o l refl (named i l) r.right r.reached r.agree (then-more k d i r.step (seen_in_step x.1) x.1 (AreStepsOf k o.g) x.0 refl r.the refl o.steps) (bounded-step k o.g d r.step (seen_in_step x.1) None r.inner o.bounded)
       (λ j n. sym (put-else i (Going ms m xs) stages j n))
-      (subst (SeatNow c may (stepped d r.step (shown_in x.1) None ∷ o.g) d (firsts i)) (sym e) (going-on b c may limits is i l (firsts i) (named i l) o.g ms m xs x (after xs m.old.seat.view) (after (x ∷ xs) m.old.seat.view) call seat r))
+      (subst (SeatNow c may (stepped d r.step (seen_in_step x.1) None ∷ o.g) d (firsts i)) (sym e) (going-on b c may limits is i l (firsts i) (named i l) o.g ms m xs x (view_after xs m.old.seat.view) (view_after (x ∷ xs) m.old.seat.view) call seat r))
 
   -- the last step of a call
 
@@ -328,10 +328,10 @@ module _ (b : Board) (c : Config) (may : AllowRelation) (limits : IsWithinLimits
       at-old = ap (λ (z : SeatOf). z.view.position) calls.1.seat ∙ (placed i l ms calls.2).0
 
       v : View
-      v = after xs m.old.seat.view
+      v = view_after xs m.old.seat.view
 
       w : View
-      w = after (x ∷ xs) m.old.seat.view
+      w = view_after (x ∷ xs) m.old.seat.view
 
       at-v : v.position ≡ i
       at-v = after-position xs m.old.seat.view ∙ at-old
@@ -348,20 +348,20 @@ module _ (b : Board) (c : Config) (may : AllowRelation) (limits : IsWithinLimits
       walk-of : (verdict : Verdict) → (t : TookSteps b c may m.request verdict m.steps m.old m.new) → IsWalk k (way_of c may m) m.old.seat.view (x ∷ xs)
       walk-of verdict t = subst (IsWalk k (way_of c may m) m.old.seat.view) (t.1 ∙ made) t.0.walked
 
-      done-of : (verdict : Verdict) → (t : TookSteps b c may m.request verdict m.steps m.old m.new) → way_of c may m (shown (x ∷ xs)) ≡ Some (Done verdict)
-      done-of verdict t = ap (λ (z : List Moment). way_of c may m (shown z)) (sym (t.1 ∙ made)) ∙ t.0.answered
+      done-of : (verdict : Verdict) → (t : TookSteps b c may m.request verdict m.steps m.old m.new) → way_of c may m (all_shown (x ∷ xs)) ≡ Some (Done verdict)
+      done-of verdict t = ap (λ (z : List Moment). way_of c may m (all_shown z)) (sym (t.1 ∙ made)) ∙ t.0.answered
 
       view-of : (verdict : Verdict) → (t : TookSteps b c may m.request verdict m.steps m.old m.new) → m.new.seat.view ≡ w
-      view-of verdict t = t.0.view ∙ ap (λ (z : List Moment). after z m.old.seat.view) (t.1 ∙ made)
+      view-of verdict t = t.0.view ∙ ap (λ (z : List Moment). view_after z m.old.seat.view) (t.1 ∙ made)
 
-      by : (out : Outcome) → m.outcome ≡ out → IsAnswered b c may m.request out m.steps m.old m.new → Ordered b c may ((i, x.1) ∷ x.0) firsts stages
+      by : (out : CallOutcome) → m.outcome ≡ out → IsAnswered b c may m.request out m.steps m.old m.new → Ordered b c may ((i, x.1) ∷ x.0) firsts stages
       by Starved out a = absurd (no-head x xs (sym made ∙ a.0))
       by Wrote out a = absurd (no-head x xs (sym made ∙ a.0))
       by (Told verdict) out a =
           let t = a.1 in
           let r = goes-so b c may limits is o.g i l m ms (firsts i) xs x call at-old (named i l) o.reached o.agree seat o.bounded (walk-of verdict t).0 (Done verdict) (Some (answer_of verdict)) (done-of verdict t) (answered-so o.g d verdict a.0) in
-          one-more b c may limits is x.0 ((i, x.1) ∷ x.0) firsts (put i (Going ms m xs) stages) stages i (stepped d r.step (shown_in x.1) (Some (answer_of verdict))) o l refl (named i l) r.right r.reached r.agree (then-more k d i r.step (shown_in x.1) x.1 (AreStepsOf k o.g) x.0 refl r.the refl o.steps) (bounded-step k o.g d r.step (shown_in x.1) (Some (answer_of verdict)) r.inner o.bounded) same
-          (subst (SeatNow c may (stepped d r.step (shown_in x.1) (Some (answer_of verdict)) ∷ o.g) d (firsts i)) (sym e)
+          one-more b c may limits is x.0 ((i, x.1) ∷ x.0) firsts (put i (Going ms m xs) stages) stages i (stepped d r.step (seen_in_step x.1) (Some (answer_of verdict))) o l refl (named i l) r.right r.reached r.agree (then-more k d i r.step (seen_in_step x.1) x.1 (AreStepsOf k o.g) x.0 refl r.the refl o.steps) (bounded-step k o.g d r.step (seen_in_step x.1) (Some (answer_of verdict)) r.inner o.bounded) same
+          (subst (SeatNow c may (stepped d r.step (seen_in_step x.1) (Some (answer_of verdict)) ∷ o.g) d (firsts i)) (sym e)
           (ends-told b c may limits is i l (firsts i) (named i l) o.g ms m xs x v w verdict call seat r made out a.2 at-v at-w (view-of verdict t) steps))
       by (Kept handle p) out a =
           let t = a.1 in
@@ -370,13 +370,13 @@ module _ (b : Board) (c : Config) (may : AllowRelation) (limits : IsWithinLimits
           let last : path (known_at s o.g d) d seat.call.0.request (values seat.call.0 ++ seen_by s o.g d r.step ∷ []) ≡ Some (Done (KeptPin p)) =
           on-way b c may limits is o.g i l m ms (firsts i) xs x call at-old (named i l) o.reached o.agree seat o.bounded (walk-of (KeptPin p) t).0 r.step r.next (values seat.call.0 ++ seen_by s o.g d r.step ∷ [])
           ∙ ((λ j. way_of c may m (seat.call.3 j ++ r.sees j ∷ [])) ∙ done-of (KeptPin p) t) in
-          one-more b c may limits is x.0 ((i, x.1) ∷ x.0) firsts (put i (Going ms m xs) stages) stages i (stepped d r.step (shown_in x.1) (Some (Mapped handle))) o l refl (named i l) r.right r.reached r.agree (then-more k d i r.step (shown_in x.1) x.1 (AreStepsOf k o.g) x.0 refl r.the refl o.steps) (bounded-step k o.g d r.step (shown_in x.1) (Some (Mapped handle)) r.inner o.bounded) same
-          (subst (SeatNow c may (stepped d r.step (shown_in x.1) (Some (Mapped handle)) ∷ o.g) d (firsts i)) (sym e)
+          one-more b c may limits is x.0 ((i, x.1) ∷ x.0) firsts (put i (Going ms m xs) stages) stages i (stepped d r.step (seen_in_step x.1) (Some (Mapped handle))) o l refl (named i l) r.right r.reached r.agree (then-more k d i r.step (seen_in_step x.1) x.1 (AreStepsOf k o.g) x.0 refl r.the refl o.steps) (bounded-step k o.g d r.step (seen_in_step x.1) (Some (Mapped handle)) r.inner o.bounded) same
+          (subst (SeatNow c may (stepped d r.step (seen_in_step x.1) (Some (Mapped handle)) ∷ o.g) d (firsts i)) (sym e)
           (ends-kept b c may limits is i l (firsts i) (named i l) o.g ms m xs x v w handle p call seat r last made out a.2 at-v at-w (view-of (KeptPin p) t) steps))
 
   -- back over the calls without a step
 
-  strip : (h : History) (i : ℕ) (l : i < k.domains) (orig : ℕ → Stage)
+  strip : (h : StepHistory) (i : ℕ) (l : i < k.domains) (orig : ℕ → Stage)
       → ((ms : List CallMade) (m : CallMade) (xs : List Moment) (x : Moment) (stages : ℕ → Stage) → stages i ≡ Resting (m ∷ ms) → m.steps ≡ x ∷ xs → FitAll h stages → Ordered b c may h firsts stages)
       → ((stages : ℕ → Stage) → stages i ≡ Resting [] → ((j : ℕ) → i ≢ j → stages j ≡ orig j) → FitAll h stages → Ordered b c may h firsts stages)
       → (ms : List CallMade) (stages : ℕ → Stage) → stages i ≡ Resting ms → ((j : ℕ) → i ≢ j → stages j ≡ orig j) → FitAll h stages → Ordered b c may h firsts stages
@@ -410,9 +410,9 @@ module _ (b : Board) (c : Config) (may : AllowRelation) (limits : IsWithinLimits
           absurd (some-steps m.outcome fit.is.0.answered)
         where
           view-then : (verdict : Verdict) → TookSteps b c may m.request verdict m.steps m.old m.new → m.new.seat.view.steps ≡ [] → ⊥
-          view-then verdict t none = no-head x.1 _ (ap (λ (q : View). q.steps) (sym (t.0.view ∙ ap (λ (z : List Moment). after z m.old.seat.view) (t.1 ∙ made))) ∙ none)
+          view-then verdict t none = no-head x.1 _ (ap (λ (q : View). q.steps) (sym (t.0.view ∙ ap (λ (z : List Moment). view_after z m.old.seat.view) (t.1 ∙ made))) ∙ none)
 
-          some-steps : (o : Outcome) → IsAnswered b c may m.request o m.steps m.old m.new → ⊥
+          some-steps : (o : CallOutcome) → IsAnswered b c may m.request o m.steps m.old m.new → ⊥
           some-steps Starved a = no-head x xs (sym made ∙ a.0)
           some-steps Wrote a = no-head x xs (sym made ∙ a.0)
           some-steps (Told verdict) a = view-then verdict a.1 ((subst (Fits b c may [] n (firsts n)) e (f n l)).steps)
@@ -434,7 +434,7 @@ module _ (b : Board) (c : Config) (may : AllowRelation) (limits : IsWithinLimits
 
   -- the history from its newest step back
 
-  build : (h : History) (stages : ℕ → Stage) → FitAll h stages → ((j : ℕ) → k.domains ≤ j → part_of j h ≡ []) → Ordered b c may h firsts stages
+  build : (h : StepHistory) (stages : ℕ → Stage) → FitAll h stages → ((j : ℕ) → k.domains ≤ j → part_of j h ≡ []) → Ordered b c may h firsts stages
   build [] stages fits none = flush k.domains (omega arith) stages (λ j a lj. absurd (omega arith)) fits
   build (p ∷ h) stages fits none = at (λ st f. build h st f (λ j le. sym (other j le) ∙ none j le)) (cases_lt p.0 k.domains)
     where
@@ -454,7 +454,7 @@ module _ (b : Board) (c : Config) (may : AllowRelation) (limits : IsWithinLimits
       others j n = (sym (part_else p.0 p.1 h j n), sym (up_else p.0 p.1 h j n))
 
       to-here : (x : Moment) (st : ℕ → Stage) → x.0 ≡ h → x.1 ≡ p.1 → Ordered b c may ((i, x.1) ∷ x.0) firsts st → Ordered b c may (p ∷ h) firsts st
-      to-here x st a e o = subst (λ (q : History). Ordered b c may q firsts st) (λ j. (i, e j) ∷ a j) o
+      to-here x st a e o = subst (λ (q : StepHistory). Ordered b c may q firsts st) (λ j. (i, e j) ∷ a j) o
 
       module-step : (i < k.domains) → ((st : ℕ → Stage) → FitAll h st → Ordered b c may h firsts st) → (ms : List CallMade) (m : CallMade) (xs : List Moment) (x : Moment) (st : ℕ → Stage) → st i ≡ Resting (m ∷ ms) → m.steps ≡ x ∷ xs → FitAll (p ∷ h) st → Ordered b c may (p ∷ h) firsts st
       module-step l rec ms m xs x st e made f = go m.outcome fit.is.0.answered
@@ -467,15 +467,15 @@ module _ (b : Board) (c : Config) (may : AllowRelation) (limits : IsWithinLimits
 
           took : (verdict : Verdict) → TookSteps b c may m.request verdict m.steps m.old m.new → Ordered b c may (p ∷ h) firsts st
           took verdict t =
-              let view : m.new.seat.view ≡ after (x ∷ xs) m.old.seat.view = t.0.view ∙ ap (λ (z : List Moment). after z m.old.seat.view) (t.1 ∙ made) in
+              let view : m.new.seat.view ≡ view_after (x ∷ xs) m.old.seat.view = t.0.view ∙ ap (λ (z : List Moment). view_after z m.old.seat.view) (t.1 ∙ made) in
               let bk = back h p i ms m xs x refl fit.is.2 fit.is.1 fit.is.0 at-old (subst (IsWalk k (way_of c may m) m.old.seat.view) (t.1 ∙ made) t.0.walked)
               (ap (λ (q : View). q.steps) (sym view) ∙ fit.steps) (ap (λ (q : View). q.past) (sym view) ∙ fit.past) in
               let o = rec (put i (Going ms m xs) st) (refit h (p ∷ h) st i (Going ms m xs) f others bk.1) in
               to-here x st bk.0.0 bk.0.1 (end-call i l ms m xs x st e made fit.is
               (fit.steps ∙ (λ j. part_of i ((i, sym bk.0.1 j) ∷ sym bk.0.0 j)))
-              (subst (λ (q : History). Ordered b c may q firsts (put i (Going ms m xs) st)) (sym bk.0.0) o))
+              (subst (λ (q : StepHistory). Ordered b c may q firsts (put i (Going ms m xs) st)) (sym bk.0.0) o))
 
-          go : (o : Outcome) → IsAnswered b c may m.request o m.steps m.old m.new → Ordered b c may (p ∷ h) firsts st
+          go : (o : CallOutcome) → IsAnswered b c may m.request o m.steps m.old m.new → Ordered b c may (p ∷ h) firsts st
           go Starved a = absurd (no-head x xs (sym made ∙ a.0))
           go Wrote a = absurd (no-head x xs (sym made ∙ a.0))
           go (Told verdict) a = took verdict a.1
@@ -502,7 +502,7 @@ module _ (b : Board) (c : Config) (may : AllowRelation) (limits : IsWithinLimits
               let at-old : m.old.seat.view.position ≡ i = ap (λ (z : SeatOf). z.view.position) fit.is.rests.seat ∙ (placed i l ms fit.is.calls).0 in
               let bk = back h p i ms m xs x refl fit.is.calls fit.is.rests fit.is.call at-old fit.is.walked fit.steps fit.past in
               let o = rec (put i (Going ms m xs) stages) (refit h (p ∷ h) stages i (Going ms m xs) fits others bk.1) in
-              to-here x stages bk.0.0 bk.0.1 (go-on i l ms m xs x stages e fit.is (subst (λ (q : History). Ordered b c may q firsts (put i (Going ms m xs) stages)) (sym bk.0.0) o))
+              to-here x stages bk.0.0 bk.0.1 (go-on i l ms m xs x stages e fit.is (subst (λ (q : StepHistory). Ordered b c may q firsts (put i (Going ms m xs) stages)) (sym bk.0.0) o))
 
 -- each run of the monitor has a legal order
 pub runs-have-legal-orders : RunsHaveLegalOrders

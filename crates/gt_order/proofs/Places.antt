@@ -10,7 +10,7 @@ use Rattle.gt_types.specs.declared.config.DomainConfig.{DomainConfig}
 use Rattle.gt_types.specs.declared.limits.TheConstants.{TABLE_ENTRIES}
 use Rattle.gt_words.proofs.Order.{part_else, part_here}
 use Rattle.gt_words.specs.Conditions.{HasDomain}
-use Rattle.gt_words.specs.History.{History, Layout, left_by, part_of, place_of, word_after}
+use Rattle.gt_words.specs.History.{StepHistory, Layout, left_by, part_of, word_place_of, word_after}
 use Rattle.gt_words.specs.Laws.{domain_at, id_at-map, length-ids}
 use Rattle.gt_words.specs.Rule.{header_place, id_at, layout_of, place, position_in}
 use Rattle.gt_words.specs.Views.{entry_steps, last_record}
@@ -55,19 +55,19 @@ test-apart c k i t is limits a b n = ne_eqb (dom_at k i).0 (dom_at k t).0 (λ e.
 
 -- what a step leaves of the words
 
-pub word-here : (k : Layout) (i : ℕ) (x : SeatStep) (h : History) (p : ℕ) → place_of x ≡ p → word_after k ((i, x) ∷ h) p ≡ left_by x (word_after k h p)
-word-here k i x h p e = ap (λ (b : Bool). cond b (left_by x (word_after k h p)) (word_after k h p)) (eq-eqb (place_of x) p e)
+pub word-here : (k : Layout) (i : ℕ) (x : SeatStep) (h : StepHistory) (p : ℕ) → word_place_of x ≡ p → word_after k ((i, x) ∷ h) p ≡ left_by x (word_after k h p)
+word-here k i x h p e = ap (λ (b : Bool). cond b (left_by x (word_after k h p)) (word_after k h p)) (eq-eqb (word_place_of x) p e)
 
-pub word-else : (k : Layout) (i : ℕ) (x : SeatStep) (h : History) (p : ℕ) → place_of x ≢ p → word_after k ((i, x) ∷ h) p ≡ word_after k h p
-word-else k i x h p n = ap (λ (b : Bool). cond b (left_by x (word_after k h p)) (word_after k h p)) (ne_eqb (place_of x) p n)
+pub word-else : (k : Layout) (i : ℕ) (x : SeatStep) (h : StepHistory) (p : ℕ) → word_place_of x ≢ p → word_after k ((i, x) ∷ h) p ≡ word_after k h p
+word-else k i x h p n = ap (λ (b : Bool). cond b (left_by x (word_after k h p)) (word_after k h p)) (ne_eqb (word_place_of x) p n)
 
 cond-same : {A : Type 0} (b : Bool) (x y : A) → x ≡ y → cond b x y ≡ y
 cond-same true x y e = e
 cond-same false x y e = refl
 
 -- a step that leaves the number that it finds leaves each word
-pub word-kept : (k : Layout) (i : ℕ) (x : SeatStep) (h : History) (p : ℕ) → ((n : ℕ) → left_by x n ≡ n) → word_after k ((i, x) ∷ h) p ≡ word_after k h p
-word-kept k i x h p keeps = cond-same (place_of x == p) (left_by x (word_after k h p)) (word_after k h p) (keeps (word_after k h p))
+pub word-kept : (k : Layout) (i : ℕ) (x : SeatStep) (h : StepHistory) (p : ℕ) → ((n : ℕ) → left_by x n ≡ n) → word_after k ((i, x) ∷ h) p ≡ word_after k h p
+word-kept k i x h p keeps = cond-same (word_place_of x == p) (left_by x (word_after k h p)) (word_after k h p) (keeps (word_after k h p))
 
 -- places are apart
 
@@ -104,7 +104,7 @@ record-after first t r (Entry d q m) xs c = by ((d == t) && (q == r))
 record-after first t r (Header d m) xs c = refl
 
 -- a step that changes nothing leaves each record
-pub record-kept : (k : Layout) (i : ℕ) (x : SeatStep) (h : History) (t r : ℕ) → ChangesNothing x → last_at k t r ((i, x) ∷ h) ≡ last_at k t r h
+pub record-kept : (k : Layout) (i : ℕ) (x : SeatStep) (h : StepHistory) (t r : ℕ) → ChangesNothing x → last_at k t r ((i, x) ∷ h) ≡ last_at k t r h
 record-kept k i x h t r c = by (i == t)
   where
     by : (b : Bool) → last_record k.first (entry_steps t r (cond b (x ∷ part_of t h) (part_of t h))) ≡ last_at k t r h
@@ -112,12 +112,12 @@ record-kept k i x h t r c = by (i == t)
     by false = refl
 
 -- and a taken exchange leaves each but its own
-pub record-here : (k : Layout) (i q : ℕ) (c : Change) (e n : ℕ) (y : EntryRecord) (h : History) → last_at k i q ((i, Entry i q (Changed c e n y)) ∷ h) ≡ y
+pub record-here : (k : Layout) (i q : ℕ) (c : Change) (e n : ℕ) (y : EntryRecord) (h : StepHistory) → last_at k i q ((i, Entry i q (Changed c e n y)) ∷ h) ≡ y
 record-here k i q c e n y h =
     ap (λ (l : List SeatStep). last_record k.first (entry_steps i q l)) (part_here i (Entry i q (Changed c e n y)) h)
     ∙ ap (λ (b : Bool). last_record k.first (cond b (Changed c e n y ∷ entry_steps i q (part_of i h)) (entry_steps i q (part_of i h)))) (let b : ((i == i) && (q == q)) ≡ true = λ z. eq-eqb i i refl z && eq-eqb q q refl z in b)
 
-pub record-else : (k : Layout) (i q : ℕ) (m : EntryStep) (h : History) (t r : ℕ) → (i ≡ t → q ≡ r → ⊥) → last_at k t r ((i, Entry i q m) ∷ h) ≡ last_at k t r h
+pub record-else : (k : Layout) (i q : ℕ) (m : EntryStep) (h : StepHistory) (t r : ℕ) → (i ≡ t → q ≡ r → ⊥) → last_at k t r ((i, Entry i q m) ∷ h) ≡ last_at k t r h
 record-else k i q m h t r n =
     elim (cases_eq i t) [
       | inl e ↦ by (i == t) (let f : q ≢ r = n e in λ z. (i == t) && ne_eqb q r f z)

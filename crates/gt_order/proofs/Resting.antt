@@ -7,9 +7,9 @@ use Rattle.gt_calls.specs.declared.known.Own.{Own}
 use Rattle.gt_core.proofs.Words.{◌≡◌, ◌≢◌, ◌+◌, ◌<◌, ◌≤◌, inl, inr, ℕ, refl, false, List, ◌∷◌, length, Option, Some}
 use Rattle.gt_core.proofs.Words.{None, is_some, sym, ap, ◌∙◌, subst, same_Some, none-some, arith, fun_ext, DomId}
 use Rattle.gt_core.proofs.Words.{domain_of, Entry, Request, begun_of, Verdict, CallerKnowledge, knowledge_of, known_at}
-use Rattle.gt_core.proofs.Words.{Setting, open_call, CallAgrees, Agrees, State, state_of, IsRight, MappingsAgree}
+use Rattle.gt_core.proofs.Words.{Setting, open_call, CallAgrees, StateStands, State, state_of, IsRight, MappingsAgree}
 use Rattle.gt_core.proofs.Words.{mappings_at, maps_answered_at, entry_at, generation_at, table_at, entry_in}
-use Rattle.gt_core.proofs.Words.{generation_in, row_entry, row_generation, answer_of, TABLE_ENTRIES, slice_get}
+use Rattle.gt_core.proofs.Words.{own_generation, row_entry, row_generation, answer_of, TABLE_ENTRIES, slice_get}
 use Rattle.gt_core.proofs.Words.{header_stored, stored_at, Half, Underway}
 use Rattle.gt_core.proofs.Beginning.{begin-answers}
 use Rattle.gt_core.proofs.Keeping.{known-same}
@@ -17,7 +17,7 @@ use Rattle.gt_core.proofs.Playing.{legal-grows}
 use Rattle.gt_core.proofs.Rows.{found, has_id, not-found}
 use Rattle.gt_core.proofs.Steps.Observers.{kept-entry, kept-raises, kept-table, unstored}
 use Rattle.gt_core.proofs.Steps.Write.{frames-begun}
-use Rattle.gt_core.specs.GoingOn.{IsReached, beginning}
+use Rattle.gt_core.specs.GoingOn.{CanBeReached, beginning}
 use Rattle.gt_core.specs.History.{History as Items}
 use Rattle.gt_core.specs.Acting.{setting_of}
 use Rattle.gt_core.specs.declared.core_state.Begun.TheVariants.{Done as BegunDone}
@@ -28,7 +28,7 @@ use Rattle.gt_core.specs.declared.underway.Open.{Open}
 use Rattle.gt_entry.specs.Words.{header_word}
 use Rattle.gt_types.specs.declared.config.Config.{Config}
 use Rattle.gt_words.specs.Conditions.{Board}
-use Rattle.gt_words.specs.History.{History, Layout, part_of}
+use Rattle.gt_words.specs.History.{StepHistory, Layout, part_of}
 use Rattle.gt_words.specs.Views.{entry_steps, last_of, last_record, own_table}
 use Rattle.gt_words.specs.declared.view.EntryRecord.{EntryRecord}
 use Rattle.gt_live.specs.Domains.{AllowRelation, IsDomainOf, knowledge}
@@ -39,8 +39,8 @@ use Rattle.gt_order.specs.Agreeing.{Agree, dom_at, last_at}
 
 -- what a domain at rest knows
 
-module _ (b : Board) (c : Config) (may : AllowRelation) (k : Layout) (g : Items) (h : History) (i : ℕ) (D : Domain) (agree : Agree (setting_of c may) k g h) (inside : i < k.domains) (of-run : IsDomainOf b c may D)
-    (at : D.seat.view.position ≡ i) (first : D.seat.view.first ≡ k.first) (steps : D.seat.view.steps ≡ part_of i h) (x : State) (core : Agrees (setting_of c may) g x) (id : x.id ≡ dom_at k i) where
+module _ (b : Board) (c : Config) (may : AllowRelation) (k : Layout) (g : Items) (h : StepHistory) (i : ℕ) (D : Domain) (agree : Agree (setting_of c may) k g h) (inside : i < k.domains) (of-run : IsDomainOf b c may D)
+    (at : D.seat.view.position ≡ i) (first : D.seat.view.first ≡ k.first) (steps : D.seat.view.steps ≡ part_of i h) (x : State) (core : StateStands (setting_of c may) g x) (id : x.id ≡ dom_at k i) where
   abbrev s : Setting
   s = setting_of c may
 
@@ -59,7 +59,7 @@ module _ (b : Board) (c : Config) (may : AllowRelation) (k : Layout) (g : Items)
     | inr l ↦ ap (λ (z : DomId). entry_at g z.0 r) (sym id) ∙ (ap (λ (f : ℕ → Entry). f r) (sym core.entries) ∙ (ap row_entry (past-rows x.own r core.rows l) ∙ ap row_entry (sym (past-rows D.own.items r of-run.all_rows l))))
   ]
 
-  known-generation : (r : ℕ) → generation_at s g d.0 r ≡ generation_in c.first_gen D.own.items r
+  known-generation : (r : ℕ) → generation_at s g d.0 r ≡ own_generation c.first_gen D.own.items r
   known-generation r = elim (cases_lt r TABLE_ENTRIES) [
     | inl l ↦ agree.generations i r inside l ∙ (ap (λ (z : EntryRecord). z.generation) (last-same r) ∙ ap (λ (z : EntryRecord). z.generation) (of-run.rows r l))
     | inr l ↦ ap (λ (z : DomId). generation_at s g z.0 r) (sym id) ∙ (ap (λ (f : ℕ → ℕ). f r) (sym core.generations)
@@ -69,7 +69,7 @@ module _ (b : Board) (c : Config) (may : AllowRelation) (k : Layout) (g : Items)
   pub rest-known : table_at s g d ≡ own_table D.seat.view → MappingsAgree D.mappings (mappings_at g d.0) (maps_answered_at g d.0) → known_at s g d ≡ knowledge c may D
   rest-known head a =
       let e : ◌≡◌ {A = ℕ → Entry} (λ r. entry_at g d.0 r) (entry_in D.own.items) = fun_ext known-entry in
-      let n : ◌≡◌ {A = ℕ → ℕ} (λ r. generation_at s g d.0 r) (generation_in c.first_gen D.own.items) = fun_ext known-generation in
+      let n : ◌≡◌ {A = ℕ → ℕ} (λ r. generation_at s g d.0 r) (own_generation c.first_gen D.own.items) = fun_ext known-generation in
       let m = sym a.named in let u = sym a.count in let w = sym a.given in
       λ j. record { domains = c.domains.items; may = may; entry = e j; generation = n j; header = head j; mapping = m j; in_use = u j; maps_answered = w j }
 
@@ -86,8 +86,8 @@ idle s g d None c a e = refl
 idle s g d (Some o) None a e = absurd a
 idle s g d (Some o) (Some c) a e = absurd (none-some c (sym e))
 
-pub can-be-answered : (s : Setting) (g : Items) (d : DomId) (request : Request) (v : Verdict) → IsReached s g → domain_of s.domains d ≢ None → open_call g d.0 ≡ None → begun_of (known_at s g d) d request ≡ Some v
-    → IsRight s g (beginning d request (Some (answer_of v))) × IsReached s (beginning d request (Some (answer_of v)) ∷ g)
+pub can-be-answered : (s : Setting) (g : Items) (d : DomId) (request : Request) (v : Verdict) → CanBeReached s g → domain_of s.domains d ≢ None → open_call g d.0 ≡ None → begun_of (known_at s g d) d request ≡ Some v
+    → IsRight s g (beginning d request (Some (answer_of v))) × CanBeReached s (beginning d request (Some (answer_of v)) ∷ g)
 can-be-answered s g d request v (core, st) named closed is =
     let t = state-there s g core.domains d st.domains named in let x = t.0 in let a = t.3 in
     let p = placed core.domains d.0 x t.1 in
@@ -108,7 +108,7 @@ can-be-answered s g d request v (core, st) named closed is =
     )
 
 -- an item that is no step, and changes nothing, keeps items and history in agreement
-pub keeps-agreement : (s : Setting) (k : Layout) (g : Items) (h : History) (item : Item) → KeepsWords item → header_stored item.happened ≡ None → ((r : ℕ) (half : Half) → stored_at item.happened r half ≡ None) → Agree s k g h → Agree s k (item ∷ g) h
+pub keeps-agreement : (s : Setting) (k : Layout) (g : Items) (h : StepHistory) (item : Item) → KeepsWords item → header_stored item.happened ≡ None → ((r : ℕ) (half : Half) → stored_at item.happened r half ≡ None) → Agree s k g h → Agree s k (item ∷ g) h
 keeps-agreement s k g h item keeps head stores a = record {
   words = λ t r l m. word-same s g (item ∷ g) (dom_at k t).0 r (kept-entry item g (dom_at k t).0 r keeps.changes) (kept-raises item g (dom_at k t).0 r keeps.changes) (live-kept item g keeps) ∙ a.words t r l m;
   bodies = λ t r half l m. unstored item g (dom_at k t).0 r half (stores r half) ∙ a.bodies t r half l m;

@@ -6,7 +6,7 @@ use Rattle.gt_types.specs.declared.limits.TheConstants.{TABLE_ENTRIES}
 use Rattle.gt_entry.specs.Words.{header_word}
 use Rattle.gt_entry.specs.declared.change.Half.{Half}
 use Rattle.gt_words.specs.Conditions.{HasDomain}
-use Rattle.gt_words.specs.History.{History, Layout, Says, half_index, place_of, word_after}
+use Rattle.gt_words.specs.History.{StepHistory, Layout, SaysWord, half_index, word_place_of, word_after}
 use Rattle.gt_words.specs.Rule.{header_place, layout_of, place, position_in}
 use Rattle.gt_words.specs.declared.view.EntryStep.TheVariants.{Looked, ReadBody, Pinned, PinMissed, Unpinned}
 use Rattle.gt_words.specs.declared.view.EntryStep.TheVariants.{StoredBody, Changed, ChangeMissed}
@@ -19,12 +19,12 @@ use Rattle.gt_calls.specs.declared.action.Step.TheVariants.{LookHeader, LookCont
 use Rattle.gt_calls.specs.declared.action.Step.TheVariants.{StoreBody, StoreHeader, Exchange}
 use Rattle.gt_core.specs.History.{History as Items, Setting, body_at, exchange_sees, seen_by, table_at, word_at}
 use Rattle.gt_core.specs.Acting.{setting_of}
-use Rattle.gt_live.specs.Walks.{shown_in}
+use Rattle.gt_live.specs.Walks.{seen_in_step}
 use Rattle.gt_order.proofs.Places.{dom-there}
 use Rattle.gt_order.specs.Agreeing.{Agree, IsThe, IsWithin, dom_at}
 use Rattle.gt_order.specs.Laws.{CoreSeesTheWords}
 
-module _ (c : Config) (s : Setting) (k : Layout) (g : Items) (h : History) (i : ℕ) (is : k ≡ layout_of c) (agree : Agree s k g h) (inside : i < k.domains) where
+module _ (c : Config) (s : Setting) (k : Layout) (g : Items) (h : StepHistory) (i : ℕ) (is : k ≡ layout_of c) (agree : Agree s k g h) (inside : i < k.domains) where
   -- the words of another domain, and of the actor's own
 
   pub header-there : (d : DomId) (t : ℕ) → HasDomain k d → t ≡ position_in k.ids d → header_word (table_at s g d) ≡ word_after k h (header_place t)
@@ -47,7 +47,7 @@ module _ (c : Config) (s : Setting) (k : Layout) (g : Items) (h : History) (i : 
   missed : (w looked e n : ℕ) → w ≡ n → n ≢ e → e ≡ looked → exchange_sees w looked ≡ Missed n
   missed w looked e n a b f = ap (λ (z : Bool). cond z Taken (Missed w)) (ne_eqb w looked (λ y. b (sym a ∙ (y ∙ sym f)))) ∙ ap (λ (z : ℕ). Missed z) a
 
-  pub sees : (step : Step) (x : SeatStep) → IsWithin k step → IsThe k i step x → Says x (word_after k h (place_of x)) → seen_by s g (dom_at k i) step ≡ shown_in x
+  pub sees : (step : Step) (x : SeatStep) → IsWithin k step → IsThe k i step x → SaysWord x (word_after k h (word_place_of x)) → seen_by s g (dom_at k i) step ≡ seen_in_step x
   sees (LookHeader d) (Header t (header.Looked n)) w a b = ap (λ (z : ℕ). Word z) (header-there d t w a ∙ sym b)
   sees (LookControl d q) (Entry t r (Looked n)) w a b = ap (λ (z : ℕ). Word z) (word-there d t r q.0 w.0 w.1 a.0 a.1 ∙ sym b)
   sees (LookBody d q half) (Entry t r (ReadBody z n)) w a b =

@@ -7,7 +7,7 @@ use Rattle.gt_types.specs.Names.{domain_of}
 use Rattle.gt_types.specs.declared.DomId.{DomId}
 use Rattle.gt_types.specs.declared.config.Config.{Config}
 use Rattle.gt_words.specs.Conditions.{Board}
-use Rattle.gt_words.specs.History.{History, Layout, Moment, part_of, up_to}
+use Rattle.gt_words.specs.History.{StepHistory, Layout, Moment, part_of, up_to}
 use Rattle.gt_words.specs.Rule.{layout_of}
 use Rattle.gt_words.specs.declared.view.View.{View}
 use Rattle.gt_calls.specs.Asking.{asked}
@@ -17,8 +17,8 @@ use Rattle.gt_core.proofs.Keeping.{open_call-other}
 use Rattle.gt_core.proofs.Mappings.{mappings-same}
 use Rattle.gt_core.proofs.Playing.{history-more, legal-more}
 use Rattle.gt_core.proofs.Steps.Observers.{other-known, other-maps, other-pins}
-use Rattle.gt_core.specs.GoingOn.{IsReached}
-use Rattle.gt_core.specs.History.{History as Items, Setting, Underway, by_mapping, known_at, maps_answered_at}
+use Rattle.gt_core.specs.GoingOn.{CanBeReached}
+use Rattle.gt_core.specs.History.{History as Items, Setting, Underway, mapping_named, known_at, maps_answered_at}
 use Rattle.gt_core.specs.History.{mappings_at, open_call, values}
 use Rattle.gt_core.specs.Legal.{IsRight, Legal, MayDo, history_after}
 use Rattle.gt_core.specs.Standing.{MappingsAgree}
@@ -29,7 +29,7 @@ use Rattle.gt_core.specs.declared.trace.Happened.{Happened}
 use Rattle.gt_core.specs.declared.trace.Happened.TheVariants.{Began, Stepped}
 use Rattle.gt_core.specs.declared.trace.Item.{Item}
 use Rattle.gt_live.specs.Domains.{AllowRelation, knowledge}
-use Rattle.gt_live.specs.Walks.{IsWalk, after, shown}
+use Rattle.gt_live.specs.Walks.{IsWalk, view_after, all_shown}
 use Rattle.gt_live.specs.declared.domain.Domain.{Domain}
 use Rattle.gt_order.proofs.Places.{test-apart}
 use Rattle.gt_order.proofs.Stepping.{AreBounded}
@@ -50,7 +50,7 @@ domain_now first (Going ms m xs) = m.old
 
 abbrev pub view_now : Domain → Stage → View
 view_now first (Resting ms) = (domain_after first ms).seat.view
-view_now first (Going ms m xs) = after xs m.old.seat.view
+view_now first (Going ms m xs) = view_after xs m.old.seat.view
 
 -- the items of what it did
 abbrev pub items_now : Config → AllowRelation → DomId → Stage → List Item
@@ -64,14 +64,14 @@ pub record IsGoing (b : Board) (c : Config) (may : AllowRelation) (first : Domai
   pub call : IsCall b c may m
   pub walked : IsWalk b.layout (way_of c may m) m.old.seat.view xs
   pub step : Step
-  pub next : way_of c may m (shown xs) ≡ Some (Makes step)
+  pub next : way_of c may m (all_shown xs) ≡ Some (Makes step)
 
 abbrev pub IsStage : Board → Config → AllowRelation → Domain → Stage → Type 0
 IsStage b c may first (Resting ms) = AreCalls b c may first ms
 IsStage b c may first (Going ms m xs) = IsGoing b c may first ms m xs
 
 -- the seat at the position i has made just its part of the history by then
-pub record Fits (b : Board) (c : Config) (may : AllowRelation) (h : History) (i : ℕ) (first : Domain) (stage : Stage) : Type 0 where
+pub record Fits (b : Board) (c : Config) (may : AllowRelation) (h : StepHistory) (i : ℕ) (first : Domain) (stage : Stage) : Type 0 where
   pub is : IsStage b c may first stage
   pub steps : (view_now first stage).steps ≡ part_of i h
   pub past : (view_now first stage).past ≡ up_to i h
@@ -79,7 +79,7 @@ pub record Fits (b : Board) (c : Config) (may : AllowRelation) (h : History) (i 
 -- the open call of a domain
 abbrev pub CallNow : Items → DomId → Stage → Type 0
 CallNow g d (Resting ms) = open_call g d.0 ≡ None
-CallNow g d (Going ms m xs) = (cl : Underway) × (open_call g d.0 ≡ Some cl) × (cl.request ≡ asked m.request) × (values cl ≡ shown xs)
+CallNow g d (Going ms m xs) = (cl : Underway) × (open_call g d.0 ≡ Some cl) × (cl.request ≡ asked m.request) × (values cl ≡ all_shown xs)
 
 -- what the items have made of a domain
 pub record SeatNow (c : Config) (may : AllowRelation) (g : Items) (d : DomId) (first : Domain) (stage : Stage) : Type 0 where
@@ -89,9 +89,9 @@ pub record SeatNow (c : Config) (may : AllowRelation) (g : Items) (d : DomId) (f
   pub call : CallNow g d stage
 
 -- an order of what all domains did by then
-pub record Ordered (b : Board) (c : Config) (may : AllowRelation) (h : History) (firsts : ℕ → Domain) (stages : ℕ → Stage) : Type 0 where
+pub record Ordered (b : Board) (c : Config) (may : AllowRelation) (h : StepHistory) (firsts : ℕ → Domain) (stages : ℕ → Stage) : Type 0 where
   pub g : Items
-  pub reached : IsReached (setting_of c may) g
+  pub reached : CanBeReached (setting_of c may) g
   pub agree : Agree (setting_of c may) b.layout g h
   pub legal : Legal (setting_of c may) (events_of g) (trace_of g)
   pub steps : AreStepsOf b.layout g h
@@ -111,7 +111,7 @@ module _ (b : Board) (c : Config) (may : AllowRelation) (limits : IsWithinLimits
       → SeatNow c may (item ∷ g) (dom_at k j) first stage
   other-seat g item i j first stage own a b' n seat = record {
     items = ap (λ (z : Bool). cond z (item ∷ items_by d g) (items_by d g)) apart ∙ seat.items;
-    maps = mappings-same _ _ _ _ _ (sym (other-pins by_mapping item g d.0 apart)) (sym (other-maps item g d.0 apart)) seat.maps;
+    maps = mappings-same _ _ _ _ _ (sym (other-pins mapping_named item g d.0 apart)) (sym (other-maps item g d.0 apart)) seat.maps;
     known = other-known s item g d apart ∙ seat.known;
     call = call stage seat.call;
   }
@@ -141,7 +141,7 @@ module _ (b : Board) (c : Config) (may : AllowRelation) (limits : IsWithinLimits
       (subst (λ (z : Items). MayDo s z (event_in item.actor item.happened) (Did item)) (sym (trace-back g)) (may-do g item.actor item.happened item.answer named right))
 
   -- one item more, of one domain
-  pub one-more : (h' h : History) (firsts : ℕ → Domain) (old new : ℕ → Stage) (i : ℕ) (item : Item) (o : Ordered b c may h' firsts old) → i < k.domains → item.actor ≡ dom_at k i → domain_of c.domains.items (dom_at k i) ≢ None → IsRight s o.g item → IsReached s (item ∷ o.g)
+  pub one-more : (h' h : StepHistory) (firsts : ℕ → Domain) (old new : ℕ → Stage) (i : ℕ) (item : Item) (o : Ordered b c may h' firsts old) → i < k.domains → item.actor ≡ dom_at k i → domain_of c.domains.items (dom_at k i) ≢ None → IsRight s o.g item → CanBeReached s (item ∷ o.g)
       → Agree s k (item ∷ o.g) h → AreStepsOf k (item ∷ o.g) h → AreBounded k (item ∷ o.g) → ((j : ℕ) → i ≢ j → new j ≡ old j) → SeatNow c may (item ∷ o.g) (dom_at k i) (firsts i) (new i) → Ordered b c may h firsts new
   one-more h' h firsts old new i item o inside own named right reached agree steps bounded same seat = record {
     g = item ∷ o.g;

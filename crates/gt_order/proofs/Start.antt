@@ -23,7 +23,7 @@ use Rattle.gt_calls.specs.declared.held.Held.{Held}
 use Rattle.gt_core.proofs.GoingOn.{runs-start}
 use Rattle.gt_core.proofs.Mappings.{no-handles}
 use Rattle.gt_core.proofs.Steps.See.{table-fits}
-use Rattle.gt_core.specs.GoingOn.{IsReached}
+use Rattle.gt_core.specs.GoingOn.{CanBeReached}
 use Rattle.gt_core.specs.History.{Setting, generation_at, header_from, mappings_at, word_at}
 unfoldable use Rattle.gt_core.specs.History.{body_at, entry_at, gather, live, maps_answered_at, open_call, raises_at, table_at}
 use Rattle.gt_core.specs.Standing.{MappingsAgree}
@@ -131,7 +131,7 @@ module _ (b : Board) (c : Config) (may : AllowRelation) (limits : IsWithinLimits
     each = λ i l. subst (SeatNow c may [] (dom_at k i) (firsts i)) (sym (rest i l)) (first-seat i l);
   }
     where
-      reached : IsReached s []
+      reached : CanBeReached s []
       reached = runs-start c may limits
 
       first-seat : (i : ℕ) → i < k.domains → SeatNow c may [] (dom_at k i) (firsts i) (Resting [])

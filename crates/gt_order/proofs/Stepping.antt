@@ -16,7 +16,7 @@ use Rattle.gt_core.proofs.Words.{FirstHalf, SecondHalf, Held, Holder, ByMapping,
 use Rattle.gt_core.proofs.Words.{Word, Taken, Missed, Step, LookHeader, LookControl, LookBody, PinStep, Unpin}
 use Rattle.gt_core.proofs.Words.{StoreBody, StoreHeader, Exchange, ReadBytes, WriteBytes, CopyBytes, Makes, State}
 use Rattle.gt_core.proofs.Words.{state_of, Phase, path, known_at, Setting, Underway, Rests, pins_at, DomainConfig}
-use Rattle.gt_core.proofs.Words.{values, open_call, DomainsStand, Agrees, CallAgrees, OpenAgrees, StateAgrees}
+use Rattle.gt_core.proofs.Words.{values, open_call, DomainsStand, StateStands, CallAgrees, OpenAgrees, StateAgrees}
 use Rattle.gt_core.proofs.Words.{CoreStands, IsClean, IsRight, IsSafe, begun, entry_at, table_at, reads_at, writes_at}
 use Rattle.gt_core.proofs.Words.{size_of, TABLE_ENTRIES, CoreState}
 use Rattle.std.specs.Prelude.{IsSome}
@@ -26,7 +26,7 @@ use Rattle.gt_core.proofs.Entries.{of-safe}
 use Rattle.gt_core.proofs.Steps.Observers.{stepped, pins, unpins, exchanged}
 use Rattle.gt_core.proofs.Steps.See.{IsWithin as InCore, table-fits}
 use Rattle.gt_core.proofs.Steps.Unpin.{loses-mapping}
-use Rattle.gt_core.specs.GoingOn.{IsOnWords, IsReached}
+use Rattle.gt_core.specs.GoingOn.{IsOnWords, CanBeReached}
 use Rattle.gt_core.specs.History.{History as Items}
 use Rattle.gt_core.specs.declared.trace.Answer.{Answer}
 use Rattle.gt_core.specs.declared.underway.Open.{Open}
@@ -38,7 +38,7 @@ use Rattle.gt_calls.specs.Opening.{opens}
 use Rattle.gt_types.specs.Config.{IsWithinLimits}
 use Rattle.gt_types.specs.declared.config.Config.{Config}
 use Rattle.gt_words.specs.Conditions.{HasDomain}
-use Rattle.gt_words.specs.History.{History, Layout, Says, place_of, word_after}
+use Rattle.gt_words.specs.History.{StepHistory, Layout, SaysWord, word_place_of, word_after}
 use Rattle.gt_words.specs.Laws.{domain_of_run}
 use Rattle.gt_words.specs.Rule.{layout_of, place}
 use Rattle.gt_words.specs.Steps.{changed, changed_word}
@@ -48,7 +48,7 @@ use Rattle.gt_words.specs.declared.view.HeaderStep.TheVariants as header
 use Rattle.gt_words.specs.declared.view.SeatStep.{SeatStep}
 use Rattle.gt_words.specs.declared.view.SeatStep.TheVariants.{Entry, Header}
 use Rattle.gt_live.specs.Domains.{AllowRelation}
-use Rattle.gt_live.specs.Walks.{shown_in}
+use Rattle.gt_live.specs.Walks.{seen_in_step}
 use Rattle.gt_order.proofs.Counting.{IsIdleFor, IsTurned, changes-entry, gives-back, takes-pin}
 use Rattle.gt_order.proofs.Kept.{KeepsWords, live-kept, quiet, stores-body, stores-header}
 use Rattle.gt_order.specs.Agreeing.{Agree, IsThe, IsWithin, StoresChange, dom_at, last_at}
@@ -63,9 +63,9 @@ pub record StandsHere (s : Setting) (g : Items) (d : DomId) (c : Underway) (step
   pub here : IsHere s g core.domains d c.request (values c) (reverse c.steps) phase step
   pub clean : IsClean phase c.steps
 
-pub state-there : (s : Setting) (g : Items) (xs : List State) (d : DomId) → DomainsStand s g xs → domain_of s.domains d ≢ None → (x : State) × (state_of xs d.0 ≡ Some x) × (x.id ≡ d) × Agrees s g x
+pub state-there : (s : Setting) (g : Items) (xs : List State) (d : DomId) → DomainsStand s g xs → domain_of s.domains d ≢ None → (x : State) × (state_of xs d.0 ≡ Some x) × (x.id ≡ d) × StateStands s g x
 state-there s g xs d st named = by (state_of xs d.0) refl (st.each d) where
-  by : (o : Option State) → state_of xs d.0 ≡ o → StateAgrees s g d o → (x : State) × (state_of xs d.0 ≡ Some x) × (x.id ≡ d) × Agrees s g x
+  by : (o : Option State) → state_of xs d.0 ≡ o → StateAgrees s g d o → (x : State) × (state_of xs d.0 ≡ Some x) × (x.id ≡ d) × StateStands s g x
   by None e a = absurd (named a)
   by (Some x) e a = (x, e, a.1, a.2)
 
@@ -75,7 +75,7 @@ open-there s g d None (Some z) c a e = absurd a
 open-there s g d (Some o) None c a e = absurd a
 open-there s g d (Some o) (Some z) c a e = (o, subst (OpenAgrees s g d o) (same_Some z c e) a)
 
-pub stands-here : (s : Setting) (g : Items) (d : DomId) (c : Underway) (step : Step) → IsReached s g → domain_of s.domains d ≢ None → open_call g d.0 ≡ Some c → path (known_at s g d) d c.request (values c) ≡ Some (Makes step) → StandsHere s g d c step
+pub stands-here : (s : Setting) (g : Items) (d : DomId) (c : Underway) (step : Step) → CanBeReached s g → domain_of s.domains d ≢ None → open_call g d.0 ≡ Some c → path (known_at s g d) d c.request (values c) ≡ Some (Makes step) → StandsHere s g d c step
 stands-here s g d c step (core, st) named call next =
     let t = state-there s g core.domains d st.domains named in
     let o = open-there s g d t.0.underway (open_call g d.0) c (subst (λ (z : DomId). CallAgrees s g z t.0.underway (open_call g z.0)) t.2 t.3.call) call in
@@ -187,7 +187,7 @@ within c may k g d cl step is here quiet unpinned = by step refl (each-step s g 
 
 -- the step and its item
 
-module _ (c : Config) (may : AllowRelation) (k : Layout) (g : Items) (h : History) (i : ℕ) (is : k ≡ layout_of c) (limits : IsWithinLimits c) (inside : i < k.domains) (agree : Agree (setting_of c may) k g h) (answer : Option Answer)
+module _ (c : Config) (may : AllowRelation) (k : Layout) (g : Items) (h : StepHistory) (i : ℕ) (is : k ≡ layout_of c) (limits : IsWithinLimits c) (inside : i < k.domains) (agree : Agree (setting_of c may) k g h) (answer : Option Answer)
     (cl : Underway) (step : Step) (here : StandsHere (setting_of c may) g (dom_at k i) cl step) (right : (seen : Seen) → IsRight (setting_of c may) g (stepped (dom_at k i) step seen answer) → IsSafe (setting_of c may) g (stepped (dom_at k i) step seen answer)) where
   abbrev s : Setting
   s = setting_of c may
@@ -197,7 +197,7 @@ module _ (c : Config) (may : AllowRelation) (k : Layout) (g : Items) (h : Histor
 
   -- what a step leaves as it is
   abbrev Goes : Step → SeatStep → Type 0
-  Goes z x = Agree s k (stepped d z (shown_in x) answer ∷ g) ((i, x) ∷ h)
+  Goes z x = Agree s k (stepped d z (seen_in_step x) answer ∷ g) ((i, x) ∷ h)
 
   rests : Rests (known_at s g d) d cl.request (pins_at here.phase) (values cl) (Makes step)
   rests = here.here.rests
@@ -221,8 +221,8 @@ module _ (c : Config) (may : AllowRelation) (k : Layout) (g : Items) (h : Histor
   idle q ToReadOnly safe = tt
   idle q ToWritable safe = tt
 
-  goes : (z : Step) (x : SeatStep) → step ≡ z → Rests (known_at s g d) d cl.request (pins_at here.phase) (values cl) (Makes z) → IsThe k i z x → IsWithin k z → StoresChange k h x → Says x (word_after k h (place_of x))
-      → IsRight s g (stepped d step (shown_in x) answer) → Goes z x
+  goes : (z : Step) (x : SeatStep) → step ≡ z → Rests (known_at s g d) d cl.request (pins_at here.phase) (values cl) (Makes z) → IsThe k i z x → IsWithin k z → StoresChange k h x → SaysWord x (word_after k h (word_place_of x))
+      → IsRight s g (stepped d step (seen_in_step x) answer) → Goes z x
   goes (LookHeader dom) (Header t (header.Looked n)) e r a w st says ok = quiet c s k g h i is limits agree inside (stepped d (LookHeader dom) (Word n) answer) (Header t (header.Looked n)) (record { changes = λ z. refl; pins = λ before ps. refl; unpins = λ ps. refl }) refl (λ z half. refl) (λ z. refl) tt
   goes (LookControl dom q) (Entry t y (Looked n)) e r a w st says ok = quiet c s k g h i is limits agree inside (stepped d (LookControl dom q) (Word n) answer) (Entry t y (Looked n)) (record { changes = λ z. refl; pins = λ before ps. refl; unpins = λ ps. refl }) refl (λ z half. refl) (λ z. refl) tt
   goes (LookBody dom q half) (Entry t y (ReadBody b n)) e r a w st says ok = quiet c s k g h i is limits agree inside (stepped d (LookBody dom q half) (Word n) answer) (Entry t y (ReadBody b n)) (record { changes = λ z. refl; pins = λ before ps. refl; unpins = λ ps. refl }) refl (λ z half. refl) (λ z. refl) tt

@@ -20,14 +20,14 @@ use Rattle.gt_frames.specs.Receipts.{Writing}
 use Rattle.gt_types.specs.declared.DomId.{DomId}
 use Rattle.gt_live.specs.Accesses.{Accessed, IsWrittenBy, onward}
 use Rattle.gt_live.specs.Domains.{AllowRelation, knowledge}
-use Rattle.gt_live.specs.Walks.{IsWalk, Made, MakesStep, after, shown}
+use Rattle.gt_live.specs.Walks.{IsWalk, Made, MakesStep, view_after, all_shown}
 use Rattle.gt_live.specs.declared.domain.Domain.{Domain}
 use Rattle.gt_live.specs.declared.monitor.Monitor.{Monitor}
 use Rattle.gt_order.specs.Calling.{IsStoring, LostWritesAreMade, StaysOf, WasMade, WritesAreMade}
-use Rattle.gt_order.specs.Runs.{FitsTypes, IsWrite, WritesOnce}
-use Rattle.gt_order.specs.Runs.Outcome.{Wrote}
+use Rattle.gt_order.specs.Runs.{FitsTypes, IsWriteStep, WritesOnce}
+use Rattle.gt_order.specs.Runs.CallOutcome.{Wrote}
 
-no-step : (k : Layout) (step : Step) (seen : Seen) (u w : View) → IsWrite step → Made k step seen u w → ⊥
+no-step : (k : Layout) (step : Step) (seen : Seen) (u w : View) → IsWriteStep step → Made k step seen u w → ⊥
 no-step k (WriteBytes dom frame off len) (Word n) u w is made = absurd made
 no-step k (WriteBytes dom frame off len) Taken u w is made = absurd made
 no-step k (WriteBytes dom frame off len) (Missed n) u w is made = absurd made
@@ -42,10 +42,10 @@ MakesNone k way vs = (seen : Seen) (u w : View) → MakesStep k (way vs) seen u 
 abbrev IsOneWrite : Layout → Continuation → Type 0
 IsOneWrite k way = MakesNone k way [] × MakesNone k way (Nothing ∷ [])
 
-one-write : (k : Layout) (step : Step) → IsWrite step → IsOneWrite k (makes step (ended Granted))
+one-write : (k : Layout) (step : Step) → IsWriteStep step → IsOneWrite k (makes step (ended Granted))
 one-write k step is = (λ seen u w made. no-step k step seen u w is made, λ seen u w made. made)
 
-by-mapping : (k : Layout) (o : Option Held) (step : Held → Step) → ((m : Held) → IsWrite (step m)) → IsOneWrite k (by_mapping o step)
+by-mapping : (k : Layout) (o : Option Held) (step : Held → Step) → ((m : Held) → IsWriteStep (step m)) → IsOneWrite k (by_mapping o step)
 by-mapping k None step is = (λ seen u w made. made, λ seen u w made. made)
 by-mapping k (Some m) step is = one-write k (step m) (is m)
 
@@ -58,7 +58,7 @@ no-walk k way v [] none walk = refl
 no-walk k way v (x ∷ []) none walk = absurd (none _ _ _ walk.0)
 no-walk k way v (x ∷ (y ∷ ys)) none walk = let e = no-walk k way v (y ∷ ys) none walk.1 in cc
 
-is-write : (writer : DomId) (bytes : List ℕ) (access : Step) (r : Writing) → IsWrittenBy writer bytes access r → IsWrite access
+is-write : (writer : DomId) (bytes : List ℕ) (access : Step) (r : Writing) → IsWrittenBy writer bytes access r → IsWriteStep access
 is-write writer bytes (WriteBytes dom frame off len) r is = tt
 is-write writer bytes access r is = absurd is
 
@@ -82,10 +82,10 @@ record IsUnseen (k : Layout) (way : Continuation) (access : Step) (v w : View) (
 unseen : (k : Layout) (way : Continuation) (access : Step) (v w : View) → IsOneWrite k way → (a : Accessed k way access v w) → IsUnseen k way access v w a
 unseen k way access v w one a =
     let first = no-walk k way v a.comes.steps one.0 a.comes.walked in
-    let none : MakesNone k (onward way (shown a.comes.steps ++ Nothing ∷ [])) [] =
-    λ seen u z made. one.1 seen u z (subst (λ (xs : List Moment). MakesStep k (way ((shown xs ++ Nothing ∷ []) ++ [])) seen u z) first made) in
-    let last = no-walk k (onward way (shown a.comes.steps ++ Nothing ∷ [])) a.at a.ends.steps none a.ends.walked in
-    record { first = first; last = last; view = a.ends.view ∙ (ap (λ (xs : List Moment). after xs a.at) last ∙ (a.comes.view ∙ ap (λ (xs : List Moment). after xs v) first)) }
+    let none : MakesNone k (onward way (all_shown a.comes.steps ++ Nothing ∷ [])) [] =
+    λ seen u z made. one.1 seen u z (subst (λ (xs : List Moment). MakesStep k (way ((all_shown xs ++ Nothing ∷ []) ++ [])) seen u z) first made) in
+    let last = no-walk k (onward way (all_shown a.comes.steps ++ Nothing ∷ [])) a.at a.ends.steps none a.ends.walked in
+    record { first = first; last = last; view = a.ends.view ∙ (ap (λ (xs : List Moment). view_after xs a.at) last ∙ (a.comes.view ∙ ap (λ (xs : List Moment). view_after xs v) first)) }
 
 pub writes-made : {P : Type 0} (may : P → AllowRelation) (m : Monitor P) → WritesAreMade may m
 writes-made may m d e request bytes r stays is answered kept =
@@ -94,8 +94,8 @@ writes-made may m d e request bytes r stays is answered kept =
     let once : WritesOnce way = record {
       access = answered.0;
       writes = is-write d.seat.dom bytes answered.0 r answered.2;
-      next = ap (λ (xs : List Moment). way (shown xs)) (sym u.first) ∙ a.comes.next;
-      done = (λ i. way ((shown (sym u.first i) ++ Nothing ∷ []) ++ shown (sym u.last i))) ∙ a.ends.answered;
+      next = ap (λ (xs : List Moment). way (all_shown xs)) (sym u.first) ∙ a.comes.next;
+      done = (λ i. way ((all_shown (sym u.first i) ++ Nothing ∷ []) ++ all_shown (sym u.last i))) ∙ a.ends.answered;
     } in
     record { before = stays.before; afterwards = stays.afterwards; seat = stays.seat; fits = no-bytes-given request is; answered = (refl, u.view, kept.0, once) }
 

@@ -1,6 +1,6 @@
 -- When the items of the core and the steps of the words have made the same of all entries and headers.
 use Rattle.std.specs.Prelude.{◌≡◌, ℕ, ◌<◌}
-use Rattle.gt_order.specs.Prelude.{TABLE_ENTRIES, header_word, Half, HasDomain, generation_of, History, Layout}
+use Rattle.gt_order.specs.Prelude.{TABLE_ENTRIES, header_word, Half, HasDomain, generation_of, StepHistory, Layout}
 use Rattle.gt_order.specs.Prelude.{half_index, part_of, word_after, header_place, id_at, place, position_in, changed}
 use Rattle.gt_order.specs.Prelude.{changed_word, entry_steps, last_record, EntryRecord, Looked, ReadBody, Pinned}
 use Rattle.gt_order.specs.Prelude.{PinMissed, Unpinned, StoredBody, Changed, ChangeMissed, SeatStep, Entry, Header}
@@ -15,7 +15,7 @@ dom_at k t = id_at k.ids t
 
 -- The items and the history have made the same: of each entry the control word, the body words, and the entry and
 -- generation that its owner knows, and of each table its header
-pub record Agree (s : Setting) (k : Layout) (g : Items) (h : History) : Type 0 where
+pub record Agree (s : Setting) (k : Layout) (g : Items) (h : StepHistory) : Type 0 where
   pub words : (t r : ℕ) → t < k.domains → r < TABLE_ENTRIES → word_at s g (dom_at k t).0 r ≡ word_after k h (place t r 0)
   pub bodies : (t r : ℕ) (half : Half) → t < k.domains → r < TABLE_ENTRIES
       → body_at g (dom_at k t).0 r half ≡ word_after k h (place t r (half_index half))
@@ -59,11 +59,11 @@ IsWithin k (StoreHeader version frames) = Unit {0}
 IsWithin k step = ⊥
 
 -- the owner's last record of the entry r of the domain at the position t, as the history makes it
-abbrev pub last_at : Layout → ℕ → ℕ → History → EntryRecord
+abbrev pub last_at : Layout → ℕ → ℕ → StepHistory → EntryRecord
 last_at k t r h = last_record k.first (entry_steps t r (part_of t h))
 
 -- a taken exchange stored the word and the record that its change makes of the last record
-abbrev pub StoresChange : Layout → History → SeatStep → Type 0
+abbrev pub StoresChange : Layout → StepHistory → SeatStep → Type 0
 StoresChange k h (Entry t r (Changed c e n x)) =
     (n ≡ changed_word c (last_at k t r h) e) × (x ≡ changed c (last_at k t r h))
 StoresChange k h x = Unit {0}

@@ -2,14 +2,16 @@
 use Rattle.std.specs.Prelude.{◌≡◌, ℕ, List, [], Result, Ok, Err, OnOk, OnErr}
 use Rattle.gt_order.specs.Prelude.{denial_of, DomId, GrantRef, Denial, NoFacts, N26, IsSameSeat, Moment, Handle, asked}
 use Rattle.gt_order.specs.Prelude.{Verdict, Refused, Held, Request, Writing, path_of, Step, Accessed, IsWrittenBy}
-use Rattle.gt_order.specs.Prelude.{Accesses, AllowRelation, Answered, IsOf, KeepsPinned, MapAnswered, known, verdict_of}
+use Rattle.gt_order.specs.Prelude.{Accesses, AllowRelation, Answered, BelongsTo, KeepsPinned, MapAnswered, known_on}
+use Rattle.gt_order.specs.Prelude.{verdict_of}
 use Rattle.gt_order.specs.Prelude.{IsOfMapping, Removes, Domain, Monitor}
 use Rattle.gt_calls.specs.declared.request.Request.TheVariants as requests
-use Rattle.gt_order.specs.Runs.{FitsTypes, IsCall, KeepsNoPin, Outcome}
-use Rattle.gt_order.specs.Runs.Outcome.{Told, Kept, Starved, Wrote}
+use Rattle.gt_order.specs.Runs.{FitsTypes, IsCall, KeepsNoPin, CallOutcome}
+use Rattle.gt_order.specs.Runs.CallOutcome.{Told, Kept, Starved, Wrote}
 
 -- the domain d of the monitor m asked this, with these steps and this outcome, after which it is e: a call of a run
-abbrev pub WasMade : {P : Type 0} → (P → AllowRelation) → Monitor P → Request → Outcome → List Moment → Domain → Domain
+abbrev pub WasMade : {P : Type 0} → (P → AllowRelation) → Monitor P → Request → CallOutcome → List Moment → Domain
+    → Domain
     → Type 0
 WasMade may m request outcome steps d e =
     IsCall m.words m.config (may m.rights)
@@ -17,8 +19,8 @@ WasMade may m request outcome steps d e =
 
 -- what each call of a domain ensures of it: it is of the monitor before and after, and has the same seat
 pub record StaysOf {P : Type 0} (may : P → AllowRelation) (m : Monitor P) (d e : Domain) : Type 0 where
-  pub before : IsOf may m d
-  pub afterwards : IsOf may m e
+  pub before : BelongsTo may m d
+  pub afterwards : BelongsTo may m e
   pub seat : IsSameSeat d.seat e.seat
 
 -- the calls that neither map nor unmap, which their path answers: so those with an access only where they are refused
@@ -37,7 +39,7 @@ UnmapsAreMade may m =
     → (steps : List Moment) × WasMade may m (requests.Unmap handle) (Told (verdict_of result)) steps d e
 
 -- the outcome of a map that was answered so
-abbrev pub IsOutcomeOf : Result Handle Denial → Outcome → Type 0
+abbrev pub IsOutcomeOf : Result Handle Denial → CallOutcome → Type 0
 IsOutcomeOf (Ok handle) (Kept given p) = given ≡ handle
 IsOutcomeOf (Err denial) (Told verdict) = verdict ≡ Refused denial
 IsOutcomeOf (Err denial) Starved = denial ≡ denial_of N26 NoFacts
@@ -48,7 +50,7 @@ abbrev pub MapsAreMade : {P : Type 0} → (P → AllowRelation) → Monitor P �
 MapsAreMade may m =
     (d e : Domain) (dom : DomId) (gref : GrantRef) (flags : ℕ) (result : Result Handle Denial) → StaysOf may m d e
     → MapAnswered may m d (requests.Map dom gref flags) result e
-    → (outcome : Outcome) × IsOutcomeOf result outcome
+    → (outcome : CallOutcome) × IsOutcomeOf result outcome
     × ((steps : List Moment) × WasMade may m (requests.Map dom gref flags) outcome steps d e)
 
 -- the request is a store or a poke
@@ -69,5 +71,5 @@ WritesAreMade may m =
 abbrev pub LostWritesAreMade : {P : Type 0} → (P → AllowRelation) → Monitor P → Type 0
 LostWritesAreMade may m =
     (d e : Domain) (request : Request) (access : Step) → StaysOf may m d e → IsStoring request
-    → Accessed m.words.layout (path_of (known may m d) d.seat.dom request) access d.seat.view e.seat.view
+    → Accessed m.words.layout (path_of (known_on may m d) d.seat.dom request) access d.seat.view e.seat.view
     → KeepsPinned d e → WasMade may m request Starved [] d e

@@ -1,9 +1,11 @@
 -- What follows of runs, and of the steps of the words beside the items of the core.
 use Rattle.std.specs.Prelude.{◌≡◌, ◌≢◌, ℕ, ◌<◌, ◌∷◌, Option, Some, None}
-use Rattle.gt_order.specs.Prelude.{State, IsWithinLimits, domain_of, Config, Board, History, Layout, Says, place_of}
-use Rattle.gt_order.specs.Prelude.{word_after, layout_of, SeatStep, View, path, Makes, Step, IsReached, Items, Underway}
+use Rattle.gt_order.specs.Prelude.{State, IsWithinLimits, domain_of, Config, Board, StepHistory, Layout, SaysWord}
+use Rattle.gt_order.specs.Prelude.{word_place_of}
+use Rattle.gt_order.specs.Prelude.{word_after, layout_of, SeatStep, View, path, Makes, Step, CanBeReached, Items}
+use Rattle.gt_order.specs.Prelude.{Underway}
 use Rattle.gt_order.specs.Prelude.{known_at, open_call, seen_by, values, IsRight, setting_of, Answer, Stepped, Item}
-use Rattle.gt_order.specs.Prelude.{AllowRelation, shown_in}
+use Rattle.gt_order.specs.Prelude.{AllowRelation, seen_in_step}
 use Rattle.gt_order.specs.Agreeing.{Agree, IsThe, IsWithin, StoresChange, dom_at}
 use Rattle.gt_order.specs.Ordering.{IsLegalOrder}
 use Rattle.gt_order.specs.Runs.{IsRun, SeatRun}
@@ -11,20 +13,21 @@ use Rattle.gt_order.specs.Runs.{IsRun, SeatRun}
 -- where items and history agree, the core's step sees what the words' step shows, if that says what is there
 abbrev pub CoreSeesTheWords : Type 0
 CoreSeesTheWords =
-    (c : Config) (may : AllowRelation) (k : Layout) (g : Items) (h : History) (i : ℕ) (step : Step) (x : SeatStep)
+    (c : Config) (may : AllowRelation) (k : Layout) (g : Items) (h : StepHistory) (i : ℕ) (step : Step) (x : SeatStep)
     → k ≡ layout_of c → Agree (setting_of c may) k g h → i < k.domains → IsWithin k step → IsThe k i step x
-    → Says x (word_after k h (place_of x)) → seen_by (setting_of c may) g (dom_at k i) step ≡ shown_in x
+    → SaysWord x (word_after k h (word_place_of x)) → seen_by (setting_of c may) g (dom_at k i) step ≡ seen_in_step x
 
 -- where items and history agree, and an open call's next step was made by its seat, they agree after it too
 abbrev pub StepsKeepAgreement : Type 0
 StepsKeepAgreement =
-    (c : Config) (may : AllowRelation) (k : Layout) (g : Items) (h : History) (i : ℕ) (call : Underway) (step : Step)
+    (c : Config) (may : AllowRelation) (k : Layout) (g : Items) (h : StepHistory) (i : ℕ) (call : Underway)
+    (step : Step)
     (x : SeatStep) (answer : Option Answer) → k ≡ layout_of c → IsWithinLimits c → i < k.domains
     → let s = setting_of c may in let d = dom_at k i in
-    let item : Item = record { actor = d; happened = Stepped step (shown_in x); answer = answer } in
-    IsReached s g → Agree s k g h → domain_of s.domains d ≢ None → open_call g d.0 ≡ Some call
+    let item : Item = record { actor = d; happened = Stepped step (seen_in_step x); answer = answer } in
+    CanBeReached s g → Agree s k g h → domain_of s.domains d ≢ None → open_call g d.0 ≡ Some call
     → path (known_at s g d) d call.request (values call) ≡ Some (Makes step)
-    → IsWithin k step → IsThe k i step x → StoresChange k h x → Says x (word_after k h (place_of x))
+    → IsWithin k step → IsThe k i step x → StoresChange k h x → SaysWord x (word_after k h (word_place_of x))
     → IsRight s g item → Agree s k (item ∷ g) ((i, x) ∷ h)
 
 -- each run of the monitor has a legal order

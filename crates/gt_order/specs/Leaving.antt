@@ -13,7 +13,7 @@ use Rattle.gt_live.specs.Domains.{AllowRelation, HasLeft, IsDomainOf, knowledge}
 use Rattle.gt_live.specs.declared.domain.Domain.{Domain}
 use Rattle.gt_live.specs.declared.domain.Left.{Left}
 use Rattle.gt_order.specs.Runs.{AreCalls, CallMade, domain_after}
-use Rattle.gt_order.specs.Runs.Outcome.{Told}
+use Rattle.gt_order.specs.Runs.CallOutcome.{Told}
 
 -- the policy allows the domain to give each of its mappings up
 abbrev pub MayUnmapAll : Config → AllowRelation → Domain → Type 0

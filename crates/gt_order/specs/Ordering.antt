@@ -1,31 +1,34 @@
 -- The items of a run: the steps of its history in their order, and the beginnings of its calls between them.
 use Rattle.std.specs.Prelude.{◌≡◌, ℕ, ◌<◌, ◌==◌, if◌then◌else◌, List, [], ◌∷◌, ◌++◌, Option, Some, None}
-use Rattle.gt_order.specs.Prelude.{DomId, Config, History, Layout, Moment, Continuation, path_of, Action, Makes, Seen}
-use Rattle.gt_order.specs.Prelude.{Step, Nothing, LookHeader, WriteBytes, Request, IsReached, Items, Legal, answer_of}
+use Rattle.gt_order.specs.Prelude.{DomId, Config, StepHistory, Layout, Moment, Continuation, path_of, Action, Makes}
+use Rattle.gt_order.specs.Prelude.{Seen}
+use Rattle.gt_order.specs.Prelude.{Step, Nothing, LookHeader, WriteBytes, Request, CanBeReached, Items, Legal}
+use Rattle.gt_order.specs.Prelude.{answer_of}
 use Rattle.gt_order.specs.Prelude.{setting_of, Answer, AnswerDone, MappedAnswer, Element, Did, Event, Begin, Tick}
-use Rattle.gt_order.specs.Prelude.{Happened, Began, Stepped, Item, AllowRelation, knowledge, shown, shown_by, shown_in}
+use Rattle.gt_order.specs.Prelude.{Happened, Began, Stepped, Item, AllowRelation, knowledge, all_shown, shown_by}
+use Rattle.gt_order.specs.Prelude.{seen_in_step}
 use Rattle.gt_order.specs.Agreeing.{IsThe, dom_at}
-use Rattle.gt_order.specs.Runs.{CallMade, Outcome, SeatRun}
-use Rattle.gt_order.specs.Runs.Outcome.{Told, Kept, Starved, Wrote}
+use Rattle.gt_order.specs.Runs.{CallMade, CallOutcome, SeatRun}
+use Rattle.gt_order.specs.Runs.CallOutcome.{Told, Kept, Starved, Wrote}
 
 -- the step on the words is the last one of the history, by its seat's domain, and it saw what that shows
-abbrev pub IsNewest : Layout → DomId → Step → Seen → (History → Type 0) → History → Type 0
+abbrev pub IsNewest : Layout → DomId → Step → Seen → (StepHistory → Type 0) → StepHistory → Type 0
 IsNewest k d step seen rest [] = ⊥
 IsNewest k d step seen rest (p ∷ h) =
-    (d ≡ dom_at k p.0) × IsThe k p.0 step p.1 × (seen ≡ shown_in p.1) × rest h
+    (d ≡ dom_at k p.0) × IsThe k p.0 step p.1 × (seen ≡ seen_in_step p.1) × rest h
 
 -- a write is none of the words' steps, and each other step is
-abbrev pub ThenStep : Layout → DomId → Step → Seen → (History → Type 0) → History → Type 0
+abbrev pub ThenStep : Layout → DomId → Step → Seen → (StepHistory → Type 0) → StepHistory → Type 0
 ThenStep k d (WriteBytes dom frame off len) seen rest h = rest h
 ThenStep k d step seen rest h = IsNewest k d step seen rest h
 
 -- the steps on the words among the items are those of the history, one by one in the same order, each by its seat's
 -- domain, and it saw what the history's step shows
-abbrev pub ThenSteps : Layout → DomId → Happened → (History → Type 0) → History → Type 0
+abbrev pub ThenSteps : Layout → DomId → Happened → (StepHistory → Type 0) → StepHistory → Type 0
 ThenSteps k d (Began request) rest h = rest h
 ThenSteps k d (Stepped step seen) rest h = ThenStep k d step seen rest h
 
-abbrev pub AreStepsOf : Layout → Items → History → Type 0
+abbrev pub AreStepsOf : Layout → Items → StepHistory → Type 0
 AreStepsOf k [] h = h ≡ []
 AreStepsOf k (i ∷ g) h = ThenSteps k i.actor i.happened (AreStepsOf k g) h
 
@@ -43,7 +46,7 @@ item_of d way before x answer =
 -- the items of these steps of a call, the last step first, which has the answer
 abbrev pub items_of_steps : DomId → Continuation → Option Answer → List Moment → List Item
 items_of_steps d way answer [] = []
-items_of_steps d way answer (x ∷ xs) = item_of d way (shown xs) x answer ∷ items_of_steps d way None xs
+items_of_steps d way answer (x ∷ xs) = item_of d way (all_shown xs) x answer ∷ items_of_steps d way None xs
 
 -- the item of a beginning
 abbrev pub item_of_beginning : DomId → Request → Option Answer → Item
@@ -57,7 +60,7 @@ items_of_call d way request answer (x ∷ xs) =
     items_of_steps d way answer (x ∷ xs) ++ item_of_beginning d request None ∷ []
 
 -- how the core answers a call that was answered so
-abbrev pub answer_to : Outcome → Option Answer
+abbrev pub answer_to : CallOutcome → Option Answer
 answer_to (Told verdict) = Some (answer_of verdict)
 answer_to (Kept handle p) = Some (MappedAnswer handle)
 answer_to Starved = None
@@ -70,7 +73,7 @@ item_of_access d way =
 
 -- the items of a call with this outcome: none of one that was refused for want of memory, and of one that wrote its
 -- beginning and its write
-abbrev pub items_by_outcome : DomId → Continuation → Request → Outcome → List Moment → List Item
+abbrev pub items_by_outcome : DomId → Continuation → Request → CallOutcome → List Moment → List Item
 items_by_outcome d way request Starved steps = []
 items_by_outcome d way request Wrote steps = item_of_access d way ∷ item_of_beginning d request None ∷ []
 items_by_outcome d way request outcome steps = items_of_call d way request (answer_to outcome) steps
@@ -106,9 +109,9 @@ trace_of (i ∷ g) = trace_of g ++ Did i ∷ []
 
 -- The items are a legal order of the run's calls: a core stands for them, their trace is legal for their events, their
 -- steps are those of the history in its order, and those of each domain are the items of its calls
-pub record IsLegalOrder (c : Config) (may : AllowRelation) (k : Layout) (h : History) (seats : ℕ → SeatRun)
+pub record IsLegalOrder (c : Config) (may : AllowRelation) (k : Layout) (h : StepHistory) (seats : ℕ → SeatRun)
     (g : Items) : Type 0 where
-  pub reached : IsReached (setting_of c may) g
+  pub reached : CanBeReached (setting_of c may) g
   pub legal : Legal (setting_of c may) (events_of g) (trace_of g)
   pub steps : AreStepsOf k g h
   pub calls : (i : ℕ) → i < k.domains → items_by (dom_at k i) g ≡ items_of_calls c may (dom_at k i) (seats i).calls

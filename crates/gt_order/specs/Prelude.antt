@@ -16,7 +16,7 @@ pub use Rattle.gt_calls.specs.declared.held.Held.{Held}
 pub use Rattle.gt_calls.specs.declared.request.Asked.{Asked}
 pub use Rattle.gt_calls.specs.declared.request.Request.{Request}
 pub use Rattle.gt_core.specs.Acting.{answer_of, setting_of}
-pub use Rattle.gt_core.specs.GoingOn.{IsReached}
+pub use Rattle.gt_core.specs.GoingOn.{CanBeReached}
 pub use Rattle.gt_core.specs.History.{History as Items, Setting, Underway, body_at, entry_at, generation_at, known_at}
 pub use Rattle.gt_core.specs.History.{open_call, seen_by, table_at, values, word_at}
 pub use Rattle.gt_core.specs.Legal.{IsRight, Legal}
@@ -35,12 +35,13 @@ pub use Rattle.gt_frames.specs.Receipts.{Writing}
 pub use Rattle.gt_handles.specs.Handles.{HandleMap}
 pub use Rattle.gt_handles.specs.declared.handles.Handle.{Handle}
 pub use Rattle.gt_live.specs.Accesses.{Accessed, IsWrittenBy}
-pub use Rattle.gt_live.specs.Domains.{Accesses, AllowRelation, Answered, IsDomainOf, IsOf, KeepsPinned, MapAnswered}
-pub use Rattle.gt_live.specs.Domains.{knowledge, known, verdict_of}
+pub use Rattle.gt_live.specs.Domains.{Accesses, AllowRelation, Answered, IsDomainOf, BelongsTo, KeepsPinned}
+pub use Rattle.gt_live.specs.Domains.{MapAnswered}
+pub use Rattle.gt_live.specs.Domains.{knowledge, known_on, verdict_of}
 pub use Rattle.gt_live.specs.Ending.{IsMap, IsOfMapping}
-pub use Rattle.gt_live.specs.Mappings.{Adds, KeepsMappings, Removes}
+pub use Rattle.gt_live.specs.Mappings.{AddsMapping, KeepsMappings, Removes}
 pub use Rattle.gt_live.specs.Starting.{IsNewDomain}
-pub use Rattle.gt_live.specs.Walks.{Called, shown, shown_by, shown_in}
+pub use Rattle.gt_live.specs.Walks.{Called, all_shown, shown_by, seen_in_step}
 pub use Rattle.gt_live.specs.declared.domain.Domain.{Domain}
 pub use Rattle.gt_live.specs.declared.monitor.Monitor.{Monitor}
 pub use Rattle.gt_types.specs.Config.{IsWithinLimits}
@@ -55,7 +56,8 @@ pub use Rattle.gt_types.specs.declared.denial.Rule.TheVariants.{N26}
 pub use Rattle.gt_types.specs.declared.limits.TheConstants.{TABLE_ENTRIES}
 pub use Rattle.gt_words.specs.Conditions.{Board, HasDomain, IsSameSeat}
 pub use Rattle.gt_words.specs.Controls.{generation_of}
-pub use Rattle.gt_words.specs.History.{History, Layout, Moment, Says, half_index, part_of, place_of, word_after}
+pub use Rattle.gt_words.specs.History.{StepHistory, Layout, Moment, SaysWord, half_index, part_of, word_place_of}
+pub use Rattle.gt_words.specs.History.{word_after}
 pub use Rattle.gt_words.specs.Rule.{Shows, header_place, id_at, layout_of, place, position_in}
 pub use Rattle.gt_words.specs.Steps.{changed, changed_word}
 pub use Rattle.gt_words.specs.Views.{entry_steps, last_record}

@@ -3,23 +3,23 @@ use Rattle.std.specs.Prelude.{◌≡◌, ℕ, ◌<◌, All, List, [], ◌∷◌,
 use Rattle.gt_order.specs.Prelude.{some, get_elem?, State, IsWithinLimits, GrantRef, Config, Board, IsSameSeat, Moment}
 use Rattle.gt_order.specs.Prelude.{Shows, layout_of, View, HandleMap, Handle, FitsAsked, asked, bytes_of, Continuation}
 use Rattle.gt_order.specs.Prelude.{path_of, Makes, Done, Nothing, Step, WriteBytes, Verdict, Granted, Mapped, Refused}
-use Rattle.gt_order.specs.Prelude.{Held, Asked, Request, AllowRelation, IsDomainOf, knowledge, IsMap, Adds}
+use Rattle.gt_order.specs.Prelude.{Held, Asked, Request, AllowRelation, IsDomainOf, knowledge, IsMap, AddsMapping}
 use Rattle.gt_order.specs.Prelude.{KeepsMappings, Removes, IsNewDomain, Called, Domain}
 use Rattle.gt_calls.specs.declared.request.Asked.TheVariants as asks
 
 -- how a call was answered: as its path ends, by a mapping under a handle, by a refusal for want of memory, or by Ok
 -- after it wrote the bytes that it was given
-pub data Outcome : Type 0 where
-  Told : Verdict → Outcome
-  Kept : Handle → Held → Outcome
-  Starved : Outcome
-  Wrote : Outcome
+pub data CallOutcome : Type 0 where
+  Told : Verdict → CallOutcome
+  Kept : Handle → Held → CallOutcome
+  Starved : CallOutcome
+  Wrote : CallOutcome
 
 -- a finished call of a domain: what it asked, how it was answered, the steps that it made, each with its moment and the
 -- last one first, and the domain before it and after it
 pub record CallMade : Type 0 where
   pub request : Request
-  pub outcome : Outcome
+  pub outcome : CallOutcome
   pub steps : List Moment
   pub old : Domain
   pub new : Domain
@@ -43,25 +43,25 @@ TookSteps b c may request verdict steps d e =
     × (called.steps ≡ steps)
 
 -- the step writes bytes that its call was given
-abbrev pub IsWrite : Step → Type 0
-IsWrite (WriteBytes dom frame off len) = Unit {0}
-IsWrite step = ⊥
+abbrev pub IsWriteStep : Step → Type 0
+IsWriteStep (WriteBytes dom frame off len) = Unit {0}
+IsWriteStep step = ⊥
 
 -- a store or a poke: its path has one step, which writes, and ends with Ok
 pub record WritesOnce (way : Continuation) : Type 0 where
   pub access : Step
-  pub writes : IsWrite access
+  pub writes : IsWriteStep access
   pub next : way [] ≡ Some (Makes access)
   pub done : way (Nothing ∷ []) ≡ Some (Done Granted)
 
 -- the call was answered as its path ends; one that is refused for want of memory made no step, and neither did one that
 -- wrote, on the words
-abbrev pub IsAnswered : Board → Config → AllowRelation → Request → Outcome → List Moment → Domain → Domain → Type 0
+abbrev pub IsAnswered : Board → Config → AllowRelation → Request → CallOutcome → List Moment → Domain → Domain → Type 0
 IsAnswered b c may request (Told verdict) steps d e =
     KeepsNoPin verdict × TookSteps b c may request verdict steps d e
     × LeavesMappings (asked request) verdict d.mappings e.mappings
 IsAnswered b c may request (Kept handle p) steps d e =
-    IsMap (asked request) × TookSteps b c may request (Mapped p) steps d e × Adds d.mappings e.mappings handle p
+    IsMap (asked request) × TookSteps b c may request (Mapped p) steps d e × AddsMapping d.mappings e.mappings handle p
 IsAnswered b c may request Starved steps d e =
     (steps ≡ []) × (e.seat.view ≡ d.seat.view) × KeepsMappings d.mappings e.mappings
 IsAnswered b c may request Wrote steps d e =

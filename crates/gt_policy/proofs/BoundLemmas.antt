@@ -24,7 +24,7 @@ use Rattle.gt_policy.specs.declared.resolve.Draft.{Draft}
 use Rattle.gt_policy.specs.declared.rules.AllowRule.{AllowRule}
 use Rattle.gt_policy.specs.Names.{Names, symbol_of}
 use Rattle.gt_policy.specs.Resolving.{known, type_in, attribute_in, element_of, elements_of, given_by, with_statement}
-use Rattle.gt_policy.specs.Resolving.{resolved, granted, nothing_given}
+use Rattle.gt_policy.specs.Resolving.{resolved_draft, granted, nothing_given}
 use Rattle.gt_policy.specs.Allowing.{was_given, stands_for, is_with, holds_type, says_itself, is_granted_by}
 use Rattle.gt_policy.specs.Allowing.{some_grants, AreWithin}
 use Rattle.gt_policy.proofs.TextLemmas.{bind_ok}
@@ -89,10 +89,10 @@ module _ (names : Names) where
       let b = allow_read names d end r e in
       so_far a n (ap (λ (g : List TypeAttribute). was_given g a n) (sym b.4) ∙ h)
 
-  statements_bound : (ss : List Statement) (d end : Draft) → resolved names d ss ≡ Ok end → ((a : ℕ) → Bounded (was_given d.given a)) → (a : ℕ) → Bounded (was_given end.given a)
+  statements_bound : (ss : List Statement) (d end : Draft) → resolved_draft names d ss ≡ Ok end → ((a : ℕ) → Bounded (was_given d.given a)) → (a : ℕ) → Bounded (was_given end.given a)
   statements_bound [] d end e so_far a n h = so_far a n (ap (λ (q : Draft). was_given q.given a n) (ok_part d end e) ∙ h)
   statements_bound (s ∷ ss) d end e so_far a n h =
-      let b = bind_ok (with_statement names d s) (λ q. resolved names q ss) end e in
+      let b = bind_ok (with_statement names d s) (λ q. resolved_draft names q ss) end e in
       statements_bound ss b.0 end b.2 (statement_bound s d b.0 b.1 so_far) a n h
 
   -- sets and allow statements
@@ -148,19 +148,19 @@ module _ (names : Names) where
         ] in
         subst (λ (rs : List DraftRule). Between has rs) (sym b.5) more
 
-    rules_between : (ss : List Statement) (d end : Draft) → resolved names d ss ≡ Ok end → Between has d.rules → Between has end.rules
+    rules_between : (ss : List Statement) (d end : Draft) → resolved_draft names d ss ≡ Ok end → Between has d.rules → Between has end.rules
     rules_between [] d end e so_far = subst (λ (q : Draft). Between has q.rules) (ok_part d end e) so_far
     rules_between (s ∷ ss) d end e so_far =
-        let b = bind_ok (with_statement names d s) (λ q. resolved names q ss) end e in
+        let b = bind_ok (with_statement names d s) (λ q. resolved_draft names q ss) end e in
         rules_between ss b.0 end b.2 (rule_between d b.0 s b.1 so_far)
 
   -- what statements grant lies between declared types
-  pub granted_between : (ss : List Statement) (d : Draft) → resolved names nothing_given ss ≡ Ok d → Between (was_given d.given) d.rules
+  pub granted_between : (ss : List Statement) (d : Draft) → resolved_draft names nothing_given ss ≡ Ok d → Between (was_given d.given) d.rules
   granted_between ss d e =
       rules_between (was_given d.given) (statements_bound ss nothing_given d e (λ a n none. absurd (false≢true none))) ss nothing_given d e (λ s t perm none. absurd (false≢true none))
 
 -- so do the kept rules of statements
-pub grants_within : {S : Type 0} (bytes : S → List ℕ) (items : List S) (seen : Names) (ss : List Statement) (d : Draft) (rules : List AllowRule) → map bytes items ≡ seen.types → resolved seen nothing_given ss ≡ Ok d
+pub grants_within : {S : Type 0} (bytes : S → List ℕ) (items : List S) (seen : Names) (ss : List Statement) (d : Draft) (rules : List AllowRule) → map bytes items ≡ seen.types → resolved_draft seen nothing_given ss ≡ Ok d
     → ((s t : ℕ) (perm : Perms) → some_grants rules s t perm ≡ list_any (λ rule. is_granted_by (was_given d.given) s t perm rule) d.rules) → AreWithin (length items) rules
 grants_within {S = S} bytes items seen ss d rules named e same s t perm h =
     let count : length seen.types ≡ length items = ap (λ (ts : List (List ℕ)). length ts) (sym named) ∙ length-map items bytes in

@@ -15,7 +15,8 @@ use Rattle.gt_policy.specs.declared.statements.Statement.TheVariants.{DeclareTyp
 use Rattle.gt_policy.specs.declared.statements.Statement.TheVariants.{Allow}
 use Rattle.gt_policy.specs.Names.{Names, no_names, symbol_at, is_declared, with_type, with_attribute, with_allow}
 use Rattle.gt_policy.specs.Grammar.{◌>>=◌}
-use Rattle.gt_policy.specs.Spelling.{types_in, attributes_in, declared_in, allows_in, AreDistinct, AreClean, names_of}
+use Rattle.gt_policy.specs.Spelling.{types_in, attributes_in, declared_in, allows_in, AreDistinct, AreClean}
+use Rattle.gt_policy.specs.Spelling.{declared_names}
 use Rattle.gt_policy.proofs.TextLemmas.{all_added, bind_ok}
 use Rattle.std.proofs.lemmas.Bool.{or_from, or_parts}
 use Rattle.std.proofs.lemmas.List.{append-nil}
@@ -248,13 +249,13 @@ none_known [] = tt
 none_known (w ∷ ws) = (refl, none_known ws)
 
 -- of a whole text
-pub clean_added : (ss : List Statement) → AreClean ss → all_added no_names ss ≡ Ok (names_of ss)
+pub clean_added : (ss : List Statement) → AreClean ss → all_added no_names ss ≡ Ok (declared_names ss)
 clean_added ss c =
     let t = c.few_types in let a = c.few_attributes in let n = c.few_allows in
     let room : Room no_names ss = record { distinct = c.distinct; new = none_known (declared_in ss); types = omega arith; attributes = omega arith; allows = omega arith } in
     room_added ss no_names room ∙ ap (λ k. ok_of (names (types_in ss) (attributes_in ss) k)) (let e : 0 + allows_in ss ≡ allows_in ss = omega arith in e)
 
-pub added_clean : (ss : List Statement) (end : Names) → all_added no_names ss ≡ Ok end → AreClean ss × (names_of ss ≡ end)
+pub added_clean : (ss : List Statement) (end : Names) → all_added no_names ss ≡ Ok end → AreClean ss × (declared_names ss ≡ end)
 added_clean ss end e =
     let r = added_room ss no_names end e (omega arith) (omega arith) (omega arith) in
     let t = r.0.types in let a = r.0.attributes in let n = r.0.allows in (

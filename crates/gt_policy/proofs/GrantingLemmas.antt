@@ -27,14 +27,15 @@ use Rattle.gt_policy.specs.declared.resolve.DraftRule.{DraftRule}
 use Rattle.gt_policy.specs.declared.resolve.Draft.{Draft}
 use Rattle.gt_types.specs.declared.TypeId.{TypeId}
 use Rattle.std.specs.Option.{option_map}
-use Rattle.gt_policy.specs.Spelling.{names_of}
+use Rattle.gt_policy.specs.Spelling.{declared_names}
 use Rattle.gt_policy.specs.Whole.{meaning_of}
 use Rattle.gt_policy.specs.Accepting.{meant_by}
 use Rattle.gt_policy.specs.Names.{Names, symbol_at, symbol_of}
 use Rattle.gt_types.specs.Names.{permission_of, is_permission}
 use Rattle.gt_policy.specs.Grammar.{◌>>=◌}
 use Rattle.gt_policy.specs.Resolving.{known, any_symbol, type_in, type_symbol, attribute_in, attribute_symbol}
-use Rattle.gt_policy.specs.Resolving.{element_of, elements_of, given_by, allowed_by, with_statement, resolved, granted}
+use Rattle.gt_policy.specs.Resolving.{element_of, elements_of, given_by, allowed_by, with_statement, resolved_draft}
+use Rattle.gt_policy.specs.Resolving.{granted}
 use Rattle.gt_policy.specs.Resolving.{has_grant, nothing_given}
 use Rattle.gt_policy.specs.Allowing.{was_given, stands_for, is_with, is_without, holds_type, is_itself, says_itself}
 use Rattle.gt_policy.specs.Allowing.{is_granted_by, is_allowed, type_named, Meaning}
@@ -190,11 +191,11 @@ statement_given names aw t a n is_a is_t (Allow r) d end e =
     let b = allow_read names d end r e in
     ap (λ (g : List TypeAttribute). was_given g a n) b.4 ∙ or_false (was_given d.given a n)
 
-statements_given : (names : Names) (aw t : List ℕ) (a n : ℕ) → symbol_of names aw ≡ Some (IsAttribute a) → symbol_of names t ≡ Some (IsType n) → (ss : List Statement) (d end : Draft) → resolved names d ss ≡ Ok end
+statements_given : (names : Names) (aw t : List ℕ) (a n : ℕ) → symbol_of names aw ≡ Some (IsAttribute a) → symbol_of names t ≡ Some (IsType n) → (ss : List Statement) (d end : Draft) → resolved_draft names d ss ≡ Ok end
     → was_given end.given a n ≡ (was_given d.given a n || list_any (λ s. gives s aw t) ss)
 statements_given names aw t a n is_a is_t [] d end e = ap (λ (q : Draft). was_given q.given a n) (sym (ok_part d end e)) ∙ or_false (was_given d.given a n)
 statements_given names aw t a n is_a is_t (s ∷ ss) d end e =
-    let b = bind_ok (with_statement names d s) (λ q. resolved names q ss) end e in
+    let b = bind_ok (with_statement names d s) (λ q. resolved_draft names q ss) end e in
     statements_given names aw t a n is_a is_t ss b.0 end b.2 ∙ ap (λ x. x || list_any (λ s. gives s aw t) ss) (statement_given names aw t a n is_a is_t s d b.0 b.1)
     ∙ or_assoc (was_given d.given a n) (gives s aw t) (list_any (λ s. gives s aw t) ss)
 
@@ -209,10 +210,10 @@ statement_none names w t i is (GiveAttributes m ms) d end e =
     ap (λ x. bytes_eq m.name t && x) (give_none names w i is ms d end b.0 b.2) ∙ and_false (bytes_eq m.name t)
 statement_none names w t i is (Allow r) d end e = refl
 
-statements_none : (names : Names) (w t : List ℕ) (i : ℕ) → symbol_of names w ≡ Some (IsType i) → (ss : List Statement) (d end : Draft) → resolved names d ss ≡ Ok end → list_any (λ s. gives s w t) ss ≡ false
+statements_none : (names : Names) (w t : List ℕ) (i : ℕ) → symbol_of names w ≡ Some (IsType i) → (ss : List Statement) (d end : Draft) → resolved_draft names d ss ≡ Ok end → list_any (λ s. gives s w t) ss ≡ false
 statements_none names w t i is [] d end e = refl
 statements_none names w t i is (s ∷ ss) d end e =
-    let b = bind_ok (with_statement names d s) (λ q. resolved names q ss) end e in
+    let b = bind_ok (with_statement names d s) (λ q. resolved_draft names q ss) end e in
     ap (λ x. x || list_any (λ s. gives s w t) ss) (statement_none names w t i is s d b.0 b.1) ∙ statements_none names w t i is ss b.0 end b.2
 
 -- what is given by number is given by name
@@ -297,12 +298,12 @@ module _ (names : Names) (ss : List Statement) (has : ℕ → ℕ → Bool) (kno
       ∙ ap (λ x. ((has_grant a.classes && lists_word a.perms w) && set_holds ss a.source s) && (set_holds ss a.target t || (x && (j == i)))) self
       ∙ ap (λ x. ((has_grant a.classes && lists_word a.perms w) && set_holds ss a.source s) && (set_holds ss a.target t || (list_any is_self a.target && x))) (sym one))
 
-  statements_rules : (s t w : List ℕ) (i j : ℕ) (perm : Perms) → symbol_of names s ≡ Some (IsType i) → symbol_of names t ≡ Some (IsType j) → permission_of w ≡ Some perm → (xs : List Statement) (d end : Draft) → resolved names d xs ≡ Ok end
+  statements_rules : (s t w : List ℕ) (i j : ℕ) (perm : Perms) → symbol_of names s ≡ Some (IsType i) → symbol_of names t ≡ Some (IsType j) → permission_of w ≡ Some perm → (xs : List Statement) (d end : Draft) → resolved_draft names d xs ≡ Ok end
       → list_any (λ r. is_granted_by has i j perm r) end.rules ≡ (list_any (λ r. is_granted_by has i j perm r) d.rules || list_any (λ x. statement_grants ss s t w x) xs)
   statements_rules s t w i j perm is_s is_t is_w [] d end e =
       ap (λ (q : Draft). list_any (λ r. is_granted_by has i j perm r) q.rules) (sym (ok_part d end e)) ∙ or_false (list_any (λ r. is_granted_by has i j perm r) d.rules)
   statements_rules s t w i j perm is_s is_t is_w (x ∷ xs) d end e =
-      let b = bind_ok (with_statement names d x) (λ q. resolved names q xs) end e in
+      let b = bind_ok (with_statement names d x) (λ q. resolved_draft names q xs) end e in
       statements_rules s t w i j perm is_s is_t is_w xs b.0 end b.2
       ∙ ap (λ y. y || list_any (λ x. statement_grants ss s t w x) xs) (statement_rules s t w i j perm is_s is_t is_w x d b.0 b.1)
       ∙ or_assoc (list_any (λ r. is_granted_by has i j perm r) d.rules) (statement_grants ss s t w x) (list_any (λ x. statement_grants ss s t w x) xs)
@@ -324,8 +325,8 @@ type_at types attributes w None a i e = absurd (none-some i e)
 pub allowed_granted : ((w : List ℕ) (perm : Perms) → permission_of w ≡ Some perm → is_permission perm ≡ true) → (ss : List Statement) (m : Meaning) (s t w : List ℕ) (i j : TypeId) (perm : Perms) → meant_by ss ≡ Ok m → type_named m.types s ≡ Some i → type_named m.types t ≡ Some j → permission_of w ≡ Some perm
     → is_allowed m i.0 j.0 perm ≡ is_granted ss s t w
 allowed_granted named_one ss m s t w i j perm e is_s is_t is_w =
-    let names : Names = names_of ss in
-    let r = meaning_ok names (resolved names nothing_given ss) m e in
+    let names : Names = declared_names ss in
+    let r = meaning_ok names (resolved_draft names nothing_given ss) m e in
     let types : (v : List ℕ) (k : TypeId) → type_named m.types v ≡ Some k → symbol_of names v ≡ Some (IsType k.0) =
     λ v k is. type_at names.types names.attributes v (position (λ t. bytes_eq t v) names.types) (position (λ a. bytes_eq a v) names.attributes) k (ap (λ (ts : List (List ℕ)). type_named ts v) (sym r.2) ∙ is) in
     let knows : Knows names ss (was_given r.0.given) = record {

@@ -8,9 +8,9 @@ use Rattle.gt_policy.specs.declared.statements.Statement.{Statement}
 use Rattle.gt_policy.specs.Lexing.{lexemes_of}
 use Rattle.gt_policy.specs.Names.{Names, no_names}
 use Rattle.gt_policy.specs.Grammar.{Lexemes, statement, at, ◌>>=◌}
-use Rattle.gt_policy.specs.Spelling.{names_of}
+use Rattle.gt_policy.specs.Spelling.{declared_names}
 use Rattle.gt_policy.specs.Allowing.{Meaning}
-use Rattle.gt_policy.specs.Resolving.{resolved, nothing_given}
+use Rattle.gt_policy.specs.Resolving.{resolved_draft, nothing_given}
 use Rattle.gt_policy.specs.Whole.{Follows, ended, more, wrong, Says, too_long, clean, faulty, meaning_of}
 use Rattle.gt_policy.specs.Undeclared.{IsFirstUndeclared, uses_of}
 use Rattle.gt_policy.specs.Accepting.{IsWritten, IsBroken, SpellsFront, front_end, front_more, meant_by}
@@ -23,7 +23,7 @@ abbrev says : List ℕ → Type 0
 says text = (said : Result Meaning TokenFault) × Says text said
 
 said_by : (text : List ℕ) → length text ≤ 1048576 → (said : Result (Names × List Statement) TokenFault) → Follows no_names [] (lexemes_of text) said → says text
-said_by text short (Ok (names, ss)) h = (meaning_of names (resolved names nothing_given ss), clean text names ss short h)
+said_by text short (Ok (names, ss)) h = (meaning_of names (resolved_draft names nothing_given ss), clean text names ss short h)
 said_by text short (Err f) h = (Err f, faulty text f short h)
 
 pub says_some : (text : List ℕ) → says text
@@ -37,25 +37,25 @@ says_some text = go (nat_lt 1048576 (length text)) refl
         said_by text short r.0 r.1
 
 -- a text that is written so follows so
-written_follows : (text : List ℕ) (ss : List Statement) → IsWritten text ss → Follows no_names [] (lexemes_of text) (Ok (names_of ss, ss))
-written_follows text ss w = text_spelled ss (lexemes_of text) w.spelled no_names (names_of ss) [] (clean_added ss w.clean)
+written_follows : (text : List ℕ) (ss : List Statement) → IsWritten text ss → Follows no_names [] (lexemes_of text) (Ok (declared_names ss, ss))
+written_follows text ss w = text_spelled ss (lexemes_of text) w.spelled no_names (declared_names ss) [] (clean_added ss w.clean)
 
 pub written_says : (text : List ℕ) (ss : List Statement) → IsWritten text ss → Says text (meant_by ss)
-written_says text ss w = clean text (names_of ss) ss w.short (written_follows text ss w)
+written_says text ss w = clean text (declared_names ss) ss w.short (written_follows text ss w)
 
 -- and the other way round
-pub follows_written : (text : List ℕ) (names : Names) (ss : List Statement) → length text ≤ 1048576 → Follows no_names [] (lexemes_of text) (Ok (names, ss)) → IsWritten text ss × (names_of ss ≡ names)
+pub follows_written : (text : List ℕ) (names : Names) (ss : List Statement) → length text ≤ 1048576 → Follows no_names [] (lexemes_of text) (Ok (names, ss)) → IsWritten text ss × (declared_names ss ≡ names)
 follows_written text names ss short h =
     let r = text_read no_names [] (lexemes_of text) (Ok (names, ss)) h names ss refl in
     let c = added_clean r.0 names r.3 in
     let same : r.0 ≡ ss = sym r.1 in
-    subst (λ (xs : List Statement). IsWritten text xs × (names_of xs ≡ names)) same (record { short = short; spelled = r.2; clean = c.0 }, c.1)
+    subst (λ (xs : List Statement). IsWritten text xs × (declared_names xs ≡ names)) same (record { short = short; spelled = r.2; clean = c.0 }, c.1)
 
 pub says_written : (text : List ℕ) (said : Result Meaning TokenFault) → Says text said → (m : Meaning) → said ≡ Ok m → (ss : List Statement) × IsWritten text ss × (meant_by ss ≡ Ok m)
 says_written text said (too_long _ long) m e = absurd (cc)
 says_written text said (clean _ names ss short h) m e =
     let w = follows_written text names ss short h in
-    (ss, w.0, ap (λ q. meaning_of q (resolved q nothing_given ss)) w.1 ∙ e)
+    (ss, w.0, ap (λ q. meaning_of q (resolved_draft q nothing_given ss)) w.1 ∙ e)
 says_written text said (faulty _ f short h) m e = absurd (cc)
 
 -- the statements in front of a fault
@@ -77,14 +77,14 @@ broken_follows front ls rest (front_more s others _ behind _ h t) seen names ss 
     more seen b.0 ss s ls behind (Err f) (statement_spelled seen b.0 s ls behind h b.1) (broken_follows others behind rest t b.0 names (ss ++ s ∷ []) f b.2 e)
 
 pub broken_says : (text : List ℕ) (f : TokenFault) → IsBroken text f → Says text (Err f)
-broken_says text f b = faulty text f b.short (broken_follows b.before (lexemes_of text) b.rest b.spelled no_names (names_of b.before) [] f (clean_added b.before b.clean) b.fault)
+broken_says text f b = faulty text f b.short (broken_follows b.before (lexemes_of text) b.rest b.spelled no_names (declared_names b.before) [] f (clean_added b.before b.clean) b.fault)
 
 says_faulty : (text : List ℕ) (said : Result Meaning TokenFault) → Says text said → (f : TokenFault) → said ≡ Err f
     → ((1048576 < length text) × (at 1 Limit ≡ f)) ⊎ (IsBroken text f ⊎ ((ss : List Statement) × IsWritten text ss × (meant_by ss ≡ Err f)))
 says_faulty text said (too_long _ long) f e = inl (long, cc)
 says_faulty text said (clean _ names ss short h) f e =
     let w = follows_written text names ss short h in
-    inr (inr (ss, w.0, ap (λ q. meaning_of q (resolved q nothing_given ss)) w.1 ∙ e))
+    inr (inr (ss, w.0, ap (λ q. meaning_of q (resolved_draft q nothing_given ss)) w.1 ∙ e))
 says_faulty text said (faulty _ g short h) f e =
     let same : g ≡ f = cc in
     let fault : TokenFault → Result (Names × List Statement) TokenFault = λ q. Err q in

@@ -18,7 +18,7 @@ use Rattle.gt_types.specs.Names.{permission_of}
 use Rattle.gt_policy.specs.Resolving.{no_perms, all_perms, union, with_named, perms_from, has_grant, perms_listed}
 use Rattle.gt_policy.specs.Resolving.{granted}
 use Rattle.gt_policy.specs.Granting.{lists_word}
-use Rattle.gt_policy.specs.TypeSets.{is_set}
+use Rattle.gt_policy.specs.TypeSets.{has_bit}
 use Rattle.gt_policy.proofs.TypeSetLemmas.{is_set-or}
 use Rattle.gt_policy.proofs.BoolLemmas.{or_false, or_assoc}
 
@@ -30,12 +30,12 @@ times_is zero x h p = let e : zero * x ≡ 0 = omega arith in grind (arith, nat_
 times_is (suc zero) x h p = let e : suc zero * x ≡ x = omega arith in grind (arith, nat_tests)
 times_is (suc (suc b)) x h p = absurd (omega arith)
 
-lists_bit : (p : Perms) (k : ℕ) → lists_perm p (bit (2 ^ k)) ≡ is_set p.0 k
+lists_bit : (p : Perms) (k : ℕ) → lists_perm p (bit (2 ^ k)) ≡ has_bit p.0 k
 lists_bit p k = ap (λ n. n == 2 ^ k) (and_pow p.0 k) ∙ times_is (bit_at p.0 k) (2 ^ k) (bit_at-lt p.0 k) (pow_pos k)
 
 pub lists_union : (p q : Perms) (k : ℕ) → lists_perm (union p q) (bit (2 ^ k)) ≡ (lists_perm p (bit (2 ^ k)) || lists_perm q (bit (2 ^ k)))
 lists_union p q k =
-    lists_bit (union p q) k ∙ is_set-or p.0 q.0 k ∙ ap (λ b. b || is_set q.0 k) (sym (lists_bit p k)) ∙ ap (λ b. lists_perm p (bit (2 ^ k)) || b) (sym (lists_bit q k))
+    lists_bit (union p q) k ∙ is_set-or p.0 q.0 k ∙ ap (λ b. b || has_bit q.0 k) (sym (lists_bit p k)) ∙ ap (λ b. lists_perm p (bit (2 ^ k)) || b) (sym (lists_bit q k))
 
 -- the permission that a word names, if it names one
 abbrev lists_opt : Option Perms → Perms → Bool

@@ -14,7 +14,7 @@ use Rattle.gt_policy.specs.declared.types.TypeSet.{TypeSet}
 use Rattle.gt_policy.specs.TypeSets.{holds}
 use Rattle.gt_policy.specs.Allowing.{lists_perm, grants, some_grants}
 use Rattle.gt_policy.specs.Resolving.{union}
-use Rattle.gt_policy.specs.Rows.{Lane, reaches, is_reached}
+use Rattle.gt_policy.specs.Rows.{Lane, lanes_reach, is_reached}
 use Rattle.gt_policy.proofs.PermLemmas.{bit, lists_union}
 use Rattle.gt_policy.proofs.BoolLemmas.{or_false}
 
@@ -28,13 +28,13 @@ AreGrown perms reached (l ∷ ls) (n ∷ ns) = (n.0 ≡ l.0) × ((t : ℕ) → h
 same_lists : (perms p q : Perms) → (p.0 == q.0) ≡ true → lists_perm perms p ≡ lists_perm perms q
 same_lists perms p q e = ap (λ (n : ℕ). bit_and perms.0 n == n) (eqb-true p.0 q.0 e)
 
-grown_lanes : (perms : Perms) (reached : ℕ → Bool) (old new : List Lane) → AreGrown perms reached old new → (t : ℕ) (perm : Perms) → reaches new t perm ≡ (reaches old t perm || (list_any (λ l. l.0.0 == perm.0) old && (lists_perm perms perm && reached t)))
+grown_lanes : (perms : Perms) (reached : ℕ → Bool) (old new : List Lane) → AreGrown perms reached old new → (t : ℕ) (perm : Perms) → lanes_reach new t perm ≡ (lanes_reach old t perm || (list_any (λ l. l.0.0 == perm.0) old && (lists_perm perms perm && reached t)))
 grown_lanes perms reached [] [] h t perm = refl
 grown_lanes perms reached [] (n ∷ ns) h t perm = absurd h
 grown_lanes perms reached (l ∷ ls) [] h t perm = absurd h
-grown_lanes perms reached (l ∷ ls) (n ∷ ns) h t perm = ap (λ (p : Perms). if p.0 == perm.0 then holds n.1 t else reaches ns t perm) h.0 ∙ go (grown_lanes perms reached ls ns h.2 t perm) (l.0.0 == perm.0) refl
+grown_lanes perms reached (l ∷ ls) (n ∷ ns) h t perm = ap (λ (p : Perms). if p.0 == perm.0 then holds n.1 t else lanes_reach ns t perm) h.0 ∙ go (grown_lanes perms reached ls ns h.2 t perm) (l.0.0 == perm.0) refl
   where
-    go : reaches ns t perm ≡ (reaches ls t perm || (list_any (λ k. k.0.0 == perm.0) ls && (lists_perm perms perm && reached t))) → (v : Bool) → (l.0.0 == perm.0) ≡ v → (if v then holds n.1 t else reaches ns t perm) ≡ ((if v then holds l.1 t else reaches ls t perm) || ((v || list_any (λ k. k.0.0 == perm.0) ls) && (lists_perm perms perm && reached t)))
+    go : lanes_reach ns t perm ≡ (lanes_reach ls t perm || (list_any (λ k. k.0.0 == perm.0) ls && (lists_perm perms perm && reached t))) → (v : Bool) → (l.0.0 == perm.0) ≡ v → (if v then holds n.1 t else lanes_reach ns t perm) ≡ ((if v then holds l.1 t else lanes_reach ls t perm) || ((v || list_any (λ k. k.0.0 == perm.0) ls) && (lists_perm perms perm && reached t)))
     go rest true e = h.1 t ∙ ap (λ (b : Bool). holds l.1 t || (b && reached t)) (same_lists perms l.0 perm e)
     go rest false e = rest
 
@@ -49,11 +49,11 @@ and_assoc false b c = refl
 
 -- a row and one more statement
 pub grown_row : (rule : AllowRule) (s : ℕ) (old new : List Lane) → ((perm : Perms) → list_any (λ l. l.0.0 == perm.0) old ≡ is_permission perm) → AreGrown rule.perms (is_reached rule s) old new
-    → (t : ℕ) (perm : Perms) → reaches new t perm ≡ (reaches old t perm || (is_permission perm && grants rule s t perm))
+    → (t : ℕ) (perm : Perms) → lanes_reach new t perm ≡ (lanes_reach old t perm || (is_permission perm && grants rule s t perm))
 grown_row rule s old new one h t perm =
     grown_lanes rule.perms (is_reached rule s) old new h t perm
-    ∙ ap (λ (b : Bool). reaches old t perm || (b && (lists_perm rule.perms perm && is_reached rule s t))) (one perm)
-    ∙ ap (λ (b : Bool). reaches old t perm || (is_permission perm && b)) (and_assoc (lists_perm rule.perms perm) _ _)
+    ∙ ap (λ (b : Bool). lanes_reach old t perm || (b && (lists_perm rule.perms perm && is_reached rule s t))) (one perm)
+    ∙ ap (λ (b : Bool). lanes_reach old t perm || (is_permission perm && b)) (and_assoc (lists_perm rule.perms perm) _ _)
 
 no_grant : (p l h r : Bool) → h ≡ false → false ≡ (p && ((l && h) && r))
 no_grant true true h r e = ap (λ (x : Bool). x && r) (sym e)
@@ -65,11 +65,11 @@ pub nothing_grown : (rule : AllowRule) (s t : ℕ) (perm : Perms) (b : Bool) →
 nothing_grown rule s t perm b e = or_false b ∙ ap (λ (x : Bool). b || x) (no_grant (is_permission perm) (lists_perm rule.perms perm) (holds rule.source s) _ e)
 
 -- a permission that has no lane
-pub no_lane : (ls : List Lane) (t : ℕ) (perm : Perms) → list_any (λ l. l.0.0 == perm.0) ls ≡ false → reaches ls t perm ≡ false
+pub no_lane : (ls : List Lane) (t : ℕ) (perm : Perms) → list_any (λ l. l.0.0 == perm.0) ls ≡ false → lanes_reach ls t perm ≡ false
 no_lane [] t perm e = refl
 no_lane (l ∷ ls) t perm e = go (λ x. no_lane ls t perm x) (l.0.0 == perm.0) e
   where
-    go : (list_any (λ k. k.0.0 == perm.0) ls ≡ false → reaches ls t perm ≡ false) → (v : Bool) → (v || list_any (λ k. k.0.0 == perm.0) ls) ≡ false → (if v then holds l.1 t else reaches ls t perm) ≡ false
+    go : (list_any (λ k. k.0.0 == perm.0) ls ≡ false → lanes_reach ls t perm ≡ false) → (v : Bool) → (v || list_any (λ k. k.0.0 == perm.0) ls) ≡ false → (if v then holds l.1 t else lanes_reach ls t perm) ≡ false
     go rest true x = absurd (false≢true (sym x))
     go rest false x = rest x
 
@@ -181,21 +181,21 @@ step_cases false false true false same = refl
 step_cases false false false false same = refl
 
 -- one more permission of a walk over the seven
-pub row_step : (ls : List Lane) (t i : ℕ) (d now before q : Perms) (b : Bool) → i < 7 → b ≡ reaches ls t (get_or every_permission i d) → lists_perm now q ≡ (lists_perm before q || (b && ((get_or every_permission i d).0 == q.0)))
-    → lists_perm before q ≡ (list_any (λ p. p.0 == q.0) (take i every_permission) && reaches ls t q) → lists_perm now q ≡ (list_any (λ p. p.0 == q.0) (take (i + 1) every_permission) && reaches ls t q)
+pub row_step : (ls : List Lane) (t i : ℕ) (d now before q : Perms) (b : Bool) → i < 7 → b ≡ lanes_reach ls t (get_or every_permission i d) → lists_perm now q ≡ (lists_perm before q || (b && ((get_or every_permission i d).0 == q.0)))
+    → lists_perm before q ≡ (list_any (λ p. p.0 == q.0) (take i every_permission) && lanes_reach ls t q) → lists_perm now q ≡ (list_any (λ p. p.0 == q.0) (take (i + 1) every_permission) && lanes_reach ls t q)
 row_step ls t i d now before q b low reached grown so_far =
     let r : Perms = get_or every_permission i d in
-    let same : (r.0 == q.0) ≡ true → reaches ls t q ≡ b = λ e. sym (reached ∙ ap (λ (n : ℕ). let p : Perms = record { 0 = n } in reaches ls t p) (eqb-true r.0 q.0 e)) in
+    let same : (r.0 == q.0) ≡ true → lanes_reach ls t q ≡ b = λ e. sym (reached ∙ ap (λ (n : ℕ). let p : Perms = record { 0 = n } in lanes_reach ls t p) (eqb-true r.0 q.0 e)) in
     grown ∙ ap (λ (x : Bool). x || (b && (r.0 == q.0))) so_far
-    ∙ step_cases (list_any (λ p. p.0 == q.0) (take i every_permission)) (reaches ls t q) b (r.0 == q.0) same
-    ∙ ap (λ (x : Bool). x && reaches ls t q) (sym (list_any_more (λ p. p.0 == q.0) every_permission i d low))
+    ∙ step_cases (list_any (λ p. p.0 == q.0) (take i every_permission)) (lanes_reach ls t q) b (r.0 == q.0) same
+    ∙ ap (λ (x : Bool). x && lanes_reach ls t q) (sym (list_any_more (λ p. p.0 == q.0) every_permission i d low))
 
 -- all seven were seen
-pub row_end : (ls : List Lane) (t i : ℕ) (p : Perms) → 7 ≤ i → ((q : Perms) → is_permission q ≡ true → lists_perm p q ≡ (list_any (λ r. r.0 == q.0) (take i every_permission) && reaches ls t q))
-    → ((t : ℕ) (q : Perms) → is_permission q ≡ false → reaches ls t q ≡ false) → (q : Perms) → (is_permission q && lists_perm p q) ≡ reaches ls t q
+pub row_end : (ls : List Lane) (t i : ℕ) (p : Perms) → 7 ≤ i → ((q : Perms) → is_permission q ≡ true → lists_perm p q ≡ (list_any (λ r. r.0 == q.0) (take i every_permission) && lanes_reach ls t q))
+    → ((t : ℕ) (q : Perms) → is_permission q ≡ false → lanes_reach ls t q ≡ false) → (q : Perms) → (is_permission q && lists_perm p q) ≡ lanes_reach ls t q
 unfolding is_permission
 row_end ls t i p all listed none q = go (is_permission q) refl
   where
-    go : (v : Bool) → is_permission q ≡ v → (v && lists_perm p q) ≡ reaches ls t q
-    go true e = listed q e ∙ ap (λ (ps : List Perms). list_any (λ r. r.0 == q.0) ps && reaches ls t q) (take_all i every_permission all) ∙ ap (λ (b : Bool). b && reaches ls t q) e
+    go : (v : Bool) → is_permission q ≡ v → (v && lists_perm p q) ≡ lanes_reach ls t q
+    go true e = listed q e ∙ ap (λ (ps : List Perms). list_any (λ r. r.0 == q.0) ps && lanes_reach ls t q) (take_all i every_permission all) ∙ ap (λ (b : Bool). b && lanes_reach ls t q) e
     go false e = sym (none t q e)

@@ -14,7 +14,7 @@ use Rattle.gt_policy.specs.declared.resolve.TypeAttribute.{TypeAttribute}
 use Rattle.gt_policy.specs.declared.resolve.DraftRule.{DraftRule}
 use Rattle.gt_types.specs.declared.perms.Perms.{Perms}
 use Rattle.std.proofs.Math.Path.{fun_ext}
-use Rattle.gt_policy.specs.TypeSets.{is_set, holds}
+use Rattle.gt_policy.specs.TypeSets.{has_bit, holds}
 use Rattle.gt_policy.specs.Members.{no_types}
 use Rattle.gt_policy.specs.Allowing.{was_given, is_granted_by}
 use Rattle.gt_policy.proofs.BoolLemmas.{or_no}
@@ -23,7 +23,7 @@ use Rattle.gt_policy.proofs.BoolLemmas.{or_no}
 no_types-none : (n : ℕ) → holds no_types n ≡ false
 no_types-none n = go (nat_lt n 128) (nat_lt n 256)
   where
-    go : (v w : Bool) → cond v (is_set 0 n) (w && is_set 0 (n - 128)) ≡ false
+    go : (v w : Bool) → cond v (has_bit 0 n) (w && has_bit 0 (n - 128)) ≡ false
     go true w = ap (λ x. x == 1) (bit_at-zero n)
     go false true = ap (λ x. x == 1) (bit_at-zero (n - 128))
     go false false = refl

@@ -12,7 +12,7 @@ use Rattle.gt_policy.specs.declared.statements.SetElement.TheVariants.{With, Wit
 use Rattle.gt_policy.specs.declared.statements.Permissions.{Permissions}
 use Rattle.gt_policy.specs.declared.statements.Permissions.TheVariants.{Every, Named}
 use Rattle.gt_policy.specs.Grammar.{Lexemes, LexerState, at, before, excluded, attributes, set_in_braces, set_of}
-use Rattle.gt_policy.specs.Grammar.{classes_in_braces, classes_of, is_refused, perms_in_braces, as_named, perms_of}
+use Rattle.gt_policy.specs.Grammar.{classes_in_braces, classes_of, is_refused_word, perms_in_braces, as_named, perms_of}
 use Rattle.gt_policy.specs.Spelling.{SpellsNames, no_more, one_more, a_name, SpellsItems, items_end, with, without}
 use Rattle.gt_policy.specs.Spelling.{itself, SpellsSet, one_name, one_self, set_in, SpellsWords, words_end, a_word}
 use Rattle.gt_policy.specs.Spelling.{SpellsList, one_word, list_in, SpellsPerms, every, names}
@@ -184,36 +184,36 @@ list_shorter ws ls rest (one_word w n _) = omega arith
 list_shorter ws ls rest (list_in n w others more _ h) = let less = words_shorter (w ∷ others) more rest h in omega arith
 
 -- permissions
-perms_in_read : (alone some : Bool) (ls : Lexemes) (ws : List (List ℕ)) (rest : Lexemes) → perms_in_braces alone some ls ≡ Ok (ws, rest) → SpellsWords ws ls rest × (list_any (λ w. is_refused alone w) ws ≡ false)
+perms_in_read : (alone some : Bool) (ls : Lexemes) (ws : List (List ℕ)) (rest : Lexemes) → perms_in_braces alone some ls ≡ Ok (ws, rest) → SpellsWords ws ls rest × (list_any (λ w. is_refused_word alone w) ws ≡ false)
 perms_in_read alone some [] ws rest e = absurd (cc)
-perms_in_read alone some ((Name w, n) ∷ ls) ws rest e = go (is_refused alone w) refl e (perms_in_read alone true ls)
+perms_in_read alone some ((Name w, n) ∷ ls) ws rest e = go (is_refused_word alone w) refl e (perms_in_read alone true ls)
   where
-    go : (v : Bool) → is_refused alone w ≡ v → (if v then Err (at n (Permission w)) else before w (perms_in_braces alone true ls)) ≡ Ok (ws, rest)
-        → ((zs : List (List ℕ)) (more : Lexemes) → perms_in_braces alone true ls ≡ Ok (zs, more) → SpellsWords zs ls more × (list_any (λ w. is_refused alone w) zs ≡ false))
-        → SpellsWords ws ((Name w, n) ∷ ls) rest × (list_any (λ w. is_refused alone w) ws ≡ false)
+    go : (v : Bool) → is_refused_word alone w ≡ v → (if v then Err (at n (Permission w)) else before w (perms_in_braces alone true ls)) ≡ Ok (ws, rest)
+        → ((zs : List (List ℕ)) (more : Lexemes) → perms_in_braces alone true ls ≡ Ok (zs, more) → SpellsWords zs ls more × (list_any (λ w. is_refused_word alone w) zs ≡ false))
+        → SpellsWords ws ((Name w, n) ∷ ls) rest × (list_any (λ w. is_refused_word alone w) ws ≡ false)
     go true x h ih = absurd (cc)
     go false x h ih =
         let r = before_ok w (perms_in_braces alone true ls) ws rest h in
         let others = ih r.0 rest r.2 in
-        subst (λ (xs : List (List ℕ)). SpellsWords xs ((Name w, n) ∷ ls) rest × (list_any (λ w. is_refused alone w) xs ≡ false)) (sym r.1)
-        (a_word w n r.0 ls rest others.0, or_from (is_refused alone w) (list_any (λ w. is_refused alone w) r.0) x others.1)
+        subst (λ (xs : List (List ℕ)). SpellsWords xs ((Name w, n) ∷ ls) rest × (list_any (λ w. is_refused_word alone w) xs ≡ false)) (sym r.1)
+        (a_word w n r.0 ls rest others.0, or_from (is_refused_word alone w) (list_any (λ w. is_refused_word alone w) r.0) x others.1)
 perms_in_read alone some ((Close, n) ∷ ls) ws rest e = go some e
   where
-    go : (v : Bool) → (if v then done {X = List (List ℕ)} [] ls else Err (at n Syntax)) ≡ Ok (ws, rest) → SpellsWords ws ((Close, n) ∷ ls) rest × (list_any (λ w. is_refused alone w) ws ≡ false)
-    go true h = moved (λ xs more. SpellsWords xs ((Close, n) ∷ ls) more × (list_any (λ w. is_refused alone w) xs ≡ false)) [] ws ls rest h (words_end n ls, refl)
+    go : (v : Bool) → (if v then done {X = List (List ℕ)} [] ls else Err (at n Syntax)) ≡ Ok (ws, rest) → SpellsWords ws ((Close, n) ∷ ls) rest × (list_any (λ w. is_refused_word alone w) ws ≡ false)
+    go true h = moved (λ xs more. SpellsWords xs ((Close, n) ∷ ls) more × (list_any (λ w. is_refused_word alone w) xs ≡ false)) [] ws ls rest h (words_end n ls, refl)
     go false h = absurd (cc)
 perms_in_read alone some ((token, n) ∷ ls) ws rest e = absurd (cc)
 
-perms_in_spelled : (alone : Bool) (ws : List (List ℕ)) (ls rest : Lexemes) → SpellsWords ws ls rest → list_any (λ w. is_refused alone w) ws ≡ false → perms_in_braces alone true ls ≡ Ok (ws, rest)
+perms_in_spelled : (alone : Bool) (ws : List (List ℕ)) (ls rest : Lexemes) → SpellsWords ws ls rest → list_any (λ w. is_refused_word alone w) ws ≡ false → perms_in_braces alone true ls ≡ Ok (ws, rest)
 perms_in_spelled alone ws ls rest (words_end n _) fit = refl
 perms_in_spelled alone ws ls rest (a_word w n others more _ h) fit =
-    rw ((or_parts (is_refused alone w) (list_any (λ w. is_refused alone w) others) fit).0)
-    (ap (λ r. before w r) (perms_in_spelled alone others more rest h (or_parts (is_refused alone w) (list_any (λ w. is_refused alone w) others) fit).1))
+    rw ((or_parts (is_refused_word alone w) (list_any (λ w. is_refused_word alone w) others) fit).0)
+    (ap (λ r. before w r) (perms_in_spelled alone others more rest h (or_parts (is_refused_word alone w) (list_any (λ w. is_refused_word alone w) others) fit).1))
 
-first_perm : (alone : Bool) (w : List ℕ) (ws : List (List ℕ)) (ls rest : Lexemes) → SpellsWords (w ∷ ws) ls rest → list_any (λ w. is_refused alone w) (w ∷ ws) ≡ false → perms_in_braces alone false ls ≡ Ok (w ∷ ws, rest)
+first_perm : (alone : Bool) (w : List ℕ) (ws : List (List ℕ)) (ls rest : Lexemes) → SpellsWords (w ∷ ws) ls rest → list_any (λ w. is_refused_word alone w) (w ∷ ws) ≡ false → perms_in_braces alone false ls ≡ Ok (w ∷ ws, rest)
 first_perm alone w ws ls rest (a_word _ n _ more _ h) fit =
-    rw ((or_parts (is_refused alone w) (list_any (λ w. is_refused alone w) ws) fit).0)
-    (ap (λ r. before w r) (perms_in_spelled alone ws more rest h (or_parts (is_refused alone w) (list_any (λ w. is_refused alone w) ws) fit).1))
+    rw ((or_parts (is_refused_word alone w) (list_any (λ w. is_refused_word alone w) ws) fit).0)
+    (ap (λ r. before w r) (perms_in_spelled alone ws more rest h (or_parts (is_refused_word alone w) (list_any (λ w. is_refused_word alone w) ws) fit).1))
 
 perm_braces_read : (alone : Bool) (n : ℕ) (ls : Lexemes) (ws : List (List ℕ)) (rest : Lexemes) → perms_in_braces alone false ls ≡ Ok (ws, rest) → SpellsWords ws ls rest → SpellsList ws ((Open, n) ∷ ls) rest
 perm_braces_read alone n ls [] rest e (words_end k _) = absurd (cc)
@@ -234,17 +234,17 @@ perms_read alone ((Open, n) ∷ ls) p rest e =
     let r = as_named_ok (perms_in_braces alone false ls) p rest e in
     let found = perms_in_read alone false ls r.0 rest r.2 in
     subst (λ (q : Permissions). SpellsPerms alone q ((Open, n) ∷ ls) rest) (sym r.1) (names r.0 ((Open, n) ∷ ls) rest found.1 (perm_braces_read alone n ls r.0 rest r.2 found.0))
-perms_read alone ((Name w, n) ∷ ls) p rest e = go (is_refused alone w) refl e
+perms_read alone ((Name w, n) ∷ ls) p rest e = go (is_refused_word alone w) refl e
   where
-    go : (v : Bool) → is_refused alone w ≡ v → (if v then Err (at n (Permission w)) else done (Named (w ∷ [])) ls) ≡ Ok (p, rest) → SpellsPerms alone p ((Name w, n) ∷ ls) rest
+    go : (v : Bool) → is_refused_word alone w ≡ v → (if v then Err (at n (Permission w)) else done (Named (w ∷ [])) ls) ≡ Ok (p, rest) → SpellsPerms alone p ((Name w, n) ∷ ls) rest
     go true x h = absurd (cc)
     go false x h =
-        moved (λ q more. SpellsPerms alone q ((Name w, n) ∷ ls) more) (Named (w ∷ [])) p ls rest h (names (w ∷ []) ((Name w, n) ∷ ls) ls (or_from (is_refused alone w) false x refl) (one_word w n ls))
+        moved (λ q more. SpellsPerms alone q ((Name w, n) ∷ ls) more) (Named (w ∷ [])) p ls rest h (names (w ∷ []) ((Name w, n) ∷ ls) ls (or_from (is_refused_word alone w) false x refl) (one_word w n ls))
 perms_read alone ((token, n) ∷ ls) p rest e = absurd (cc)
 
-named_spelled : (alone : Bool) (ws : List (List ℕ)) (ls rest : Lexemes) → SpellsList ws ls rest → list_any (λ w. is_refused alone w) ws ≡ false → perms_of alone ls ≡ Ok (Named ws, rest)
+named_spelled : (alone : Bool) (ws : List (List ℕ)) (ls rest : Lexemes) → SpellsList ws ls rest → list_any (λ w. is_refused_word alone w) ws ≡ false → perms_of alone ls ≡ Ok (Named ws, rest)
 unfolding perms_of
-named_spelled alone ws ls rest (one_word w n _) fit = rw ((or_parts (is_refused alone w) false fit).0) refl
+named_spelled alone ws ls rest (one_word w n _) fit = rw ((or_parts (is_refused_word alone w) false fit).0) refl
 named_spelled alone ws ls rest (list_in n w others more _ h) fit = ap (λ r. as_named r) (first_perm alone w others more rest h fit)
 
 pub perms_spelled : (alone : Bool) (p : Permissions) (ls rest : Lexemes) → SpellsPerms alone p ls rest → perms_of alone ls ≡ Ok (p, rest)

@@ -21,10 +21,11 @@ use Rattle.gt_policy.specs.declared.resolve.DraftElement.TheVariants.{With, With
 use Rattle.gt_policy.specs.declared.resolve.Draft.{Draft}
 use Rattle.gt_policy.specs.Names.{symbol_at, symbol_of}
 use Rattle.gt_policy.specs.Grammar.{◌>>=◌, at}
-use Rattle.gt_policy.specs.Spelling.{types_in, attributes_in, declared_in, names_of, AreDistinct, AreClean}
+use Rattle.gt_policy.specs.Spelling.{types_in, attributes_in, declared_in, declared_names, AreDistinct, AreClean}
 use Rattle.gt_policy.specs.Allowing.{Meaning}
 use Rattle.gt_policy.specs.Resolving.{known, any_symbol, type_in, type_symbol, attribute_in, attribute_symbol}
-use Rattle.gt_policy.specs.Resolving.{element_of, elements_of, given_by, allowed_by, with_statement, resolved, granted}
+use Rattle.gt_policy.specs.Resolving.{element_of, elements_of, given_by, allowed_by, with_statement, resolved_draft}
+use Rattle.gt_policy.specs.Resolving.{granted}
 use Rattle.gt_policy.specs.Resolving.{nothing_given}
 use Rattle.gt_policy.specs.Whole.{meaning_of}
 use Rattle.gt_policy.specs.Accepting.{meant_by}
@@ -145,8 +146,8 @@ kinds_apart (Allow a ∷ ss) w d e = kinds_apart ss w d e
 undeclared : (ss : List Statement) (role : Role) (m : Mention) → is_met ss (role, m) ≡ false → IsFirstUndeclared ss ((role, m) ∷ []) (at m.line (Unknown m.name))
 undeclared ss role m e = record { before = []; here = (role, m); behind = []; place = refl; declared = refl; undeclared = e; fault = refl }
 
-known_tells : (ss : List Statement) (m : Mention) → Tells ss ((InSet, m) ∷ []) (known (names_of ss) m.name m.line)
-known_tells ss m = go (symbol_of (names_of ss) m.name) (declared_known (names_of ss) m.name)
+known_tells : (ss : List Statement) (m : Mention) → Tells ss ((InSet, m) ∷ []) (known (declared_names ss) m.name m.line)
+known_tells ss m = go (symbol_of (declared_names ss) m.name) (declared_known (declared_names ss) m.name)
   where
     go : (o : Option Symbol) → is_some o ≡ (is_type ss m.name || is_attribute ss m.name) → Tells ss ((InSet, m) ∷ []) (any_symbol m.name m.line o)
     go (Some s) e = one_declared ss (InSet, m) (sym e)
@@ -158,7 +159,7 @@ type_place ss w = is_some_position (λ t. bytes_eq t w) (types_in ss)
 attribute_place : (ss : List Statement) (w : List ℕ) → is_some (position (λ a. bytes_eq a w) (attributes_in ss)) ≡ is_attribute ss w
 attribute_place ss w = is_some_position (λ a. bytes_eq a w) (attributes_in ss)
 
-type_tells : (ss : List Statement) (m : Mention) → Tells ss ((OfType, m) ∷ []) (type_in (names_of ss) m.name m.line)
+type_tells : (ss : List Statement) (m : Mention) → Tells ss ((OfType, m) ∷ []) (type_in (declared_names ss) m.name m.line)
 type_tells ss m = go (position (λ t. bytes_eq t m.name) (types_in ss)) (position (λ a. bytes_eq a m.name) (attributes_in ss)) (type_place ss m.name)
   where
     go : (t a : Option ℕ) → is_some t ≡ is_type ss m.name → Tells ss ((OfType, m) ∷ []) (type_symbol m.name m.line (symbol_at t a))
@@ -166,7 +167,7 @@ type_tells ss m = go (position (λ t. bytes_eq t m.name) (types_in ss)) (positio
     go None (Some i) e = undeclared ss OfType m (sym e)
     go None None e = undeclared ss OfType m (sym e)
 
-attribute_tells : (ss : List Statement) → AreDistinct (declared_in ss) → (m : Mention) → Tells ss ((OfAttribute, m) ∷ []) (attribute_in (names_of ss) m.name m.line)
+attribute_tells : (ss : List Statement) → AreDistinct (declared_in ss) → (m : Mention) → Tells ss ((OfAttribute, m) ∷ []) (attribute_in (declared_names ss) m.name m.line)
 attribute_tells ss d m = go (position (λ t. bytes_eq t m.name) (types_in ss)) (position (λ a. bytes_eq a m.name) (attributes_in ss)) (type_place ss m.name) (attribute_place ss m.name)
   where
     go : (t a : Option ℕ) → is_some t ≡ is_type ss m.name → is_some a ≡ is_attribute ss m.name → Tells ss ((OfAttribute, m) ∷ []) (attribute_symbol m.name m.line (symbol_at t a))
@@ -175,10 +176,10 @@ attribute_tells ss d m = go (position (λ t. bytes_eq t m.name) (types_in ss)) (
     go None None e f = undeclared ss OfAttribute m (sym f)
 
 -- a set
-element_tells : (ss : List Statement) (i : SetElement) → Tells ss (set_uses (i ∷ [])) (element_of (names_of ss) i)
+element_tells : (ss : List Statement) (i : SetElement) → Tells ss (set_uses (i ∷ [])) (element_of (declared_names ss) i)
 unfolding element_of
-element_tells ss (item.With m) = tells_made ss ((InSet, m) ∷ []) (known (names_of ss) m.name m.line) (λ s. With s) (known_tells ss m)
-element_tells ss (item.Without m) = tells_made ss ((InSet, m) ∷ []) (known (names_of ss) m.name m.line) (λ s. Without s) (known_tells ss m)
+element_tells ss (item.With m) = tells_made ss ((InSet, m) ∷ []) (known (declared_names ss) m.name m.line) (λ s. With s) (known_tells ss m)
+element_tells ss (item.Without m) = tells_made ss ((InSet, m) ∷ []) (known (declared_names ss) m.name m.line) (λ s. Without s) (known_tells ss m)
 element_tells ss item.Itself = refl
 
 uses_more : (i : SetElement) (items : List SetElement) → set_uses (i ∷ []) ++ set_uses items ≡ set_uses (i ∷ items)
@@ -186,28 +187,28 @@ uses_more (item.With m) items = refl
 uses_more (item.Without m) items = refl
 uses_more item.Itself items = refl
 
-elements_tell : (ss : List Statement) (items : List SetElement) (set : List DraftElement) → Tells ss (set_uses items) (elements_of (names_of ss) set items)
+elements_tell : (ss : List Statement) (items : List SetElement) (set : List DraftElement) → Tells ss (set_uses items) (elements_of (declared_names ss) set items)
 elements_tell ss [] set = refl
 elements_tell ss (i ∷ items) set =
-    subst (λ (us : List Use). Tells ss us (elements_of (names_of ss) set (i ∷ items))) (uses_more i items)
-    (tells_bind ss (set_uses (i ∷ [])) (set_uses items) (element_of (names_of ss) i) (λ e. elements_of (names_of ss) (set ++ e ∷ []) items) (element_tells ss i) (λ e. elements_tell ss items (set ++ e ∷ [])))
+    subst (λ (us : List Use). Tells ss us (elements_of (declared_names ss) set (i ∷ items))) (uses_more i items)
+    (tells_bind ss (set_uses (i ∷ [])) (set_uses items) (element_of (declared_names ss) i) (λ e. elements_of (declared_names ss) (set ++ e ∷ []) items) (element_tells ss i) (λ e. elements_tell ss items (set ++ e ∷ [])))
 
 -- attributes given
-given_tells : (ss : List Statement) → AreDistinct (declared_in ss) → (ms : List Mention) (d : Draft) (id : ℕ) → Tells ss (all_used OfAttribute ms) (given_by (names_of ss) d id ms)
+given_tells : (ss : List Statement) → AreDistinct (declared_in ss) → (ms : List Mention) (d : Draft) (id : ℕ) → Tells ss (all_used OfAttribute ms) (given_by (declared_names ss) d id ms)
 given_tells ss distinct [] d id = refl
 given_tells ss distinct (m ∷ ms) d id =
     let next : ℕ → Draft = λ a. record { given = d.given ++ record { to = id; attribute = a } ∷ []; rules = d.rules } in
-    tells_bind ss ((OfAttribute, m) ∷ []) (all_used OfAttribute ms) (attribute_in (names_of ss) m.name m.line) (λ a. given_by (names_of ss) (next a) id ms) (attribute_tells ss distinct m) (λ a. given_tells ss distinct ms (next a) id)
+    tells_bind ss ((OfAttribute, m) ∷ []) (all_used OfAttribute ms) (attribute_in (declared_names ss) m.name m.line) (λ a. given_by (declared_names ss) (next a) id ms) (attribute_tells ss distinct m) (λ a. given_tells ss distinct ms (next a) id)
 
 -- a statement; the type that it declares is among those declared
-allow_tells : (ss : List Statement) (d : Draft) (a : Allowance) → Tells ss (set_uses a.source ++ set_uses a.target) (allowed_by (names_of ss) d a)
+allow_tells : (ss : List Statement) (d : Draft) (a : Allowance) → Tells ss (set_uses a.source ++ set_uses a.target) (allowed_by (declared_names ss) d a)
 unfolding allowed_by
 allow_tells ss d a =
     let made : List DraftElement → List DraftElement → Draft = λ s t. record { given = d.given; rules = d.rules ++ record { source = s; target = t; perms = granted a.classes a.perms } ∷ [] } in
-    tells_bind ss (set_uses a.source) (set_uses a.target) (elements_of (names_of ss) [] a.source) (λ s. elements_of (names_of ss) [] a.target >>= λ t. ok_of (made s t)) (elements_tell ss a.source [])
-    (λ s. tells_made ss (set_uses a.target) (elements_of (names_of ss) [] a.target) (λ t. made s t) (elements_tell ss a.target []))
+    tells_bind ss (set_uses a.source) (set_uses a.target) (elements_of (declared_names ss) [] a.source) (λ s. elements_of (declared_names ss) [] a.target >>= λ t. ok_of (made s t)) (elements_tell ss a.source [])
+    (λ s. tells_made ss (set_uses a.target) (elements_of (declared_names ss) [] a.target) (λ t. made s t) (elements_tell ss a.target []))
 
-own_type : (ss : List Statement) (w : List ℕ) → is_type ss w ≡ true → (i : ℕ) × (type_in (names_of ss) w 0 ≡ ok_of i)
+own_type : (ss : List Statement) (w : List ℕ) → is_type ss w ≡ true → (i : ℕ) × (type_in (declared_names ss) w 0 ≡ ok_of i)
 own_type ss w e = go (position (λ t. bytes_eq t w) (types_in ss)) (position (λ a. bytes_eq a w) (attributes_in ss)) (type_place ss w)
   where
     go : (t a : Option ℕ) → is_some t ≡ is_type ss w → (i : ℕ) × (type_symbol w 0 (symbol_at t a) ≡ ok_of i)
@@ -220,14 +221,14 @@ declares ss (DeclareAttribute w) = Unit {0}
 declares ss (GiveAttributes m ms) = Unit {0}
 declares ss (Allow a) = Unit {0}
 
-statement_tells : (ss : List Statement) → AreDistinct (declared_in ss) → (s : Statement) (d : Draft) → declares ss s → Tells ss (statement_uses s) (with_statement (names_of ss) d s)
+statement_tells : (ss : List Statement) → AreDistinct (declared_in ss) → (s : Statement) (d : Draft) → declares ss s → Tells ss (statement_uses s) (with_statement (declared_names ss) d s)
 unfolding with_statement
 statement_tells ss distinct (DeclareType w ms) d is =
     let own = own_type ss w is in
-    subst (λ (r : Result ℕ TokenFault). Tells ss (all_used OfAttribute ms) (r >>= λ id. given_by (names_of ss) d id ms)) (sym own.1) (given_tells ss distinct ms d own.0)
+    subst (λ (r : Result ℕ TokenFault). Tells ss (all_used OfAttribute ms) (r >>= λ id. given_by (declared_names ss) d id ms)) (sym own.1) (given_tells ss distinct ms d own.0)
 statement_tells ss distinct (DeclareAttribute w) d is = refl
 statement_tells ss distinct (GiveAttributes m ms) d is =
-    tells_bind ss ((OfType, m) ∷ []) (all_used OfAttribute ms) (type_in (names_of ss) m.name m.line) (λ id. given_by (names_of ss) d id ms) (type_tells ss m) (λ id. given_tells ss distinct ms d id)
+    tells_bind ss ((OfType, m) ∷ []) (all_used OfAttribute ms) (type_in (declared_names ss) m.name m.line) (λ id. given_by (declared_names ss) d id ms) (type_tells ss m) (λ id. given_tells ss distinct ms d id)
 statement_tells ss distinct (Allow a) d is = allow_tells ss d a
 
 -- all statements
@@ -235,10 +236,10 @@ abbrev declare_all : List Statement → List Statement → Type 0
 declare_all ss [] = Unit {0}
 declare_all ss (x ∷ xs) = declares ss x × declare_all ss xs
 
-statements_tell : (ss : List Statement) → AreDistinct (declared_in ss) → (xs : List Statement) (d : Draft) → declare_all ss xs → Tells ss (uses_of xs) (resolved (names_of ss) d xs)
+statements_tell : (ss : List Statement) → AreDistinct (declared_in ss) → (xs : List Statement) (d : Draft) → declare_all ss xs → Tells ss (uses_of xs) (resolved_draft (declared_names ss) d xs)
 statements_tell ss distinct [] d own = refl
 statements_tell ss distinct (x ∷ xs) d own =
-    tells_bind ss (statement_uses x) (uses_of xs) (with_statement (names_of ss) d x) (λ e. resolved (names_of ss) e xs) (statement_tells ss distinct x d own.0) (λ e. statements_tell ss distinct xs e own.1)
+    tells_bind ss (statement_uses x) (uses_of xs) (with_statement (declared_names ss) d x) (λ e. resolved_draft (declared_names ss) e xs) (statement_tells ss distinct x d own.0) (λ e. statements_tell ss distinct xs e own.1)
 
 eq_self : (w : List ℕ) → bytes_eq w w ≡ true
 eq_self w = (bytes_eq-Decides w w).1 refl
@@ -251,7 +252,7 @@ own_of ss (DeclareAttribute w ∷ xs) part = (tt, own_of ss xs part)
 own_of ss (GiveAttributes m ms ∷ xs) part = (tt, own_of ss xs part)
 own_of ss (Allow a ∷ xs) part = (tt, own_of ss xs part)
 
-all_tell : (ss : List Statement) → AreClean ss → Tells ss (uses_of ss) (resolved (names_of ss) nothing_given ss)
+all_tell : (ss : List Statement) → AreClean ss → Tells ss (uses_of ss) (resolved_draft (declared_names ss) nothing_given ss)
 all_tell ss clean = statements_tell ss clean.distinct ss nothing_given (own_of ss ss (λ w e. e))
 
 -- the first is one alone
@@ -280,32 +281,32 @@ none_first ss us f all r =
 
 -- the fault of clean statements names the first that is not declared
 pub meant_undeclared : (ss : List Statement) (f : TokenFault) → AreClean ss → meant_by ss ≡ Err f → IsFirstUndeclared ss (uses_of ss) f
-meant_undeclared ss f clean e = go (resolved (names_of ss) nothing_given ss) (all_tell ss clean) e
+meant_undeclared ss f clean e = go (resolved_draft (declared_names ss) nothing_given ss) (all_tell ss clean) e
   where
-    go : (r : Result Draft TokenFault) → Tells ss (uses_of ss) r → meaning_of (names_of ss) r ≡ Err f → IsFirstUndeclared ss (uses_of ss) f
+    go : (r : Result Draft TokenFault) → Tells ss (uses_of ss) r → meaning_of (declared_names ss) r ≡ Err f → IsFirstUndeclared ss (uses_of ss) f
     go (Ok d) t h = absurd (cc)
     go (Err g) t h =
         let same : g ≡ f = cc in
         subst (λ (q : TokenFault). IsFirstUndeclared ss (uses_of ss) q) same t
 
 pub undeclared_meant : (ss : List Statement) (f : TokenFault) → AreClean ss → IsFirstUndeclared ss (uses_of ss) f → meant_by ss ≡ Err f
-undeclared_meant ss f clean first = go (resolved (names_of ss) nothing_given ss) (all_tell ss clean)
+undeclared_meant ss f clean first = go (resolved_draft (declared_names ss) nothing_given ss) (all_tell ss clean)
   where
-    go : (r : Result Draft TokenFault) → Tells ss (uses_of ss) r → meaning_of (names_of ss) r ≡ Err f
+    go : (r : Result Draft TokenFault) → Tells ss (uses_of ss) r → meaning_of (declared_names ss) r ≡ Err f
     go (Ok d) t = absurd (none_first ss (uses_of ss) f t first)
     go (Err g) t = ap (λ (q : TokenFault). let r : Result Meaning TokenFault = Err q in r) (same_fault ss (uses_of ss) g f t first)
 
 -- where all names are declared there is a meaning, and only there
 pub meant_declared : (ss : List Statement) (m : Meaning) → AreClean ss → meant_by ss ≡ Ok m → AreDeclared ss
-meant_declared ss m clean e = go (resolved (names_of ss) nothing_given ss) (all_tell ss clean) e
+meant_declared ss m clean e = go (resolved_draft (declared_names ss) nothing_given ss) (all_tell ss clean) e
   where
-    go : (r : Result Draft TokenFault) → Tells ss (uses_of ss) r → meaning_of (names_of ss) r ≡ Ok m → AreDeclared ss
+    go : (r : Result Draft TokenFault) → Tells ss (uses_of ss) r → meaning_of (declared_names ss) r ≡ Ok m → AreDeclared ss
     go (Ok d) t h = t
     go (Err g) t h = absurd (cc)
 
 pub declared_meant : (ss : List Statement) → AreClean ss → AreDeclared ss → (m : Meaning) × (meant_by ss ≡ Ok m)
-declared_meant ss clean all = go (resolved (names_of ss) nothing_given ss) (all_tell ss clean)
+declared_meant ss clean all = go (resolved_draft (declared_names ss) nothing_given ss) (all_tell ss clean)
   where
-    go : (r : Result Draft TokenFault) → Tells ss (uses_of ss) r → (m : Meaning) × (meaning_of (names_of ss) r ≡ Ok m)
+    go : (r : Result Draft TokenFault) → Tells ss (uses_of ss) r → (m : Meaning) × (meaning_of (declared_names ss) r ≡ Ok m)
     go (Ok d) t = (record { types = types_in ss; given = d.given; rules = d.rules }, refl)
     go (Err g) t = absurd (none_first ss (uses_of ss) g all t)

@@ -5,9 +5,9 @@ use Rattle.gt_policy.specs.declared.fault.TokenFault.{TokenFault}
 use Rattle.gt_policy.specs.declared.statements.Statement.{Statement}
 use Rattle.gt_policy.specs.Lexing.{lexemes_of}
 use Rattle.gt_policy.specs.Grammar.{Lexemes, statement}
-use Rattle.gt_policy.specs.Spelling.{SpellsStatement, SpellsText, AreClean, names_of}
+use Rattle.gt_policy.specs.Spelling.{SpellsStatement, SpellsText, AreClean, declared_names}
 use Rattle.gt_policy.specs.Allowing.{Meaning}
-use Rattle.gt_policy.specs.Resolving.{resolved, nothing_given}
+use Rattle.gt_policy.specs.Resolving.{resolved_draft, nothing_given}
 use Rattle.gt_policy.specs.Whole.{meaning_of}
 
 -- The text is no longer than a policy may be, and its tokens are the spellings of these statements, which
@@ -19,7 +19,7 @@ pub record IsWritten (text : List ℕ) (ss : List Statement) : Type 0 where
 
 -- what such statements mean: a policy, or the first name in them that stands for nothing
 abbrev pub meant_by : List Statement → Result Meaning TokenFault
-meant_by ss = meaning_of (names_of ss) (resolved (names_of ss) nothing_given ss)
+meant_by ss = meaning_of (declared_names ss) (resolved_draft (declared_names ss) nothing_given ss)
 
 -- statements up to a token, with what is after them (SELinux policy language)
 pub data SpellsFront : List Statement → Lexemes → Lexemes → Type 0 where
@@ -35,4 +35,4 @@ pub record IsBroken (text : List ℕ) (f : TokenFault) : Type 0 where
   pub short : length text ≤ LONGEST_TEXT
   pub spelled : SpellsFront before (lexemes_of text) rest
   pub clean : AreClean before
-  pub fault : statement (names_of before) rest ≡ Err f
+  pub fault : statement (declared_names before) rest ≡ Err f

@@ -15,9 +15,9 @@ abbrev pub Lane : Type 0
 Lane = Perms × TypeSet
 
 -- the source has the permission on the type, by the first lane of that permission
-abbrev pub reaches : List Lane → ℕ → Perms → Bool
-reaches [] t perm = false
-reaches (lane ∷ lanes) t perm = if lane.0.0 == perm.0 then holds lane.1 t else reaches lanes t perm
+abbrev pub lanes_reach : List Lane → ℕ → Perms → Bool
+lanes_reach [] t perm = false
+lanes_reach (lane ∷ lanes) t perm = if lane.0.0 == perm.0 then holds lane.1 t else lanes_reach lanes t perm
 
 -- one lane for each permission
 abbrev pub lanes : TypeSet → TypeSet → TypeSet → TypeSet → TypeSet → TypeSet → TypeSet → List Lane

@@ -16,7 +16,7 @@ use Rattle.gt_policy.specs.declared.statements.Statement.{Statement}
 use Rattle.gt_policy.specs.declared.statements.Statement.TheVariants.{DeclareType, DeclareAttribute, GiveAttributes}
 use Rattle.gt_policy.specs.declared.statements.Statement.TheVariants.{Allow}
 use Rattle.gt_policy.specs.Names.{Names}
-use Rattle.gt_policy.specs.Grammar.{Lexemes, excluded, is_grant_alone, is_refused}
+use Rattle.gt_policy.specs.Grammar.{Lexemes, excluded, is_grant_alone, is_refused_word}
 
 -- ("," NAME)* ";", or with a name to come NAME ("," NAME)* ";". In a type
 -- statement no name is `alias`. (SELinux policy language)
@@ -60,7 +60,7 @@ pub data SpellsList : List (List ℕ) → Lexemes → Lexemes → Type 0 where
 -- permissions. (SELinux policy language; the seven permissions of XSM FLASK)
 pub data SpellsPerms (alone : Bool) : Permissions → Lexemes → Lexemes → Type 0 where
   every : (n : ℕ) (rest : Lexemes) → SpellsPerms alone Every ((Star, n) ∷ rest) rest
-  names : (ws : List (List ℕ)) (ls rest : Lexemes) → list_any (λ w. is_refused alone w) ws ≡ false
+  names : (ws : List (List ℕ)) (ls rest : Lexemes) → list_any (λ w. is_refused_word alone w) ws ≡ false
       → SpellsList ws ls rest → SpellsPerms alone (Named ws) ls rest
 
 -- The four statements. (SELinux policy language)
@@ -122,5 +122,5 @@ pub record AreClean (ss : List Statement) : Type 0 where
   pub few_allows : allows_in ss ≤ 65536
 
 -- the names that the statements declare, and how many allow statements there are
-abbrev pub names_of : List Statement → Names
-names_of ss = record { types = types_in ss; attributes = attributes_in ss; allows = allows_in ss }
+abbrev pub declared_names : List Statement → Names
+declared_names ss = record { types = types_in ss; attributes = attributes_in ss; allows = allows_in ss }

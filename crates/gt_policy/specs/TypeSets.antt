@@ -4,9 +4,9 @@ use Rattle.std.specs.Int.{bit_at}
 use Rattle.gt_policy.specs.declared.types.TypeSet.{TypeSet}
 
 -- bit n of the number is 1
-abbrev pub is_set : ℕ → ℕ → Bool
-is_set bits n = bit_at bits n == 1
+abbrev pub has_bit : ℕ → ℕ → Bool
+has_bit bits n = bit_at bits n == 1
 
 -- Type n is in the set if bit n is 1; the higher half has the types from 128 to 255.
 abbrev pub holds : TypeSet → ℕ → Bool
-holds set n = if nat_lt n 128 then is_set set.low n else (nat_lt n 256 && is_set set.high (n - 128))
+holds set n = if nat_lt n 128 then has_bit set.low n else (nat_lt n 256 && has_bit set.high (n - 128))

@@ -3,7 +3,7 @@ ghost use Rattle.std.specs.Prelude.{◌≡◌, ℕ, ◌==◌, ◌||◌, ◌&&◌
 ghost use Rattle.gt_types.specs.Names.{is_permission};
 ghost use Rattle.gt_types.specs.declared.perms.Perms.{Perms};
 ghost use Rattle.gt_policy.specs.Allowing.{grants, lists_perm};
-ghost use Rattle.gt_policy.specs.Rows.{reaches};
+ghost use Rattle.gt_policy.specs.Rows.{lanes_reach};
 ghost use Rattle.gt_policy.specs.TypeSets.{holds};
 
 use crate::rules::AllowRule;
@@ -48,7 +48,7 @@ fn grown(so_far: TypeSet, rule: &AllowRule, perm: Perms, targets: TypeSet) -> Ty
 impl TypeRow {
     /// Of a type that may do nothing.
     pub(crate) fn empty() -> TypeRow
-        ensures { (t : ℕ) (perm : Perms) → reaches result t perm ≡ false }
+        ensures { (t : ℕ) (perm : Perms) → lanes_reach result t perm ≡ false }
     {
         let none = TypeSet::empty();
         TypeRow {
@@ -65,7 +65,8 @@ impl TypeRow {
     /// The same, and what one more statement grants to the source.
     pub(crate) fn with(self, rule: &AllowRule, source: TypeId) -> TypeRow
         ensures { (t : ℕ) (perm : Perms) →
-            reaches result t perm ≡ (reaches self t perm || (is_permission perm && grants rule.now source.0 t perm)) }
+            lanes_reach result t perm ≡ (lanes_reach self t perm
+                || (is_permission perm && grants rule.now source.0 t perm)) }
     {
         if !rule.source.contains(source) {
             return self;
@@ -84,14 +85,14 @@ impl TypeRow {
 
     // A law of every row: nothing is answered yes to a question for several permissions or for none.
     fn answers_one_permission(&self)
-        ensures { (t : ℕ) (perm : Perms) → is_permission perm ≡ false → reaches self.now t perm ≡ false }
+        ensures { (t : ℕ) (perm : Perms) → is_permission perm ≡ false → lanes_reach self.now t perm ≡ false }
     {
         let _first = self.map_read;
     }
 
     /// Whether it has the permission on the target.
     pub fn reaches(&self, target: TypeId, perm: Perms) -> bool
-        ensures { result ≡ reaches self.now target.0 perm }
+        ensures { result ≡ lanes_reach self.now target.0 perm }
     {
         if perm == Perms::MAP_READ {
             self.map_read.contains(target)
@@ -114,7 +115,7 @@ impl TypeRow {
 
     /// The permissions that it has on the target, as one set.
     pub fn on(&self, target: TypeId) -> Perms
-        ensures { (perm : Perms) → (is_permission perm && lists_perm result perm) ≡ reaches self.now target.0 perm }
+        ensures { (perm : Perms) → (is_permission perm && lists_perm result perm) ≡ lanes_reach self.now target.0 perm }
     {
         self.answers_one_permission();
         let mut perms = Perms::empty();

@@ -22,14 +22,15 @@ use Rattle.gt_listing.specs.declared.fault.ListingFault.{ListingFault}
 use Rattle.gt_as_json.specs.AsJson.{Promise}
 use Rattle.gt_program.specs.Formats.{CheckedAs, RanAs}
 use Rattle.gt_run.specs.declared.fault.RunFault.{RunFault}
-use Rattle.gt_program.specs.Obeying.{Answers, Checks, Does, Doing, Ending, Explains, FitsKind, IsAsked, IsQuestion}
-use Rattle.gt_program.specs.Obeying.{Lists, Obeys, Performs, Plays, RunsDomains, TellsDump, TellsEntries, Works}
-use Rattle.gt_program.specs.Obeying.{known_text, shown_name, status_of}
+use Rattle.gt_program.specs.Obeying.{AnswersQuestion, Checks, Does, Doing, Ending, Explains, FitsKind, IsAsked}
+use Rattle.gt_program.specs.Obeying.{IsQuestion}
+use Rattle.gt_program.specs.Obeying.{Lists, Obeys, Performs, Plays, RunsDomains, AnswersDump, AnswersEntries, Works}
+use Rattle.gt_program.specs.Obeying.{known_text, shown_name, exit_status_of}
 use Rattle.gt_program.specs.declared.obeying.Work.{Work}
 use Rattle.gt_program.specs.declared.failure.Failure.TheVariants as failures
 
 -- it was done
-pub worked : (P : Doing) (known old new : Option (List ℕ)) (r : Ending) (status : ℕ) → IfSome known (λ bytes. Does P bytes old new r) → status ≡ status_of r → Works P known old new status
+pub worked : (P : Doing) (known old new : Option (List ℕ)) (r : Ending) (status : ℕ) → IfSome known (λ bytes. Does P bytes old new r) → status ≡ exit_status_of r → Works P known old new status
 worked P None old new r status does is = tt
 worked P (Some bytes) old new r status does is = (r, is, inl does)
 
@@ -81,9 +82,9 @@ out_of_memory (to_list format name) file input old new status is kept = no_memor
 out_of_memory (to_tell_rules name) file input old new status is kept = omega arith
 out_of_memory (to_check script format name) file input old new status is kept = no_memory (Checks script) (known_text file input name) old new status is kept
 out_of_memory (to_explain source target permission name) file input old new status is kept =
-    no_memory (Answers (shown_name name) source target permission) (known_text file input name) old new status is kept
+    no_memory (AnswersQuestion (shown_name name) source target permission) (known_text file input name) old new status is kept
 out_of_memory (to_tell_entries version hex every script format name) file input old new status is kept =
-    no_memory (TellsDump version hex every script format) (known_text file input name) old new status is kept
+    no_memory (AnswersDump version hex every script format) (known_text file input name) old new status is kept
 out_of_memory for_help file input old new status is kept = omega arith
 out_of_memory for_version file input old new status is kept = omega arith
 out_of_memory nothing file input old new status is kept = (inr is, kept)
@@ -134,28 +135,28 @@ refused nothing file input old new error status (inr (inr (inr (inr (inr (inr (i
 
 -- a question of these names was answered
 explains_names : (file : List ℕ) (q : Question) (source target : Option (List ℕ)) (permission input : List ℕ) (old new : Option (List ℕ)) (r : Ending) → IsQuestion source target permission q
-    → Does (Explains file q) input old new r → Does (Answers file source target permission) input old new r
+    → Does (Explains file q) input old new r → Does (AnswersQuestion file source target permission) input old new r
 explains_names file q source target permission input old new r is (inl does) = inl (q, is, does)
 explains_names file q source target permission input old new r is (inr unopened) = inr unopened
 
 answered_by : (file : List ℕ) (q : Question) (source target : Option (List ℕ)) (permission : List ℕ) (known old new : Option (List ℕ)) (r : Ending) (status : ℕ) → IsQuestion source target permission q
-    → IfSome known (λ bytes. Does (Explains file q) bytes old new r) → status ≡ status_of r → Works (Answers file source target permission) known old new status
+    → IfSome known (λ bytes. Does (Explains file q) bytes old new r) → status ≡ exit_status_of r → Works (AnswersQuestion file source target permission) known old new status
 answered_by file q source target permission None old new r status asks does is = tt
 answered_by file q source target permission (Some bytes) old new r status asks does is = (r, is, inl (explains_names file q source target permission bytes old new r asks does))
 
 pub answered : (file same : List ℕ) (q : Question) (source target : Option (List ℕ)) (permission : List ℕ) (known old new : Option (List ℕ)) (r : Ending) (status : ℕ) → file ≡ same → IsQuestion source target permission q
-    → IfSome known (λ bytes. Does (Explains file q) bytes old new r) → status ≡ status_of r → Works (Answers same source target permission) known old new status
+    → IfSome known (λ bytes. Does (Explains file q) bytes old new r) → status ≡ exit_status_of r → Works (AnswersQuestion same source target permission) known old new status
 answered file same q source target permission known old new r status shown asks does is =
-    subst (λ (f : List ℕ). Works (Answers f source target permission) known old new status) shown (answered_by file q source target permission known old new r status asks does is)
+    subst (λ (f : List ℕ). Works (AnswersQuestion f source target permission) known old new status) shown (answered_by file q source target permission known old new r status asks does is)
 
 -- a dump was told as it was asked
 tells_asked : (asked : Asked) (version : ℕ) (hex every : Bool) (script : Option ℕ) (format : Format) (input : List ℕ) (old new : Option (List ℕ)) (r : Ending) → IsAsked version hex every script asked
-    → Does (TellsEntries format asked) input old new r → Does (TellsDump version hex every script format) input old new r
+    → Does (AnswersEntries format asked) input old new r → Does (AnswersDump version hex every script format) input old new r
 tells_asked asked version hex every script format input old new r is (inl does) = inl (asked, is, does)
 tells_asked asked version hex every script format input old new r is (inr unopened) = inr unopened
 
 pub told : (asked : Asked) (version : ℕ) (hex every : Bool) (script : Option ℕ) (format : Format) (known old new : Option (List ℕ)) (r : Ending) (status : ℕ) → IsAsked version hex every script asked
-    → IfSome known (λ bytes. Does (TellsEntries format asked) bytes old new r) → status ≡ status_of r → Works (TellsDump version hex every script format) known old new status
+    → IfSome known (λ bytes. Does (AnswersEntries format asked) bytes old new r) → status ≡ exit_status_of r → Works (AnswersDump version hex every script format) known old new status
 told asked version hex every script format None old new r status asks does is = tt
 told asked version hex every script format (Some bytes) old new r status asks does is = (r, is, inl (tells_asked asked version hex every script format bytes old new r asks does))
 

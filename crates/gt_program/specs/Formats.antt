@@ -15,12 +15,12 @@ use Rattle.gt_listing.specs.declared.fault.ListingFault.{ListingFault}
 use Rattle.gt_run.specs.Runs.{Ran}
 use Rattle.gt_run.specs.declared.fault.RunFault.{RunFault}
 use Rattle.gt_script.specs.RunScripts.{RunTells}
-use Rattle.gt_script.specs.Script.{Tells}
+use Rattle.gt_script.specs.Script.{TellsScript}
 use Rattle.std.specs.Prelude.{Option}
 
 -- what `play` writes (own)
 abbrev pub PlayedAs : Format → Bool → List ℕ → Promise PlayFault
-PlayedAs Text audited input = Played (Tells input) audited
+PlayedAs Text audited input = Played (TellsScript input) audited
 PlayedAs Json audited input = PlayedAsJson input audited
 
 -- what `run` writes (own)

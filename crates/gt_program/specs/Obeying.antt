@@ -26,10 +26,10 @@ abbrev pub Ending : Type 0
 Ending = Result Bool Failure
 
 -- the exit status: 0 for a good answer, 1 for another and for a failure (own)
-abbrev pub status_of : Ending → ℕ
-status_of (Ok true) = 0
-status_of (Ok false) = 1
-status_of (Err failure) = 1
+abbrev pub exit_status_of : Ending → ℕ
+exit_status_of (Ok true) = 0
+exit_status_of (Ok false) = 1
+exit_status_of (Err failure) = 1
 
 -- what a command wrote that ended so, where these are the bytes of its text (own)
 abbrev pub Doing : Type 1
@@ -67,11 +67,11 @@ Explains file q input old new (Ok answer) = Explained file q input old new (Ok a
 Explains file q input old new (Err (failures.Why fault)) = Explained file q input old new (Err fault)
 Explains file q input old new (Err failure) = ⊥
 
-abbrev pub TellsEntries : Format → Asked → Doing
-TellsEntries format asked input old new (Ok true) = ToldAs format asked input old new (Ok tt)
-TellsEntries format asked input old new (Ok false) = ⊥
-TellsEntries format asked input old new (Err (failures.Dump fault)) = ToldAs format asked input old new (Err fault)
-TellsEntries format asked input old new (Err failure) = ⊥
+abbrev pub AnswersEntries : Format → Asked → Doing
+AnswersEntries format asked input old new (Ok true) = ToldAs format asked input old new (Ok tt)
+AnswersEntries format asked input old new (Ok false) = ⊥
+AnswersEntries format asked input old new (Err (failures.Dump fault)) = ToldAs format asked input old new (Err fault)
+AnswersEntries format asked input old new (Err failure) = ⊥
 
 -- what is done with a text (own)
 abbrev pub Performs : Work → Doing
@@ -79,7 +79,7 @@ Performs (works.Play audited format) = Plays format audited
 Performs (works.List format) = Lists format
 Performs (works.Check script file json) = Checks script
 Performs (works.Why file question) = Explains file.now question
-Performs (works.Entries asked format) = TellsEntries format asked
+Performs (works.Entries asked format) = AnswersEntries format asked
 
 -- a file that was not opened: nothing was written (own)
 abbrev pub IsUnopened : Option (List ℕ) → Option (List ℕ) → Ending → Type 0
@@ -114,7 +114,7 @@ pub record FitsKind (kind : ErrorKind) (old new : Option (List ℕ)) (status : �
 abbrev pub Works : Doing → Option (List ℕ) → Option (List ℕ) → Option (List ℕ) → ℕ → Type 0
 Works P known old new status =
     IfSome known
-    (λ bytes. (r : Ending) × (status ≡ status_of r)
+    (λ bytes. (r : Ending) × (status ≡ exit_status_of r)
     × (Does P bytes old new r ⊎ ((r ≡ Err failures.Memory) × Keeps old new)))
 
 -- the question asks for these names (own)
@@ -129,14 +129,14 @@ IsAsked version hex every script asked =
     × (option_map (λ d. d.0) asked.script ≡ script)
 
 -- a question of these names is answered (own)
-abbrev pub Answers : List ℕ → Option (List ℕ) → Option (List ℕ) → List ℕ → Doing
-Answers file source target permission input old new r =
+abbrev pub AnswersQuestion : List ℕ → Option (List ℕ) → Option (List ℕ) → List ℕ → Doing
+AnswersQuestion file source target permission input old new r =
     (q : Question) × IsQuestion source target permission q × Explains file q input old new r
 
 -- a dump is told as it is asked (own)
-abbrev pub TellsDump : ℕ → Bool → Bool → Option ℕ → Format → Doing
-TellsDump version hex every script format input old new r =
-    (asked : Asked) × IsAsked version hex every script asked × TellsEntries format asked input old new r
+abbrev pub AnswersDump : ℕ → Bool → Bool → Option ℕ → Format → Doing
+AnswersDump version hex every script format input old new r =
+    (asked : Asked) × IsAsked version hex every script asked × AnswersEntries format asked input old new r
 
 -- The exit status fits what was asked for, and what was written does: a script that was played or run, a policy that
 -- was listed, a policy or a script that was checked, a question that was answered, a dump that was told, the rules,
@@ -156,9 +156,9 @@ Obeys (to_tell_rules name) file input old new status = status ≤ 2
 Obeys (to_check script format name) file input old new status =
     Works (Checks script) (known_text file input name) old new status
 Obeys (to_explain source target permission name) file input old new status =
-    Works (Answers (shown_name name) source target permission) (known_text file input name) old new status
+    Works (AnswersQuestion (shown_name name) source target permission) (known_text file input name) old new status
 Obeys (to_tell_entries version hex every script format name) file input old new status =
-    Works (TellsDump version hex every script format) (known_text file input name) old new status
+    Works (AnswersDump version hex every script format) (known_text file input name) old new status
 Obeys for_help file input old new status = status ≤ 1
 Obeys for_version file input old new status = status ≤ 1
 Obeys nothing file input old new status = ((status ≡ 2) ⊎ (status ≡ 1)) × Keeps old new

@@ -1,6 +1,6 @@
 //! Why a command did not end well.
 ghost use Rattle.std.specs.Prelude.{◌≡◌};
-ghost use Rattle.gt_program.specs.Obeying.{status_of};
+ghost use Rattle.gt_program.specs.Obeying.{exit_status_of};
 
 use gt_advising::WhyFault;
 use gt_dump::DumpFault;
@@ -56,7 +56,7 @@ impl Error for Failure {}
 
 /// The exit status of a command that ended so: 0 for a good answer, and 1 for another and for a failure.
 pub fn exit_status(ending: &Result<bool, Failure>) -> u8
-    ensures { result ≡ status_of ending.now }
+    ensures { result ≡ exit_status_of ending.now }
 {
     match ending {
         Ok(true) => 0,

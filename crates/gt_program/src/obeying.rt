@@ -3,9 +3,9 @@ ghost use Rattle.std.specs.Prelude.{◌≡◌, ◌≤◌, ℕ, List, IfSome, OnO
 ghost use Rattle.std.specs.Option.{option_map};
 ghost use Rattle.clap.specs.Kinds.{HasKind};
 ghost use Rattle.clap.specs.Words.{kind_of};
-ghost use Rattle.gt_commands.specs.Commands.{asked, asked_by_plan};
+ghost use Rattle.gt_commands.specs.Commands.{request_in_words, asked_by_plan};
 ghost use Rattle.gt_streams.specs.Streams.{OfInput};
-ghost use Rattle.gt_program.specs.Obeying.{status_of, known_text, shown_name, Does, FitsKind, Obeys, Performs};
+ghost use Rattle.gt_program.specs.Obeying.{exit_status_of, known_text, shown_name, Does, FitsKind, Obeys, Performs};
 ghost use Rattle.gt_program.specs.Obeying.{RunsDomains};
 ghost use Rattle.gt_program.specs.Formats.{RanAs};
 
@@ -116,7 +116,7 @@ fn perform_on<T: Texts, W: Write>(
 
 // Reports why a command did not end well, if it did not. A failed write of that is not reported.
 pub(crate) fn report<E: Eprint>(err: &E, ending: Result<bool, Failure>) -> u8
-    ensures { result ≡ status_of ending }
+    ensures { result ≡ exit_status_of ending }
 {
     let status = exit_status(&ending);
     if let Err(failure) = ending {
@@ -341,7 +341,7 @@ pub fn obey<R: Threads + Wait + Sync, T: Texts, W: Write, E: Eprint>(
     out: &mut W,
     err: &E,
 ) -> u8
-    ensures { Obeys (asked (drop 1 (map string_bytes words.now))) (T.file texts.now) (T.input texts.now)
+    ensures { Obeys (request_in_words (drop 1 (map string_bytes words.now))) (T.file texts.now) (T.input texts.now)
         (W.contents out.old) (W.contents out.new) result }
 {
     match plan(alloc, words) {

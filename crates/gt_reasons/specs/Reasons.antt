@@ -6,8 +6,8 @@ use Rattle.gt_types.specs.declared.config.ConfigFault.{ConfigFault}
 use Rattle.gt_types.specs.declared.config.ConfigFault.TheVariants as faults
 
 -- `FILE:LINE:COLUMN: ` (own)
-abbrev pub heading_text : List ℕ → ℕ → ℕ → List ℕ
-heading_text file line column =
+abbrev pub reason_heading : List ℕ → ℕ → ℕ → List ℕ
+reason_heading file line column =
     file ++ codes ":" ++ decimal line ++ codes ":" ++ decimal column ++ codes ": "
 
 -- a word in quotes (own)
@@ -17,7 +17,7 @@ quoted_text word = codes "\"" ++ word ++ codes "\""
 -- a line was added that tells a reason at this line of the file (own)
 abbrev pub TellsAt : List ℕ → ℕ → List ℕ → List ℕ → Type 0
 TellsAt file line old new =
-    (column : ℕ) × (message : List ℕ) × (new ≡ old ++ heading_text file line column ++ message ++ codes "\n")
+    (column : ℕ) × (message : List ℕ) × (new ≡ old ++ reason_heading file line column ++ message ++ codes "\n")
 
 -- the limit that a fault is about, 0 where it is about none (own)
 abbrev pub limit_of : ConfigFault → ℕ

@@ -1,6 +1,6 @@
 //! Pieces of reasons.
 ghost use Rattle.std.specs.Prelude.{◌≡◌, ◌++◌, OnOk};
-ghost use Rattle.gt_reasons.specs.Reasons.{heading_text, quoted_text};
+ghost use Rattle.gt_reasons.specs.Reasons.{reason_heading, quoted_text};
 
 use gt_texts::{push_number, push_text};
 use std::alloc::AllocError;
@@ -12,7 +12,7 @@ pub fn push_heading(
     line: usize,
     column: usize,
 ) -> Result<(), AllocError>
-    ensures { OnOk result (out.new.items ≡ out.old.items ++ heading_text file.now line column) }
+    ensures { OnOk result (out.new.items ≡ out.old.items ++ reason_heading file.now line column) }
 {
     push_text(out, file)?;
     push_text(out, ":")?;

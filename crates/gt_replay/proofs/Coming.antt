@@ -26,9 +26,10 @@ use Rattle.gt_script.specs.RunContents.{RunContents}
 use Rattle.gt_script.specs.RunScripts.{list_of}
 use Rattle.gt_host.specs.Playing.{setting_of_script}
 use Rattle.gt_host.specs.Rights.{may_by}
-use Rattle.gt_replay.specs.Orders.{Happening, did, raised, passed, doer, own, events_in, trace_in, IsRaisedBefore}
-use Rattle.gt_replay.specs.Orders.{FlagsAreRaised, Follows}
-use Rattle.gt_replay.specs.Walking.{Makes, Moves, HasFollowed, HasCome, ComesOn}
+use Rattle.gt_replay.specs.Orders.{Happening, did, raised, passed, doer, own_happenings, events_in, trace_in}
+use Rattle.gt_replay.specs.Orders.{IsRaisedBefore}
+use Rattle.gt_replay.specs.Orders.{FlagsAreRaised, FollowsList}
+use Rattle.gt_replay.specs.Walking.{WalksTo, Moves, HasFollowed, HasWalked, ComesOn}
 use Rattle.gt_replay.specs.declared.replay.Replay.{Replay}
 use Rattle.gt_replay.specs.declared.walker.Walker.{Walker}
 use Rattle.gt_replay.proofs.Places.{get_left, get_end, get_cases, get_set}
@@ -140,7 +141,7 @@ less_or zero (suc j) h = inl (omega arith)
 less_or (suc i) zero h = inr (omega arith)
 less_or (suc i) (suc j) h = elim (less_or i j (λ e. h (ap suc e))) [ inl a ↦ inl (omega arith) | inr b ↦ inr (omega arith) ]
 
-walkers_apart : (c : RunContents) (hs : List Happening) (r : Replay) (i j : ℕ) (v w : Walker) → HasCome c hs r → slice_get r.walkers.items i ≡ Some v → slice_get r.walkers.items j ≡ Some w → i ≢ j → v.dom.0 ≢ w.dom.0
+walkers_apart : (c : RunContents) (hs : List Happening) (r : Replay) (i j : ℕ) (v w : Walker) → HasWalked c hs r → slice_get r.walkers.items i ≡ Some v → slice_get r.walkers.items j ≡ Some w → i ≢ j → v.dom.0 ≢ w.dom.0
 walkers_apart c hs r i j v w come at there other = λ same.
     let d = domain_at r.walkers.items c.head.domains i v come.domains at in
     let e = domain_at r.walkers.items c.head.domains j w come.domains there in
@@ -152,15 +153,15 @@ walkers_apart c hs r i j v w come at there other = λ same.
 
 -- what one domain does
 
-own_more : (dom : DomId) (hs : List Happening) (x : Happening) (more : List Happening) → (doer x).0 ≡ dom.0 → own dom (hs ++ x ∷ []) ++ more ≡ own dom hs ++ (x ∷ more)
+own_more : (dom : DomId) (hs : List Happening) (x : Happening) (more : List Happening) → (doer x).0 ≡ dom.0 → own_happenings dom (hs ++ x ∷ []) ++ more ≡ own_happenings dom hs ++ (x ∷ more)
 own_more dom hs x more is =
-    let one : own dom (x ∷ []) ≡ x ∷ [] = ap (λ (b : Bool). cond b (x ∷ []) []) (eq-eqb (doer x).0 dom.0 is) in
-    ap (λ (l : List Happening). l ++ more) (filter-append (λ (y : Happening). (doer y).0 == dom.0) hs (x ∷ []) ∙ ap (λ (l : List Happening). own dom hs ++ l) one) ∙ append_assoc (own dom hs) (x ∷ []) more
+    let one : own_happenings dom (x ∷ []) ≡ x ∷ [] = ap (λ (b : Bool). cond b (x ∷ []) []) (eq-eqb (doer x).0 dom.0 is) in
+    ap (λ (l : List Happening). l ++ more) (filter-append (λ (y : Happening). (doer y).0 == dom.0) hs (x ∷ []) ∙ ap (λ (l : List Happening). own_happenings dom hs ++ l) one) ∙ append_assoc (own_happenings dom hs) (x ∷ []) more
 
-own_other : (dom : DomId) (hs : List Happening) (x : Happening) → (doer x).0 ≢ dom.0 → own dom (hs ++ x ∷ []) ≡ own dom hs
+own_other : (dom : DomId) (hs : List Happening) (x : Happening) → (doer x).0 ≢ dom.0 → own_happenings dom (hs ++ x ∷ []) ≡ own_happenings dom hs
 own_other dom hs x other =
-    let none : own dom (x ∷ []) ≡ [] = ap (λ (b : Bool). cond b (x ∷ []) []) (ne_eqb (doer x).0 dom.0 other) in
-    filter-append (λ (y : Happening). (doer y).0 == dom.0) hs (x ∷ []) ∙ ap (λ (l : List Happening). own dom hs ++ l) none ∙ append-nil (own dom hs)
+    let none : own_happenings dom (x ∷ []) ≡ [] = ap (λ (b : Bool). cond b (x ∷ []) []) (ne_eqb (doer x).0 dom.0 other) in
+    filter-append (λ (y : Happening). (doer y).0 == dom.0) hs (x ∷ []) ∙ ap (λ (l : List Happening). own_happenings dom hs ++ l) none ∙ append-nil (own_happenings dom hs)
 
 followed_on : (c : RunContents) (hs : List Happening) (x : Happening) (v w : Walker) → Moves (type_names c.head) v x w → HasFollowed c hs v → HasFollowed c (hs ++ x ∷ []) w
 followed_on c hs x v w moves (named, names, follows) =
@@ -171,9 +172,9 @@ followed_on c hs x v w moves (named, names, follows) =
       λ more rest go.
           let from = led.2 more rest go in
           let one = follows (x ∷ more) from.0 from.1 in
-          let two = subst (λ (l : List Happening). Follows (type_names c.head) v.dom [] [] (list_of c.tasks v.dom) l (v.text.items ++ from.0)) (sym (own_more v.dom hs x more mine)) one in
-          let three = subst (λ (l : List ℕ). Follows (type_names c.head) v.dom [] [] (list_of c.tasks v.dom) (own v.dom (hs ++ x ∷ []) ++ more) l) from.2 two in
-          subst (λ (d : DomId). Follows (type_names c.head) d [] [] (list_of c.tasks d) (own d (hs ++ x ∷ []) ++ more) (w.text.items ++ rest)) (sym moves.dom) three,
+          let two = subst (λ (l : List Happening). FollowsList (type_names c.head) v.dom [] [] (list_of c.tasks v.dom) l (v.text.items ++ from.0)) (sym (own_more v.dom hs x more mine)) one in
+          let three = subst (λ (l : List ℕ). FollowsList (type_names c.head) v.dom [] [] (list_of c.tasks v.dom) (own_happenings v.dom (hs ++ x ∷ []) ++ more) l) from.2 two in
+          subst (λ (d : DomId). FollowsList (type_names c.head) d [] [] (list_of c.tasks d) (own_happenings d (hs ++ x ∷ []) ++ more) (w.text.items ++ rest)) (sym moves.dom) three,
     )
 
 followed_still : (c : RunContents) (hs : List Happening) (x : Happening) (u : Walker) → (doer x).0 ≢ u.dom.0 → HasFollowed c hs u → HasFollowed c (hs ++ x ∷ []) u
@@ -181,7 +182,7 @@ followed_still c hs x u other (named, names, follows) = (
   named,
   names,
   λ more rest go.
-      subst (λ (l : List Happening). Follows (type_names c.head) u.dom [] [] (list_of c.tasks u.dom) (l ++ more) (u.text.items ++ rest)) (sym (own_other u.dom hs x other)) (follows more rest go),
+      subst (λ (l : List Happening). FollowsList (type_names c.head) u.dom [] [] (list_of c.tasks u.dom) (l ++ more) (u.text.items ++ rest)) (sym (own_other u.dom hs x other)) (follows more rest go),
 )
 
 -- the run
@@ -189,7 +190,7 @@ followed_still c hs x u other (named, names, follows) = (
 All_end : (P : Happening → Type 0) (hs : List Happening) (x : Happening) → All P hs → P x → All P (hs ++ x ∷ [])
 All_end P hs x all here = All-push P hs x all here
 
-comes : (c : RunContents) (hs : List Happening) (r q : Replay) (x : Happening) (place : ℕ) (v w : Walker) → HasCome c hs r → slice_get r.walkers.items place ≡ Some v → Moves (type_names c.head) v x w
+comes : (c : RunContents) (hs : List Happening) (r q : Replay) (x : Happening) (place : ℕ) (v w : Walker) → HasWalked c hs r → slice_get r.walkers.items place ≡ Some v → Moves (type_names c.head) v x w
     → setting_in may_by q.core ≡ setting_in may_by r.core → q.types.items ≡ r.types.items → q.walkers.items ≡ set r.walkers.items place w
     → Legal (setting_of_script c.head) (events_in (hs ++ x ∷ [])) (trace_in (hs ++ x ∷ [])) → CoreStands (setting_of_script c.head) (history_after [] (trace_in (hs ++ x ∷ []))) q.core.state
     → FlagsAreRaised (hs ++ x ∷ []) → ((flag : ℕ) → get_or q.told.items flag false ≡ true → IsRaisedBefore (length (hs ++ x ∷ [])) flag (hs ++ x ∷ []))
@@ -216,12 +217,12 @@ comes c hs r q x place v w come at moves setting types walkers legal stands flag
 )
 
 -- a domain made an event of the core
-pub comes_by : (c : RunContents) (hs : List Happening) (r q : Replay) (place : ℕ) (v w : Walker) → HasCome c hs r → slice_get r.walkers.items place ≡ Some v
-    → Makes (setting_in may_by r.core) r.types.items r.core.state v q.core.state w
+pub comes_by : (c : RunContents) (hs : List Happening) (r q : Replay) (place : ℕ) (v w : Walker) → HasWalked c hs r → slice_get r.walkers.items place ≡ Some v
+    → WalksTo (setting_in may_by r.core) r.types.items r.core.state v q.core.state w
     → setting_in may_by q.core ≡ setting_in may_by r.core → q.types.items ≡ r.types.items → q.walkers.items ≡ set r.walkers.items place w → q.told.items ≡ r.told.items
     → ComesOn c hs q
 comes_by c hs r q place v w come at makes setting types walkers told =
-    let known = subst (λ (s : Setting). Makes s r.types.items r.core.state v q.core.state w) come.setting makes in
+    let known = subst (λ (s : Setting). WalksTo s r.types.items r.core.state v q.core.state w) come.setting makes in
     let (e, x, may, stands, moves) = known (history_after [] (trace_in hs)) come.stands in
     let typed = subst (λ (names : List (List ℕ)). Moves names v (did e x) w) come.types moves in
     let legal = legal_one (setting_of_script c.head) [] (events_in hs) (trace_in hs) e x come.legal may in
@@ -234,7 +235,7 @@ comes_by c hs r q place v w come at makes setting types walkers told =
     (λ flag is. raised_later flag hs (did e x) (come.told flag (ap (λ (l : List Bool). get_or l flag false) (sym told) ∙ is)))
 
 -- a domain raised or passed a flag, by which the core does nothing
-quiet : (c : RunContents) (hs : List Happening) (r q : Replay) (x : Happening) (place : ℕ) (v w : Walker) → IsQuiet x → HasCome c hs r → slice_get r.walkers.items place ≡ Some v → Moves r.types.items v x w
+quiet : (c : RunContents) (hs : List Happening) (r q : Replay) (x : Happening) (place : ℕ) (v w : Walker) → IsQuiet x → HasWalked c hs r → slice_get r.walkers.items place ≡ Some v → Moves r.types.items v x w
     → q.core ≡ r.core → q.types.items ≡ r.types.items → q.walkers.items ≡ set r.walkers.items place w
     → ((d : DomId) (flag : ℕ) → x ≡ passed d flag → IsRaisedBefore (length hs) flag hs)
     → ((flag : ℕ) → get_or q.told.items flag false ≡ true → IsRaisedBefore (length (hs ++ x ∷ [])) flag (hs ++ x ∷ []))
@@ -255,7 +256,7 @@ set_true (b ∷ told) zero (suc flag) is = inr is
 set_true (b ∷ told) (suc at) zero is = inr is
 set_true (b ∷ told) (suc at) (suc flag) is = elim (set_true told at flag is) [ inl e ↦ inl (ap suc e) | inr h ↦ inr h ]
 
-pub comes_raised : (c : RunContents) (hs : List Happening) (r q : Replay) (place flag : ℕ) (v w : Walker) → HasCome c hs r → slice_get r.walkers.items place ≡ Some v → Moves r.types.items v (raised v.dom flag) w
+pub comes_raised : (c : RunContents) (hs : List Happening) (r q : Replay) (place flag : ℕ) (v w : Walker) → HasWalked c hs r → slice_get r.walkers.items place ≡ Some v → Moves r.types.items v (raised v.dom flag) w
     → q.core ≡ r.core → q.types.items ≡ r.types.items → q.walkers.items ≡ set r.walkers.items place w → q.told.items ≡ set r.told.items flag true
     → ComesOn c hs q
 comes_raised c hs r q place flag v w come at moves core types walkers told =
@@ -265,7 +266,7 @@ comes_raised c hs r q place flag v w come at moves core types walkers told =
       | inr was ↦ raised_later f hs (raised v.dom flag) (come.told f was)
     ])
 
-pub comes_passed : (c : RunContents) (hs : List Happening) (r q : Replay) (place flag : ℕ) (v w : Walker) → HasCome c hs r → slice_get r.walkers.items place ≡ Some v → Moves r.types.items v (passed v.dom flag) w
+pub comes_passed : (c : RunContents) (hs : List Happening) (r q : Replay) (place flag : ℕ) (v w : Walker) → HasWalked c hs r → slice_get r.walkers.items place ≡ Some v → Moves r.types.items v (passed v.dom flag) w
     → get_or r.told.items flag false ≡ true
     → q.core ≡ r.core → q.types.items ≡ r.types.items → q.walkers.items ≡ set r.walkers.items place w → q.told.items ≡ r.told.items
     → ComesOn c hs q
@@ -275,10 +276,10 @@ comes_passed c hs r q place flag v w come at moves is core types walkers told =
     (λ f told_f. raised_later f hs (passed v.dom flag) (come.told f (ap (λ (l : List Bool). get_or l f false) (sym told) ∙ told_f)))
 
 -- what a domain made, if it made a move
-pub comes_made : {E : Type 0} (c : RunContents) (hs : List Happening) (r q : Replay) (place : ℕ) (v w : Walker) (names : List (List ℕ)) (res : Result (Option Moved) E) → HasCome c hs r → slice_get r.walkers.items place ≡ Some v → names ≡ r.types.items
+pub comes_made : {E : Type 0} (c : RunContents) (hs : List Happening) (r q : Replay) (place : ℕ) (v w : Walker) (names : List (List ℕ)) (res : Result (Option Moved) E) → HasWalked c hs r → slice_get r.walkers.items place ≡ Some v → names ≡ r.types.items
     → q.core.config ≡ r.core.config → q.core.rights ≡ r.core.rights → q.types.items ≡ r.types.items → q.walkers.items ≡ set r.walkers.items place w → q.told.items ≡ r.told.items
-    → IfOk res (λ m. IsSome m → Makes (setting_in may_by r.core) names r.core.state v q.core.state w) → IfOk res (λ m. IsSome m → ComesOn c hs q)
+    → IfOk res (λ m. IsSome m → WalksTo (setting_in may_by r.core) names r.core.state v q.core.state w) → IfOk res (λ m. IsSome m → ComesOn c hs q)
 comes_made c hs r q place v w names (Err e) come at typed config rights types walkers told made = tt
 comes_made c hs r q place v w names (Ok m) come at typed config rights types walkers told made = λ some.
-    comes_by c hs r q place v w come at (subst (λ (l : List (List ℕ)). Makes (setting_in may_by r.core) l r.core.state v q.core.state w) typed (made some))
+    comes_by c hs r q place v w come at (subst (λ (l : List (List ℕ)). WalksTo (setting_in may_by r.core) l r.core.state v q.core.state w) typed (made some))
     (ap (λ (x : Config). setting_of x (may_by q.core.rights)) config ∙ ap (λ (x : Rights). setting_of r.core.config (may_by x)) rights) types walkers told

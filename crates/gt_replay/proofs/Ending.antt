@@ -12,27 +12,27 @@ use Rattle.gt_script.specs.Contents.{type_names}
 use Rattle.gt_script.specs.RunContents.{RunContents}
 use Rattle.gt_script.specs.RunScripts.{list_of}
 use Rattle.gt_script.specs.declared.tasks.Task.{Task}
-use Rattle.gt_replay.specs.Orders.{Happening, own, AllFollow, Follows, IsOrderOf, MayGive}
-use Rattle.gt_replay.specs.Walking.{Continues, HasCome, HasFollowed, IsAtEnd, tasks_of}
+use Rattle.gt_replay.specs.Orders.{Happening, own_happenings, AllFollow, FollowsList, IsOrderOf, MayGive}
+use Rattle.gt_replay.specs.Walking.{Continues, HasWalked, HasFollowed, IsAtEnd, tasks_left_of}
 use Rattle.gt_replay.specs.declared.replay.Replay.{Replay}
 use Rattle.gt_replay.specs.declared.walker.Doing.{Doing}
 use Rattle.gt_replay.specs.declared.walker.Walker.{Walker}
 use Rattle.gt_replay.proofs.Places.{drop_all}
 
 -- a domain at its end has followed its list
-finished : (c : RunContents) (hs : List Happening) (w : Walker) → HasFollowed c hs w → IsAtEnd w → Follows (type_names c.head) w.dom [] [] (list_of c.tasks w.dom) (own w.dom hs) w.text.items
+finished : (c : RunContents) (hs : List Happening) (w : Walker) → HasFollowed c hs w → IsAtEnd w → FollowsList (type_names c.head) w.dom [] [] (list_of c.tasks w.dom) (own_happenings w.dom hs) w.text.items
 unfolding Continues
 finished c hs w (named, names, follows) end =
-    let nothing : Follows (type_names c.head) w.dom named [] [] [] [] = ([], (refl, refl), refl) in
-    let held = subst (λ (l : List Handle). Follows (type_names c.head) w.dom named l [] [] []) (sym end.held) nothing in
-    let left = subst (λ (l : List Task). Follows (type_names c.head) w.dom named w.held.items l [] []) (sym (drop_all (tasks_of w) w.next end.left)) held in
+    let nothing : FollowsList (type_names c.head) w.dom named [] [] [] [] = ([], (refl, refl), refl) in
+    let held = subst (λ (l : List Handle). FollowsList (type_names c.head) w.dom named l [] [] []) (sym end.held) nothing in
+    let left = subst (λ (l : List Task). FollowsList (type_names c.head) w.dom named w.held.items l [] []) (sym (drop_all (tasks_left_of w) w.next end.left)) held in
     let still = subst (λ (d : Doing). Continues (type_names c.head) w named d [] []) (sym end.doing) left in
     let one = follows [] [] still in
-    let two = subst (λ (l : List Happening). Follows (type_names c.head) w.dom [] [] (list_of c.tasks w.dom) l (w.text.items ++ [])) (append-nil (own w.dom hs)) one in
-    subst (λ (l : List ℕ). Follows (type_names c.head) w.dom [] [] (list_of c.tasks w.dom) (own w.dom hs) l) (append-nil w.text.items) two
+    let two = subst (λ (l : List Happening). FollowsList (type_names c.head) w.dom [] [] (list_of c.tasks w.dom) l (w.text.items ++ [])) (append-nil (own_happenings w.dom hs)) one in
+    subst (λ (l : List ℕ). FollowsList (type_names c.head) w.dom [] [] (list_of c.tasks w.dom) (own_happenings w.dom hs) l) (append-nil w.text.items) two
 
 all_follow : (c : RunContents) (hs : List Happening) (ws : List Walker) (ds : List DomainConfig) → map (λ (w : Walker). w.dom) ws ≡ map (λ (d : DomainConfig). d.id) ds
-    → ((k : ℕ) (w : Walker) → slice_get ws k ≡ Some w → Follows (type_names c.head) w.dom [] [] (list_of c.tasks w.dom) (own w.dom hs) w.text.items)
+    → ((k : ℕ) (w : Walker) → slice_get ws k ≡ Some w → FollowsList (type_names c.head) w.dom [] [] (list_of c.tasks w.dom) (own_happenings w.dom hs) w.text.items)
     → AllFollow c hs ds (flat_map (λ (w : Walker). w.text.items) ws)
 all_follow c hs [] [] same each = refl
 all_follow c hs [] (d ∷ ds) same each = absurd (omega (arith, ap length same))
@@ -42,11 +42,11 @@ all_follow c hs (w ∷ ws) (d ∷ ds) same each =
     let rest : map (λ (u : Walker). u.dom) ws ≡ map (λ (e : DomainConfig). e.id) ds = cc in (
       w.text.items,
       (flat_map (λ (u : Walker). u.text.items) ws, refl, all_follow c hs ws ds rest (λ k u at. each (suc k) u at)),
-      subst (λ (i : DomId). Follows (type_names c.head) i [] [] (list_of c.tasks i) (own i hs) w.text.items) here (each zero w refl),
+      subst (λ (i : DomId). FollowsList (type_names c.head) i [] [] (list_of c.tasks i) (own_happenings i hs) w.text.items) here (each zero w refl),
     )
 
 -- all of them are at their ends, and this is what they printed
-pub ends : (c : RunContents) (hs : List Happening) (r : Replay) (text : List ℕ) → HasCome c hs r → ((k : ℕ) (w : Walker) → slice_get r.walkers.items k ≡ Some w → IsAtEnd w)
+pub ends : (c : RunContents) (hs : List Happening) (r : Replay) (text : List ℕ) → HasWalked c hs r → ((k : ℕ) (w : Walker) → slice_get r.walkers.items k ≡ Some w → IsAtEnd w)
     → text ≡ flat_map (λ (w : Walker). w.text.items) r.walkers.items → IsOrderOf c hs text
 ends c hs r text come all is = record {
   legal = come.legal;
@@ -80,7 +80,7 @@ ends_more ws i v within is here below = λ k w lt at. elim (last_or k i lt) [
     last_or (suc k) zero lt = absurd (omega arith)
     last_or (suc k) (suc i) lt = elim (last_or k i (omega arith)) [ inl a ↦ inl (omega arith) | inr b ↦ inr (ap suc b) ]
 
-pub ends_all : (c : RunContents) (hs : List Happening) (r : Replay) (text : List ℕ) (ws : List Walker) (i : ℕ) → HasCome c hs r → ws ≡ r.walkers.items → length ws ≤ i
+pub ends_all : (c : RunContents) (hs : List Happening) (r : Replay) (text : List ℕ) (ws : List Walker) (i : ℕ) → HasWalked c hs r → ws ≡ r.walkers.items → length ws ≤ i
     → text ≡ flat_map (λ (w : Walker). w.text.items) (take i ws) → ((k : ℕ) (w : Walker) → k < i → slice_get ws k ≡ Some w → IsAtEnd w) → IsOrderOf c hs text
 ends_all c hs r text ws i come same all is each =
     ends c hs r text come

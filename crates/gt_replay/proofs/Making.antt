@@ -23,9 +23,9 @@ use Rattle.gt_lines.specs.declared.calls.ScriptCall.{ScriptCall}
 use Rattle.gt_script.specs.declared.tasks.Deed.TheVariants.{Do}
 use Rattle.gt_script.specs.declared.tasks.Task.{Task}
 use Rattle.gt_host.specs.Naming.{AreNamed}
-use Rattle.gt_host.specs.Runs.{Named, Asks, answer_in}
+use Rattle.gt_host.specs.Runs.{Named, SaysRequest, answer_in}
 use Rattle.gt_replay.specs.Orders.{given_up}
-use Rattle.gt_replay.specs.Walking.{Answers, IsClosed, IsClosedFrom, Makes, tasks_of}
+use Rattle.gt_replay.specs.Walking.{AnswersLine, ClosesCall, IsClosedFrom, WalksTo, tasks_left_of}
 use Rattle.gt_replay.specs.declared.walker.Doing.{Doing}
 use Rattle.gt_replay.specs.declared.walker.Doing.TheVariants as doing
 use Rattle.gt_replay.specs.declared.walker.Walker.{Walker}
@@ -36,11 +36,11 @@ abbrev pub BeginsSo : Setting → CoreState → CoreState → Walker → Request
 BeginsSo s old new v request b = (h : History) → CoreStands s h old
     → MayDo s h (Begin v.dom request) (begun_element v.dom request b) × CoreStands s (grown h (begun_element v.dom request b)) new
 
-pub closed_line : (types : List (List ℕ)) (answer : Answer) (v w : Walker) (line : ℕ) (call : Bor ScriptCall) (lost : Option Handle) → v.doing ≡ doing.Line line call lost → Answers types line call.now lost answer v w → IsClosed types answer v w
+pub closed_line : (types : List (List ℕ)) (answer : Answer) (v w : Walker) (line : ℕ) (call : Bor ScriptCall) (lost : Option Handle) → v.doing ≡ doing.Line line call lost → AnswersLine types line call.now lost answer v w → ClosesCall types answer v w
 unfolding IsClosedFrom
 closed_line types answer v w line call lost is a = subst (λ (d : Doing). IsClosedFrom types d answer v w) (sym is) a
 
-pub closed_back : (types : List (List ℕ)) (answer : Answer) (v w : Walker) → v.doing ≡ doing.GivesBack → answer ≡ Done → w ≡ record v { doing = doing.Nothing } → IsClosed types answer v w
+pub closed_back : (types : List (List ℕ)) (answer : Answer) (v w : Walker) → v.doing ≡ doing.GivesBack → answer ≡ Done → w ≡ record v { doing = doing.Nothing } → ClosesCall types answer v w
 unfolding IsClosedFrom
 closed_back types answer v w is done to = subst (λ (d : Doing). IsClosedFrom types d answer v w) (sym is) (done, to)
 
@@ -51,11 +51,11 @@ TicksSo s old new v t = (h : History) → CoreStands s h old
 
 -- a line's call asks this
 abbrev pub AsksSo : Walker → ScriptCall → Request → Type 0
-AsksSo v call request = (named : List Named) → AreNamed v.labels named → Asks named v.dom call request
+AsksSo v call request = (named : List Named) → AreNamed v.labels named → SaysRequest named v.dom call request
 
 pub line_open : (s : Setting) (types : List (List ℕ)) (old new : CoreState) (v : Walker) (task : Task) (call : Bor ScriptCall) (request : Request) (lost : Option Handle) (b : Begun)
-    → slice_get (tasks_of v) v.next ≡ Some task → task.deed ≡ Do call.now → v.doing ≡ doing.Nothing → AsksSo v call.now request → lost ≡ given_up request → b ≡ begun.Open → BeginsSo s old new v request b
-    → Makes s types old v new (record v { next = v.next + 1; doing = doing.Line task.line call lost })
+    → slice_get (tasks_left_of v) v.next ≡ Some task → task.deed ≡ Do call.now → v.doing ≡ doing.Nothing → AsksSo v call.now request → lost ≡ given_up request → b ≡ begun.Open → BeginsSo s old new v request b
+    → WalksTo s types old v new (record v { next = v.next + 1; doing = doing.Line task.line call lost })
 line_open s types old new v task call request lost b at does idle asks gives is told = λ h stands.
     let so = told h stands in (
       Begin v.dom request,
@@ -66,8 +66,8 @@ line_open s types old new v task call request lost b at does idle asks gives is 
     )
 
 pub line_done : (s : Setting) (types : List (List ℕ)) (old new : CoreState) (v w : Walker) (task : Task) (call : Bor ScriptCall) (request : Request) (lost : Option Handle) (b : Begun) (answer : Answer)
-    → slice_get (tasks_of v) v.next ≡ Some task → task.deed ≡ Do call.now → v.doing ≡ doing.Nothing → AsksSo v call.now request → lost ≡ given_up request → b ≡ begun.Done answer → BeginsSo s old new v request b
-    → Answers types task.line call.now lost answer (record v { next = v.next + 1 }) w → Makes s types old v new w
+    → slice_get (tasks_left_of v) v.next ≡ Some task → task.deed ≡ Do call.now → v.doing ≡ doing.Nothing → AsksSo v call.now request → lost ≡ given_up request → b ≡ begun.Done answer → BeginsSo s old new v request b
+    → AnswersLine types task.line call.now lost answer (record v { next = v.next + 1 }) w → WalksTo s types old v new w
 line_done s types old new v w task call request lost b answer at does idle asks gives is told a = λ h stands.
     let so = told h stands in (
       Begin v.dom request,
@@ -79,10 +79,10 @@ line_done s types old new v w task call request lost b answer at does idle asks 
 
 pub back_open : (s : Setting) (types : List (List ℕ)) (old new : CoreState) (v w : Walker) (before after : List Handle) (handle : Handle) (b : Begun)
     → length v.tasks.items ≤ v.next → v.doing ≡ doing.Nothing → v.held.items ≡ before ++ handle ∷ after
-    → w ≡ record v { doing = doing.GivesBack; held = w.held } → w.held.items ≡ before ++ after → b ≡ begun.Open → BeginsSo s old new v (Unmap handle) b → Makes s types old v new w
+    → w ≡ record v { doing = doing.GivesBack; held = w.held } → w.held.items ≡ before ++ after → b ≡ begun.Open → BeginsSo s old new v (Unmap handle) b → WalksTo s types old v new w
 back_open s types old new v w before after handle b all idle holds same left is told = λ h stands.
     let so = told h stands in
-    let end : length (tasks_of v) ≤ v.next = simp length-map all in (
+    let end : length (tasks_left_of v) ≤ v.next = simp length-map all in (
       Begin v.dom (Unmap handle),
       begun_element v.dom (Unmap handle) b,
       so.0,
@@ -92,13 +92,13 @@ back_open s types old new v w before after handle b all idle holds same left is 
     )
 
 pub step_open : (s : Setting) (types : List (List ℕ)) (old new : CoreState) (v : Walker) (t : Ticked) (step : Step) (seen : Seen)
-    → v.doing ≢ doing.Nothing → t ≡ ticked.Step step seen → TicksSo s old new v t → Makes s types old v new v
+    → v.doing ≢ doing.Nothing → t ≡ ticked.Step step seen → TicksSo s old new v t → WalksTo s types old v new v
 step_open s types old new v t step seen busy is told = λ h stands.
     let so = told h stands in
     (Tick v.dom, ticked_element v.dom t, so.0, so.1, ticks_open types v (ticked_element v.dom t) busy (ap (λ (x : Ticked). answer_in (ticked_element v.dom x)) is))
 
 pub step_done : (s : Setting) (types : List (List ℕ)) (old new : CoreState) (v w : Walker) (t : Ticked) (step : Step) (seen : Seen) (answer : Answer)
-    → t ≡ ticked.Done step seen answer → TicksSo s old new v t → IsClosed types answer v w → Makes s types old v new w
+    → t ≡ ticked.Done step seen answer → TicksSo s old new v t → ClosesCall types answer v w → WalksTo s types old v new w
 step_done s types old new v w t step seen answer is told closed = λ h stands.
     let so = told h stands in
     (Tick v.dom, ticked_element v.dom t, so.0, so.1, ticks_done types v w (ticked_element v.dom t) answer (ap (λ (x : Ticked). answer_in (ticked_element v.dom x)) is) closed)

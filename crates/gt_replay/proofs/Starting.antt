@@ -25,8 +25,8 @@ use Rattle.gt_script.specs.declared.tasks.Task.{Task}
 use Rattle.gt_host.specs.declared.rights.Rights.{Rights}
 use Rattle.gt_host.specs.Playing.{StartsFor, setting_of_script}
 use Rattle.gt_host.specs.Rights.{may_by, may_in}
-use Rattle.gt_replay.specs.Orders.{Follows}
-use Rattle.gt_replay.specs.Walking.{AreApart, Continues, HasCome, HasFollowed, IsFirst, tasks_of}
+use Rattle.gt_replay.specs.Orders.{FollowsList}
+use Rattle.gt_replay.specs.Walking.{HaveOwnIds, Continues, HasWalked, HasFollowed, StartsWalk, tasks_left_of}
 use Rattle.gt_replay.specs.declared.replay.Replay.{Replay}
 use Rattle.gt_replay.specs.declared.walker.Doing.{Doing}
 use Rattle.gt_replay.specs.declared.walker.Walker.{Walker}
@@ -50,8 +50,8 @@ starts_for c core config rights same_config same_rights stands domains generatio
   stands = subst (λ (s : Setting). CoreStands s [] core.state) (sym (same_setting core.config config core.rights rights same_config same_rights)) stands;
 }
 
-pub apart_in : (c : Contents) (config : Config) → IsWithinLimits config → config.domains.items ≡ c.domains → AreApart c.domains
-apart_in c config fits domains = subst AreApart domains fits.distinct
+pub apart_in : (c : Contents) (config : Config) → IsWithinLimits config → config.domains.items ≡ c.domains → HaveOwnIds c.domains
+apart_in c config fits domains = subst HaveOwnIds domains fits.distinct
 
 -- the setting of such a core is that of the script
 setting_is : (c : Contents) (core : CoreModel Rights) → StartsFor c core → setting_in may_by core ≡ setting_of_script c
@@ -61,17 +61,17 @@ setting_is c core s =
     ∙ ap (λ (m : TypeId → TypeId → Perms → Bool). record { domains = c.domains; first_generation = first_gen c; may = m }) s.rights
 
 -- a domain before its first line
-first_follows : (c : RunContents) (w : Walker) → IsFirst c.tasks w → HasFollowed c [] w
+first_follows : (c : RunContents) (w : Walker) → StartsWalk c.tasks w → HasFollowed c [] w
 unfolding Continues
 first_follows c w first = (
   [],
   first.labels,
   λ more rest go.
       let one = subst (λ (d : Doing). Continues (type_names c.head) w [] d more rest) first.doing go in
-      let two = subst (λ l. Follows (type_names c.head) w.dom [] l (drop w.next (tasks_of w)) more rest) first.held one in
-      let three = subst (λ (n : ℕ). Follows (type_names c.head) w.dom [] [] (drop n (tasks_of w)) more rest) first.next two in
-      let four = subst (λ (l : List Task). Follows (type_names c.head) w.dom [] [] l more rest) first.list three in
-      subst (λ (l : List ℕ). Follows (type_names c.head) w.dom [] [] (list_of c.tasks w.dom) more (l ++ rest)) (sym first.text) four,
+      let two = subst (λ l. FollowsList (type_names c.head) w.dom [] l (drop w.next (tasks_left_of w)) more rest) first.held one in
+      let three = subst (λ (n : ℕ). FollowsList (type_names c.head) w.dom [] [] (drop n (tasks_left_of w)) more rest) first.next two in
+      let four = subst (λ (l : List Task). FollowsList (type_names c.head) w.dom [] [] l more rest) first.list three in
+      subst (λ (l : List ℕ). FollowsList (type_names c.head) w.dom [] [] (list_of c.tasks w.dom) more (l ++ rest)) (sym first.text) four,
 )
 
 none_told : (told : List Bool) (flag : ℕ) → All (λ b. b ≡ false) told → get_or told flag false ≡ true → ⊥
@@ -80,9 +80,9 @@ none_told (b ∷ told) zero all e = let h : b ≡ false = all 0 b (omega arith) 
 none_told (b ∷ told) (suc flag) all e = none_told told flag (λ k d lt. all (suc k) d (omega arith)) e
 
 -- nothing has happened
-pub begins : (c : RunContents) (r : Replay) (domains : List DomainConfig) → StartsFor c.head r.core → AreApart c.head.domains → r.types.items ≡ type_names c.head
-    → map (λ (w : Walker). w.dom) r.walkers.items ≡ map (λ (d : DomainConfig). d.id) domains → domains ≡ c.head.domains → All (IsFirst c.tasks) r.walkers.items → All (λ b. b ≡ false) r.told.items
-    → HasCome c [] r
+pub begins : (c : RunContents) (r : Replay) (domains : List DomainConfig) → StartsFor c.head r.core → HaveOwnIds c.head.domains → r.types.items ≡ type_names c.head
+    → map (λ (w : Walker). w.dom) r.walkers.items ≡ map (λ (d : DomainConfig). d.id) domains → domains ≡ c.head.domains → All (StartsWalk c.tasks) r.walkers.items → All (λ b. b ≡ false) r.told.items
+    → HasWalked c [] r
 begins c r domains starts apart types doms same first told = record {
   setting = setting_is c.head r.core starts;
   types = types;
@@ -93,21 +93,21 @@ begins c r domains starts apart types doms same first told = record {
   told = λ flag is. absurd (none_told r.told.items flag told is);
   domains = doms ∙ ap (map (λ (d : DomainConfig). d.id)) same;
   apart = apart;
-  followed = λ k w at. first_follows c w (subst (IsFirst c.tasks) (get_or_from_slice_get r.walkers.items k w w at) (first k w (slice_get_within r.walkers.items k w at)));
+  followed = λ k w at. first_follows c w (subst (StartsWalk c.tasks) (get_or_from_slice_get r.walkers.items k w w at) (first k w (slice_get_within r.walkers.items k w at)));
 }
 
 -- the walker of one domain more
-pub walkers_more : (tasks : List Task) (domains : List DomainConfig) (walkers : List Walker) (i : ℕ) (w : Walker) (d : DomainConfig) → i < length domains → w.dom ≡ (get_or domains i d).id → IsFirst tasks w
-    → (map (λ (u : Walker). u.dom) walkers ≡ map (λ (e : DomainConfig). e.id) (take i domains)) × All (IsFirst tasks) walkers
-    → (map (λ (u : Walker). u.dom) (walkers ++ w ∷ []) ≡ map (λ (e : DomainConfig). e.id) (take (i + 1) domains)) × All (IsFirst tasks) (walkers ++ w ∷ [])
+pub walkers_more : (tasks : List Task) (domains : List DomainConfig) (walkers : List Walker) (i : ℕ) (w : Walker) (d : DomainConfig) → i < length domains → w.dom ≡ (get_or domains i d).id → StartsWalk tasks w
+    → (map (λ (u : Walker). u.dom) walkers ≡ map (λ (e : DomainConfig). e.id) (take i domains)) × All (StartsWalk tasks) walkers
+    → (map (λ (u : Walker). u.dom) (walkers ++ w ∷ []) ≡ map (λ (e : DomainConfig). e.id) (take (i + 1) domains)) × All (StartsWalk tasks) (walkers ++ w ∷ [])
 walkers_more tasks domains walkers i w d within is first (doms, all) = (
   map-append (λ (u : Walker). u.dom) walkers (w ∷ []) ∙ ap (λ l. l ++ w.dom ∷ []) doms
       ∙ ap (λ x. map (λ (e : DomainConfig). e.id) (take i domains) ++ x ∷ []) is ∙ sym (map_more (λ (e : DomainConfig). e.id) domains i d within),
-  All-push (IsFirst tasks) walkers w all first,
+  All-push (StartsWalk tasks) walkers w all first,
 )
 
 pub walker_first : (tasks : List Task) (w : Walker) (list : List (Bor Task)) (dom : DomId) → map (λ (t : Bor Task). t.now) list ≡ list_of tasks dom → w.dom ≡ dom → w.tasks.items ≡ list → w.next ≡ 0 → w.doing ≡ Nothing → AreNamed w.labels [] → w.held.items ≡ [] → w.text.items ≡ []
-    → IsFirst tasks w
+    → StartsWalk tasks w
 walker_first tasks w list dom is d t next doing labels held text = record {
   list = ap (map (λ (x : Bor Task). x.now)) t ∙ is ∙ ap (list_of tasks) (sym d);
   next = next;

@@ -3,7 +3,7 @@ use Rattle.std.specs.Prelude.{◌≡◌, ◌≢◌, ◌<◌, ◌++◌, ◌==◌,
 use Rattle.std.specs.Prelude.{slice_get}
 use Rattle.gt_replay.specs.Prelude.{domain_of, DomId, DomainConfig, Handle, Request, Unmap, Legal, actor_of, Answer}
 use Rattle.gt_replay.specs.Prelude.{Done, Mapped, Element, Event, Begin, Tick, type_names, RunContents, list_of, Deed}
-use Rattle.gt_replay.specs.Prelude.{Do, Tell, Await, Task, setting_of_script, answer_line, Named, Asks, EndsWith}
+use Rattle.gt_replay.specs.Prelude.{Do, Tell, Await, Task, setting_of_script, answer_line, Named, SaysRequest, EndsWith}
 use Rattle.gt_replay.specs.Prelude.{handle_given, label_given, with_name}
 
 -- orders
@@ -22,8 +22,8 @@ doer (raised d flag) = d
 doer (passed d flag) = d
 
 -- what one domain does, in its order
-abbrev pub own : DomId → List Happening → List Happening
-own dom hs = filter (λ x. (doer x).0 == dom.0) hs
+abbrev pub own_happenings : DomId → List Happening → List Happening
+own_happenings dom hs = filter (λ x. (doer x).0 == dom.0) hs
 
 -- the events of an order, as the core is asked them
 abbrev pub events_in : List Happening → List Event
@@ -55,14 +55,14 @@ abbrev pub ticks_of : DomId → List Element → List Happening
 ticks_of dom trace = map (λ x. did (Tick dom) x) trace
 
 -- an open call goes on to its answer, by ticks of its domain, and after that it goes on so
-abbrev pub GoesOn : DomId → (Answer → List Happening → Type 0) → List Happening → Type 0
-GoesOn dom After hs =
+abbrev pub CallGoesOn : DomId → (Answer → List Happening → Type 0) → List Happening → Type 0
+CallGoesOn dom After hs =
     (trace : List Element) × (answer : Answer) × (more : List Happening)
     × (hs ≡ ticks_of dom trace ++ more) × EndsWith trace answer × After answer more
 
 -- a domain makes the call that is asked, from its beginning to its answer, and after that it goes on so
-abbrev pub Calls : DomId → Request → (Answer → List Happening → Type 0) → List Happening → Type 0
-Calls dom request After hs =
+abbrev pub CallHappens : DomId → Request → (Answer → List Happening → Type 0) → List Happening → Type 0
+CallHappens dom request After hs =
     (first : Element) × (trace : List Element) × (answer : Answer) × (more : List Happening)
     × (hs ≡ did (Begin dom request) first ∷ (ticks_of dom trace ++ more))
     × EndsWith (first ∷ trace) answer × After answer more
@@ -85,11 +85,12 @@ held_after held lost answer = held
 
 -- A domain at the end of its list gives back all that it holds, in this order: by unmaps, each
 -- answered Ok. (The running monitor does so when the domain leaves.)
-abbrev pub GivesBack : DomId → List Handle → List Handle → List Happening → Type 0
-GivesBack dom [] held hs = (held ≡ []) × (hs ≡ [])
-GivesBack dom (handle ∷ order) held hs =
+abbrev pub GivesMappingsBack : DomId → List Handle → List Handle → List Happening → Type 0
+GivesMappingsBack dom [] held hs = (held ≡ []) × (hs ≡ [])
+GivesMappingsBack dom (handle ∷ order) held hs =
     (before : List Handle) × (after : List Handle) × (held ≡ before ++ handle ∷ after)
-    × Calls dom (Unmap handle) (λ answer more. (answer ≡ Done) × GivesBack dom order (before ++ after) more) hs
+    × CallHappens dom (Unmap handle)
+        (λ answer more. (answer ≡ Done) × GivesMappingsBack dom order (before ++ after) more) hs
 
 -- after a call of this line the text goes on with its answer
 abbrev pub Prints : List ℕ → (List ℕ → Type 0) → List ℕ → Type 0
@@ -104,18 +105,18 @@ DoesDeed types dom named held line (Tell flag) Next hs text =
 DoesDeed types dom named held line (Await flag) Next hs text =
     (more : List Happening) × (hs ≡ passed dom flag ∷ more) × Next named held more text
 DoesDeed types dom named held line (Do call) Next hs text =
-    (request : Request) × Asks named dom call request
-    × Calls dom request (λ answer more.
+    (request : Request) × SaysRequest named dom call request
+    × CallHappens dom request (λ answer more.
     Prints (answer_line types line dom answer)
     (Next (with_name named dom (label_given call) (handle_given answer)) (held_after held (given_up request) answer) more)
     text) hs
 
 -- a domain does what its list says, line by line, and then gives back what it holds; this is what it prints
-abbrev pub Follows : List (List ℕ) → DomId → List Named → List Handle → List Task → List Happening → List ℕ → Type 0
-Follows types dom named held [] hs text = (order : List Handle) × GivesBack dom order held hs × (text ≡ [])
-Follows types dom named held (t ∷ ts) hs text =
+abbrev pub FollowsList : List (List ℕ) → DomId → List Named → List Handle → List Task → List Happening → List ℕ → Type 0
+FollowsList types dom named held [] hs text = (order : List Handle) × GivesMappingsBack dom order held hs × (text ≡ [])
+FollowsList types dom named held (t ∷ ts) hs text =
     DoesDeed types dom named held t.line t.deed
-    (λ names holds more rest. Follows types dom names holds ts more rest) hs text
+    (λ names holds more rest. FollowsList types dom names holds ts more rest) hs text
 
 -- scripts
 
@@ -124,7 +125,7 @@ abbrev pub AllFollow : RunContents → List Happening → List DomainConfig → 
 AllFollow c hs [] text = text ≡ []
 AllFollow c hs (d ∷ ds) text =
     (part : List ℕ) × Prints part (AllFollow c hs ds) text
-    × Follows (type_names c.head) d.id [] [] (list_of c.tasks d.id) (own d.id hs) part
+    × FollowsList (type_names c.head) d.id [] [] (list_of c.tasks d.id) (own_happenings d.id hs) part
 
 -- one order of a script's run, and its text: what the core did is a legal trace, each domain follows
 -- its list, nobody else does anything, and no flag is passed that was not raised before

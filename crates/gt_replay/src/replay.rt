@@ -1,11 +1,11 @@
 //! One order of a script's run, move by move.
 ghost use Rattle.std.specs.Prelude.{◌≡◌, true, false, map, All, IfOk, IfSome, IsOk, IsTrue, slice_set, get_or};
-ghost use Rattle.gt_script.specs.Contents.{told};
+ghost use Rattle.gt_script.specs.Contents.{contents_told};
 ghost use Rattle.gt_script.specs.RunContents.{run_told};
 ghost use Rattle.gt_script.specs.RunScripts.{CanConfigure};
 ghost use Rattle.gt_host.specs.Playing.{StartsFor};
 ghost use Rattle.gt_replay.specs.Orders.{MayGive};
-ghost use Rattle.gt_replay.specs.Walking.{AreApart, IsFirst};
+ghost use Rattle.gt_replay.specs.Walking.{HaveOwnIds, StartsWalk};
 
 use crate::fault::ReplayFault;
 use crate::walker::Walker;
@@ -52,7 +52,7 @@ fn walkers_of<'s, 'a>(
     domains: &[DomainConfig],
 ) -> Result<Vec<Walker<'s, 'a>>, AllocError>
     ensures doms { IfOk result (λ walkers. map (λ w. w.dom) walkers.items ≡ map (λ d. d.id) domains.now) }
-    ensures first { IfOk result (λ walkers. All (IsFirst script.entry.now.tasks) walkers.items) }
+    ensures first { IfOk result (λ walkers. All (StartsWalk script.entry.now.tasks) walkers.items) }
 {
     let mut walkers = Vec::new(alloc);
     'domains: for domain in domains {
@@ -64,9 +64,9 @@ fn walkers_of<'s, 'a>(
 
 // A core with the domains and the rights of a script.
 fn start(alloc: Global, script: &Script) -> Result<Core<Rights>, ReplayFault>
-    requires { CanConfigure (told script.now) }
-    ensures starts { IfOk result (StartsFor (told script.now)) }
-    ensures apart { IsOk result → AreApart (told script.now).domains }
+    requires { CanConfigure (contents_told script.now) }
+    ensures starts { IfOk result (StartsFor (contents_told script.now)) }
+    ensures apart { IsOk result → HaveOwnIds (contents_told script.now).domains }
 {
     let config = Config {
         domains: Vec::from_slice(alloc, script.domains())?,
@@ -82,7 +82,7 @@ fn start(alloc: Global, script: &Script) -> Result<Core<Rights>, ReplayFault>
 
 // So many flags, of which none is raised.
 fn no_flags(alloc: Global, count: usize) -> Result<Vec<bool>, AllocError>
-    ensures { IfOk result (λ told. All (λ t. t ≡ false) told.items) }
+    ensures { IfOk result (λ contents_told. All (λ t. t ≡ false) contents_told.items) }
 {
     let mut told = Vec::new(alloc);
     'flags: for _ in 0..count {
@@ -93,7 +93,7 @@ fn no_flags(alloc: Global, count: usize) -> Result<Vec<bool>, AllocError>
 
 // A domain raises a flag. Answers whether there is such a flag.
 fn raise(told: &mut Vec<bool>, flag: usize) -> bool
-    ensures { IsTrue result → told.new.items ≡ slice_set told.old.items flag true }
+    ensures { IsTrue result → contents_told.new.items ≡ slice_set contents_told.old.items flag true }
 {
     if flag >= told.len() {
         return false;
@@ -104,26 +104,26 @@ fn raise(told: &mut Vec<bool>, flag: usize) -> bool
 
 // A flag is raised.
 fn is_raised(told: &[bool], flag: usize) -> bool
-    ensures { IsTrue result → get_or told.now flag false ≡ true }
+    ensures { IsTrue result → get_or contents_told.now flag false ≡ true }
 {
     flag < told.len() && told[flag]
 }
 
 impl<'s, 'a> Replay<'s, 'a> {
     ghost use Rattle.std.specs.Prelude.{◌≡◌, List, [], IfOk, IfSome, IsSome};
-    ghost use Rattle.gt_script.specs.Contents.{told};
+    ghost use Rattle.gt_script.specs.Contents.{contents_told};
     ghost use Rattle.gt_script.specs.RunContents.{RunContents, run_told};
     ghost use Rattle.gt_script.specs.RunScripts.{CanConfigure};
     ghost use Rattle.gt_replay.specs.Orders.{Happening, IsOrderOf};
-    ghost use Rattle.gt_replay.specs.Walking.{ComesOn, HasCome};
+    ghost use Rattle.gt_replay.specs.Walking.{ComesOn, HasWalked};
 
     /// The domains of the script before the first lines of their lists, on a core at rest.
     ///
     /// # Errors
     /// `Memory` if memory was refused.
     pub fn new(alloc: Global, script: &'s RunScript<'a>) -> Result<Replay<'s, 'a>, ReplayFault>
-        requires { CanConfigure (told script.now.head) }
-        ensures { IfOk result (HasCome (run_told script.entry.now) []) }
+        requires { CanConfigure (contents_told script.now.head) }
+        ensures { IfOk result (HasWalked (run_told script.entry.now) []) }
     {
         let head = script.head();
         let walkers = walkers_of(alloc, script, head.domains())?;
@@ -160,7 +160,7 @@ impl<'s, 'a> Replay<'s, 'a> {
     /// # Errors
     /// `Memory` if memory was refused; `Keeps` if the domain can't give a mapping back.
     pub fn advance(&mut self, turn: Turn) -> Result<Option<Moved>, ReplayFault>
-        ensures { (c : RunContents) (hs : List Happening) → HasCome c hs self.old →
+        ensures { (c : RunContents) (hs : List Happening) → HasWalked c hs self.old →
             IfOk result (λ m. IsSome m → ComesOn c hs self.new) }
     {
         if turn.place >= self.walkers.len() {
@@ -193,7 +193,7 @@ impl<'s, 'a> Replay<'s, 'a> {
 
     /// The text of the run: the lines of the first domain's answers first. None if some domain is not at its end.
     pub fn text(&self) -> Result<Option<Vec<u8>>, AllocError>
-        ensures { (c : RunContents) (hs : List Happening) → HasCome c hs self.now →
+        ensures { (c : RunContents) (hs : List Happening) → HasWalked c hs self.now →
             IfOk result (λ t. IfSome t (λ text. IsOrderOf c hs text.items)) }
     {
         let mut text = Vec::new(self.alloc);
@@ -217,7 +217,7 @@ pub fn text_of<'s, 'a>(
     script: &'s RunScript<'a>,
     turns: &[Turn],
 ) -> Result<Option<Vec<u8>>, ReplayFault>
-    requires { CanConfigure (told script.now.head) }
+    requires { CanConfigure (contents_told script.now.head) }
     ensures { IfOk result (λ t. IfSome t (λ text. MayGive (run_told script.now) text.items)) }
 {
     let mut run = Replay::new(alloc, script)?;

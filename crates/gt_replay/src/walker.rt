@@ -102,7 +102,7 @@ impl<'s, 'a> Walker<'s, 'a> {
     ghost use Rattle.std.specs.Prelude.{◌≡◌, ◌≢◌, ◌+◌, ◌<◌, ◌≤◌, [], false, length, slice_get, IfNone, IsSome, IsTrue};
     ghost use Rattle.std.specs.Option.{option_map};
     ghost use Rattle.gt_host.specs.Naming.{AreNamed};
-    ghost use Rattle.gt_replay.specs.Walking.{IsAtEnd, tasks_of};
+    ghost use Rattle.gt_replay.specs.Walking.{IsAtEnd, tasks_left_of};
     ghost use Rattle.gt_replay.specs.declared.walker.Doing.TheVariants as doing;
 
     /// The domain of this number before the first line of its list.
@@ -183,7 +183,7 @@ impl<'s, 'a> Walker<'s, 'a> {
 
     /// Its next task, none at the end of its list.
     pub fn task(&self) -> Option<&'s Task<'a>>
-        ensures task { option_map (λ t. t.now) result ≡ slice_get (tasks_of self.now) self.now.next }
+        ensures task { option_map (λ t. t.now) result ≡ slice_get (tasks_left_of self.now) self.now.next }
         ensures room { IsSome result → self.now.next < length self.now.tasks.items }
         ensures end { IfNone result (length self.now.tasks.items ≤ self.now.next) }
     {
@@ -200,7 +200,7 @@ impl<'s, 'a> Walker<'s, 'a> {
     ghost use Rattle.gt_core.specs.Standing.{setting_in};
     ghost use Rattle.gt_host.specs.Rights.{may_by};
     ghost use Rattle.gt_script.specs.declared.tasks.Deed.TheVariants as deeds;
-    ghost use Rattle.gt_replay.specs.Walking.{Answers, IsClosed, Makes, tasks_of};
+    ghost use Rattle.gt_replay.specs.Walking.{AnswersLine, ClosesCall, WalksTo, tasks_left_of};
     ghost use Rattle.gt_replay.specs.declared.walker.Doing.TheVariants as doing;
 
     // The call of this line has its answer.
@@ -213,7 +213,7 @@ impl<'s, 'a> Walker<'s, 'a> {
         gone: Option<Handle>,
         answer: &Answer,
     ) -> Result<(), AllocError>
-        ensures { OnOk result (Answers types.now line call.now gone answer.now self.old self.new) }
+        ensures { OnOk result (AnswersLine types.now line call.now gone answer.now self.old self.new) }
     {
         name_mapping(&mut self.labels, self.dom, call, answer)?;
         hold(alloc, &mut self.held, gone, answer)?;
@@ -231,11 +231,11 @@ impl<'s, 'a> Walker<'s, 'a> {
         task: &'s Task<'a>,
         call: &'s ScriptCall<'a>,
     ) -> Result<Option<Moved>, ReplayFault>
-        requires next { slice_get (tasks_of self.old) self.old.next ≡ Some task.now }
+        requires next { slice_get (tasks_left_of self.old) self.old.next ≡ Some task.now }
         requires room { self.old.next < length self.old.tasks.items }
         requires does { task.now.deed ≡ deeds.Do call.now }
         requires idle { self.old.doing ≡ doing.Nothing }
-        ensures makes { IfOk result (λ m. IsSome m → Makes (setting_in may_by core.old) types.now
+        ensures makes { IfOk result (λ m. IsSome m → WalksTo (setting_in may_by core.old) types.now
             core.old.state self.old core.new.state self.new) }
         ensures config { core.new.config ≡ core.old.config }
         ensures rights { core.new.rights ≡ core.old.rights }
@@ -268,7 +268,8 @@ impl<'s, 'a> Walker<'s, 'a> {
     ) -> Result<Option<Moved>, ReplayFault>
         requires end { length self.old.tasks.items ≤ self.old.next }
         requires idle { self.old.doing ≡ doing.Nothing }
-        ensures makes { (types : List (List ℕ)) → IfOk result (λ m. IsSome m → Makes (setting_in may_by core.old) types
+        ensures makes { (types : List (List ℕ)) → IfOk result (λ m. IsSome m
+            → WalksTo (setting_in may_by core.old) types
             core.old.state self.old core.new.state self.new) }
         ensures config { core.new.config ≡ core.old.config }
         ensures rights { core.new.rights ≡ core.old.rights }
@@ -290,7 +291,7 @@ impl<'s, 'a> Walker<'s, 'a> {
 
     // What it has open has this answer.
     fn close(&mut self, alloc: Global, types: &[Text], answer: &Answer) -> Result<bool, ReplayFault>
-        ensures { IfOk result (λ b. IsTrue b → IsClosed types.now answer.now self.old self.new) }
+        ensures { IfOk result (λ b. IsTrue b → ClosesCall types.now answer.now self.old self.new) }
     {
         match self.doing {
             Doing::Nothing => Ok(false),
@@ -316,7 +317,7 @@ impl<'s, 'a> Walker<'s, 'a> {
         types: &[Text],
     ) -> Result<Option<Moved>, ReplayFault>
         requires { self.old.doing ≢ doing.Nothing }
-        ensures makes { IfOk result (λ m. IsSome m → Makes (setting_in may_by core.old) types.now
+        ensures makes { IfOk result (λ m. IsSome m → WalksTo (setting_in may_by core.old) types.now
             core.old.state self.old core.new.state self.new) }
         ensures config { core.new.config ≡ core.old.config }
         ensures rights { core.new.rights ≡ core.old.rights }

@@ -22,7 +22,8 @@ use Rattle.gt_live.specs.declared.domain.Domain.{Domain}
 use Rattle.gt_live.specs.declared.monitor.Monitor.{Monitor}
 use Rattle.gt_types.specs.declared.DomId.{DomId}
 use Rattle.gt_run.specs.Asking.{AnswersCall, Asks}
-use Rattle.gt_run.specs.Serving.{Calls, IsKept, IsTold, Makes, MakesCall, Outcome, Progress, Records, answer_lines}
+use Rattle.gt_run.specs.Serving.{Calls, IsKeptAt, TellsOutcomes, Makes, MakesCall, Outcome, ListProgress, Records}
+use Rattle.gt_run.specs.Serving.{answer_lines}
 use Rattle.gt_run.specs.Serving.{counted, is_logged, lost_in, record_made, records_told}
 use Rattle.gt_run.specs.Telling.{TellsNext, TellsWhere}
 use Rattle.gt_run.specs.declared.lists.Duty.{Duty}
@@ -98,7 +99,7 @@ record Added (logged : Bool) (made : Option Record) (trail : Telling) (teller : 
   lost : ℕ
   records : Records logged made told lost
   asked : is_some teller ≡ logged
-  kept : (line : ℕ) (answer : Answer) → IsTold trail teller (outcomes ++ record { line = line; answer = answer; told = told; lost = lost } ∷ [])
+  kept : (line : ℕ) (answer : Answer) → TellsOutcomes trail teller (outcomes ++ record { line = line; answer = answer; told = told; lost = lost } ∷ [])
 
 -- one outcome more, of a record that went so
 pushed_more : (told : List (ℕ × Record)) (more : List (ℕ × Record)) (records : List Record) (os : List Outcome) (o : Outcome)
@@ -106,7 +107,7 @@ pushed_more : (told : List (ℕ × Record)) (more : List (ℕ × Record)) (recor
 pushed_more told more records os o e f = map-append (λ (x : ℕ × Record). x.1) told more ∙ cc (e, f, told_behind os o)
 
 -- nothing was pushed, and nothing lost
-quiet : (trail : Telling) (t : Teller) (os : List Outcome) (o : Outcome) → o.told ≡ [] → o.lost ≡ 0 → IsTold trail (Some t) os → IsTold trail (Some t) (os ++ o ∷ [])
+quiet : (trail : Telling) (t : Teller) (os : List Outcome) (o : Outcome) → o.told ≡ [] → o.lost ≡ 0 → TellsOutcomes trail (Some t) os → TellsOutcomes trail (Some t) (os ++ o ∷ [])
 quiet trail t os o none zero i = (
   i.0,
   i.1 ∙ sym (told_behind os o ∙ ap (λ (l : List Record). records_told os ++ l) none ∙ append-nil (records_told os)),
@@ -114,7 +115,7 @@ quiet trail t os o none zero i = (
 )
 
 -- there is a record more to push
-tells_one : (old new : Telling) (r : Record) (t u : Teller) (os : List Outcome) → new.records ≡ old.records ++ r ∷ [] → new.lost ≡ old.lost → IsTold old (Some t) os
+tells_one : (old new : Telling) (r : Record) (t u : Teller) (os : List Outcome) → new.records ≡ old.records ++ r ∷ [] → new.lost ≡ old.lost → TellsOutcomes old (Some t) os
     → TellsNext (slice_get new.records t.next) (length new.records) t u → Added true (Some r) new (Some u) os
 tells_one old new r t u os grew same i tells =
     let at : slice_get new.records t.next ≡ Some r =
@@ -147,7 +148,7 @@ tells_one old new r t u os grew same i tells =
     ]
 
 -- the trail lost the record
-tells_lost : (old new : Telling) (r : Record) (t u : Teller) (os : List Outcome) → new.records ≡ old.records → new.lost ≡ counted (old.lost + 1) → IsTold old (Some t) os
+tells_lost : (old new : Telling) (r : Record) (t u : Teller) (os : List Outcome) → new.records ≡ old.records → new.lost ≡ counted (old.lost + 1) → TellsOutcomes old (Some t) os
     → TellsNext (slice_get new.records t.next) (length new.records) t u → Added true (Some r) new (Some u) os
 tells_lost old new r t u os same lost i tells =
     let u_is : u ≡ t = subst (λ (x : Option Record). TellsNext x (length new.records) t u) (none_next old.records new.records t.next i.0 same) tells in
@@ -165,7 +166,7 @@ tells_lost old new r t u os same lost i tells =
     })
 
 -- the call made no record
-tells_none : (old new : Telling) (t u : Teller) (os : List Outcome) → new ≡ old → IsTold old (Some t) os
+tells_none : (old new : Telling) (t u : Teller) (os : List Outcome) → new ≡ old → TellsOutcomes old (Some t) os
     → TellsNext (slice_get new.records t.next) (length new.records) t u → Added true None new (Some u) os
 tells_none old new t u os same i tells =
     let u_is : u ≡ t = subst (λ (x : Option Record). TellsNext x (length new.records) t u)
@@ -175,11 +176,11 @@ tells_none old new t u os same i tells =
       lost = 0;
       records = (refl, refl);
       asked = refl;
-      kept = λ line answer. quiet new t os (record { line = line; answer = answer; told = []; lost = 0 }) refl refl (subst (λ (x : Telling). IsTold x (Some t) os) (sym same) i);
+      kept = λ line answer. quiet new t os (record { line = line; answer = answer; told = []; lost = 0 }) refl refl (subst (λ (x : Telling). TellsOutcomes x (Some t) os) (sym same) i);
     })
 
 -- what the next push came to, where there is a log
-tells_some : (made : Option Record) (old new : Telling) (t u : Teller) (os : List Outcome) → AddsRecord made old new → IsTold old (Some t) os
+tells_some : (made : Option Record) (old new : Telling) (t u : Teller) (os : List Outcome) → AddsRecord made old new → TellsOutcomes old (Some t) os
     → TellsNext (slice_get new.records t.next) (length new.records) t u → Added true made new (Some u) os
 tells_some None old new t u os same i tells = tells_none old new t u os same i tells
 tells_some (Some r) old new t u os a i tells = elim a.told [
@@ -191,7 +192,7 @@ unlogged : (made : Option Record) → Records false made [] 0
 unlogged made = (refl, refl)
 
 -- and without one
-tells_where : (logged : Bool) (made : Option Record) (old new : Telling) (t u : Option Teller) (os : List Outcome) → is_some t ≡ logged → AddsRecord made old new → IsTold old t os
+tells_where : (logged : Bool) (made : Option Record) (old new : Telling) (t u : Option Teller) (os : List Outcome) → is_some t ≡ logged → AddsRecord made old new → TellsOutcomes old t os
     → TellsWhere new t u → Added logged made new u os
 tells_where logged made old new None u os asked a i is =
     subst (λ (b : Bool). Added b made new u os) asked (subst (λ (x : Option Teller). Added false made new x os) (sym is) (record {

@@ -27,13 +27,14 @@ use Rattle.gt_streams.specs.Laws.{appends_both, begins_after, begins_longer, kee
 use Rattle.gt_streams.specs.Streams.{AppendsBeginning}
 use Rattle.gt_host.specs.declared.fault.PlayFault.TheVariants as plays
 use Rattle.gt_run.specs.Asking.{Stand}
-use Rattle.gt_run.specs.Faults.{out_of_memory}
+use Rattle.gt_run.specs.Faults.{run_out_of_memory}
 use Rattle.gt_run.specs.Joining.{IsLate, Joins, WritesNext, WroteStarted}
-use Rattle.gt_run.specs.Printing.{AreDuties, AreServed, BeginsLists, BeginsWhole, CameBy, GoesOn, Served, WritesLists}
+use Rattle.gt_run.specs.Printing.{AreDuties, AreServed, BeginsLists, BeginsRunText, CameBy, PrintsOn, Served}
+use Rattle.gt_run.specs.Printing.{WritesLists}
 use Rattle.gt_run.specs.Printing.{all_lost, audits_in, duties_in, promised, texts_in}
 use Rattle.gt_run.specs.Runs.{Wrote, WroteLists}
 use Rattle.gt_run.specs.Serving.{AreReady, IsBegun, IsFirst, IsReady, IsServed, Outcome, Serves, ServesAll, ServesSome}
-use Rattle.gt_run.specs.Serving.{at_start, audit_lines, counted, lost_in}
+use Rattle.gt_run.specs.Serving.{list_start, audit_lines, counted, lost_in}
 use Rattle.gt_run.specs.declared.fault.RunFault.{RunFault}
 use Rattle.gt_run.specs.declared.fault.RunFault.TheVariants.{Play, Thread}
 use Rattle.gt_run.specs.declared.lists.Duty.{Duty}
@@ -48,7 +49,7 @@ use Rattle.gt_run.specs.declared.threads.Refusal.TheVariants as refusals
 -- no line was served yet
 pub begun_not : {P : Type 0} (may : P → AllowRelation) (duty : Duty P) (s : Stand P) (text : List ℕ) → text ≡ [] → IsReady may duty.monitor.now duty.part.dom s → IsBegun may duty text
 begun_not may duty s text none ready =
-    record { domain = s.domain; first = ready.1; number = 0; left = at_start s.domain; leads = refl; prints = none }
+    record { domain = s.domain; first = ready.1; number = 0; left = list_start s.domain; leads = refl; prints = none }
 
 begun : {P : Type 0} (may : P → AllowRelation) (duty : Duty P) (d : Domain) (text : List ℕ) → IsFirst may duty.monitor.now duty.part.dom d → ServesSome may duty d text → IsBegun may duty text
 begun may duty d text first s = record { domain = d; first = first; number = s.number; left = s.left; leads = s.leads; prints = s.prints }
@@ -158,16 +159,16 @@ begins_whole : (a b : Option (List ℕ)) (text : List ℕ) → Appends a b text 
 begins_whole a b text out = (length text, omega arith, subst (λ (l : List ℕ). Appends a b l) (sym (take-length text)) out)
 
 -- a fault of a run that had begun to write
-late_after : (before : Result (Unit {0}) RunFault) (e f : RunFault) → IsLate e → before ≡ Err e → (before ≡ Err f) ⊎ (f ≡ out_of_memory) → IsLate f
+late_after : (before : Result (Unit {0}) RunFault) (e f : RunFault) → IsLate e → before ≡ Err e → (before ≡ Err f) ⊎ (f ≡ run_out_of_memory) → IsLate f
 late_after before e f late is (inl same) = let q : e ≡ f = cc in subst IsLate q late
 late_after before e f late is (inr memory) = inl memory
 
-late_now : (r : Result (Unit {0}) RunFault) (well : Unit {0}) (f : RunFault) → r ≡ Ok well → (r ≡ Err f) ⊎ (f ≡ out_of_memory) → IsLate f
+late_now : (r : Result (Unit {0}) RunFault) (well : Unit {0}) (f : RunFault) → r ≡ Ok well → (r ≡ Err f) ⊎ (f ≡ run_out_of_memory) → IsLate f
 late_now r well f was (inl same) = cc
 late_now r well f was (inr memory) = inl memory
 
 -- one list more
-goes_on : {P : Type 0} (may : P → AllowRelation) (rest : List (Duty P)) (d : Duty P) (text : List ℕ) → GoesOn may rest text → GoesOn may (rest ++ d ∷ []) text
+goes_on : {P : Type 0} (may : P → AllowRelation) (rest : List (Duty P)) (d : Duty P) (text : List ℕ) → PrintsOn may rest text → PrintsOn may (rest ++ d ∷ []) text
 goes_on may [] d text none = inl none
 goes_on may (next ∷ rest) d text on = on
 
@@ -275,7 +276,7 @@ joins_on : {P : Type 0} (may : P → AllowRelation) (ds : List (Duty P)) (d : Du
     → Joins may ds a0 l0 old now r0
     → WritesNext r0 whole o.text.items now new r1
     → OnOk r2 (IsOk r1 × IfOk o.audit (λ more. a1 ≡ a0 ++ more.items) × IsOk o.audit)
-    → IfErr r2 (λ e. (r1 ≡ Err e) ⊎ (e ≡ out_of_memory))
+    → IfErr r2 (λ e. (r1 ≡ Err e) ⊎ (e ≡ run_out_of_memory))
     → l1 ≡ counted (l0 + o.lost) → CameBy whole may d o
     → Joins may (ds ++ d ∷ []) a1 l1 old new r2
 joins_on may ds d whole o a0 a1 l0 l1 r0 (Err f) (Ok x) old now new i w k e lost came = absurd (not_ok f k.0)
@@ -294,7 +295,7 @@ pub joins_more : {A P : Type 0} (may : P → AllowRelation) (duty : A → Duty P
     → Joins may (map duty hs) a0 l0 old now r0
     → WritesNext r0 o.whole o.text.items now new r1
     → OnOk r2 (IsOk r1 × IfOk o.audit (λ more. a1 ≡ a0 ++ more.items) × IsOk o.audit)
-    → IfErr r2 (λ e. (r1 ≡ Err e) ⊎ (e ≡ out_of_memory))
+    → IfErr r2 (λ e. (r1 ≡ Err e) ⊎ (e ≡ run_out_of_memory))
     → l1 ≡ counted (l0 + o.lost) → CameBy o.whole may (duty h) o
     → Joins may (map duty (hs ++ h ∷ [])) a1 l1 old new r2
 joins_more may duty hs h o a0 a1 l0 l1 r0 r1 r2 old now new i w k e lost came =
@@ -307,7 +308,7 @@ joins_none may None audit none = ([], (refl, All-nil _, tt), none, refl)
 joins_none may (Some xs) audit none = ([], (refl, All-nil _, sym (append-nil xs)), none, refl)
 
 -- a fault that came late
-late_wrote : {P : Type 0} (may : P → AllowRelation) (ds : List (Duty P)) (e : RunFault) (old new : Option (List ℕ)) → IsLate e → BeginsLists may ds old new ⊎ BeginsWhole may ds old new
+late_wrote : {P : Type 0} (may : P → AllowRelation) (ds : List (Duty P)) (e : RunFault) (old new : Option (List ℕ)) → IsLate e → BeginsLists may ds old new ⊎ BeginsRunText may ds old new
     → WroteLists may ds old new (Err e)
 late_wrote may ds e old new (inl memory) begun = subst (λ (f : RunFault). WroteLists may ds old new (Err f)) (sym memory) begun
 late_wrote may ds e old new (inr write) begun = subst (λ (f : RunFault). WroteLists may ds old new (Err f)) (sym write) begun
@@ -368,7 +369,7 @@ wrote_as may Are Be (Err (Play (plays.Script fault))) old new f wrote = absurd w
 wrote_as may Are Be (Err (Play (plays.Policy fault))) old new f wrote = absurd wrote
 
 -- no memory, and nothing was written yet
-pub wrote_none : {P : Type 0} (may : P → AllowRelation) (Are : List (Duty P) → Type 0) (e : RunFault) (old : Option (List ℕ)) → e ≡ out_of_memory → Wrote may Are old old (Err e)
+pub wrote_none : {P : Type 0} (may : P → AllowRelation) (Are : List (Duty P) → Type 0) (e : RunFault) (old : Option (List ℕ)) → e ≡ run_out_of_memory → Wrote may Are old old (Err e)
 wrote_none may Are e old is = subst (λ (f : RunFault). Wrote may Are old old (Err f)) (sym is) (inl (keeps_same old))
 
 -- one domain more stands beside its monitor

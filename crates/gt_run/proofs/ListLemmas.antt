@@ -17,37 +17,39 @@ use Rattle.gt_live.specs.declared.domain.Domain.{Domain}
 use Rattle.gt_script.specs.declared.tasks.Deed.{Deed}
 use Rattle.gt_script.specs.declared.tasks.Deed.TheVariants.{Do, Tell, Await}
 use Rattle.gt_script.specs.declared.tasks.Task.{Task}
-use Rattle.gt_run.specs.Serving.{Calls, DoesDeed, DoesWhere, HasCome, IsAwait, IsKept, IsReady, IsTold, LeadsTo}
-use Rattle.gt_run.specs.Serving.{Progress, Serves, ServesSome, StartsTold, answer_lines, at_start, counted, gate_line}
+use Rattle.gt_run.specs.Serving.{Calls, DoesDeed, DoesWhere, HasCome, IsAwait, IsKeptAt, IsReady, TellsOutcomes}
+use Rattle.gt_run.specs.Serving.{ListLeadsTo}
+use Rattle.gt_run.specs.Serving.{ListProgress, Serves, ServesSome, StartsTold, answer_lines, list_start, counted}
+use Rattle.gt_run.specs.Serving.{gate_line}
 use Rattle.gt_run.specs.Asking.{Stand}
 use Rattle.gt_run.specs.declared.lists.Duty.{Duty}
 use Rattle.gt_run.specs.declared.telling.Teller.{Teller}
 
 -- one line more leads on
-leads_behind : {P : Type 0} (may : P → AllowRelation) (duty : Duty P) (p : Progress) (tasks : List Task) (task : Task) (q r : Progress)
-    → LeadsTo may duty p tasks q → DoesWhere (task.dom.0 == duty.part.dom.0) may duty task q r → LeadsTo may duty p (tasks ++ task ∷ []) r
+leads_behind : {P : Type 0} (may : P → AllowRelation) (duty : Duty P) (p : ListProgress) (tasks : List Task) (task : Task) (q r : ListProgress)
+    → ListLeadsTo may duty p tasks q → DoesWhere (task.dom.0 == duty.part.dom.0) may duty task q r → ListLeadsTo may duty p (tasks ++ task ∷ []) r
 leads_behind may duty p [] task q r leads does =
-    (r, subst (λ (x : Progress). DoesWhere (task.dom.0 == duty.part.dom.0) may duty task x r) leads does, refl)
+    (r, subst (λ (x : ListProgress). DoesWhere (task.dom.0 == duty.part.dom.0) may duty task x r) leads does, refl)
 leads_behind may duty p (first ∷ tasks) task q r leads does = (leads.0, leads.1, leads_behind may duty leads.0 tasks task q r leads.2 does)
 
 take_more : (list : List Task) (i : ℕ) (l : Task) → i < length list → l ≡ get_or list i l → take (i + 1) list ≡ take i list ++ l ∷ []
 take_more list i l within is = rw add-one (take-suc list i l within ∙ ap (λ (x : Task). take i list ++ x ∷ []) (sym is))
 
-leads_more : {P : Type 0} (may : P → AllowRelation) (duty : Duty P) (p : Progress) (list : List Task) (i : ℕ) (l : Task) (q r : Progress) → i < length list → l ≡ get_or list i l
-    → LeadsTo may duty p (take i list) q → DoesWhere (l.dom.0 == duty.part.dom.0) may duty l q r → LeadsTo may duty p (take (i + 1) list) r
+leads_more : {P : Type 0} (may : P → AllowRelation) (duty : Duty P) (p : ListProgress) (list : List Task) (i : ℕ) (l : Task) (q r : ListProgress) → i < length list → l ≡ get_or list i l
+    → ListLeadsTo may duty p (take i list) q → DoesWhere (l.dom.0 == duty.part.dom.0) may duty l q r → ListLeadsTo may duty p (take (i + 1) list) r
 leads_more may duty p list i l q r within is leads does =
-    subst (λ (ls : List Task). LeadsTo may duty p ls r) (sym (take_more list i l within is)) (leads_behind may duty p (take i list) l q r leads does)
+    subst (λ (ls : List Task). ListLeadsTo may duty p ls r) (sym (take_more list i l within is)) (leads_behind may duty p (take i list) l q r leads does)
 
 -- a line after which all is as it was
 quiet_more : {P : Type 0} (may : P → AllowRelation) (duty : Duty P) (d : Domain) (whole : Bool) (i : ℕ) (l : Task) (text : List ℕ) (e : Domain) (labels : Labels) (t : Option Teller)
-    → i < length duty.part.tasks.now → l ≡ get_or duty.part.tasks.now i l → ((q : Progress) → DoesWhere (l.dom.0 == duty.part.dom.0) may duty l q q)
+    → i < length duty.part.tasks.now → l ≡ get_or duty.part.tasks.now i l → ((q : ListProgress) → DoesWhere (l.dom.0 == duty.part.dom.0) may duty l q q)
     → HasCome may duty d whole i text e labels t → HasCome may duty d whole (i + 1) text e labels t
 quiet_more may duty d true i l text e labels t within is does (q, leads, kept, prints) =
-    (q, leads_more may duty (at_start d) duty.part.tasks.now i l q q within is leads (does q), kept, prints)
+    (q, leads_more may duty (list_start d) duty.part.tasks.now i l q q within is leads (does q), kept, prints)
 quiet_more may duty d false i l text e labels t within is does come = come
 
 -- what a line of the domain does
-own_does : {P : Type 0} (may : P → AllowRelation) (duty : Duty P) (l : Task) (deed : Deed) (q r : Progress) → (l.dom.0 == duty.part.dom.0) ≡ true → l.deed ≡ deed
+own_does : {P : Type 0} (may : P → AllowRelation) (duty : Duty P) (l : Task) (deed : Deed) (q r : ListProgress) → (l.dom.0 == duty.part.dom.0) ≡ true → l.deed ≡ deed
     → DoesDeed may duty l.line deed q r → DoesWhere (l.dom.0 == duty.part.dom.0) may duty l q r
 own_does may duty l deed q r own is does =
     subst (λ (b : Bool). DoesWhere b may duty l q r) (sym own) (subst (λ (x : Deed). DoesDeed may duty l.line x q r) (sym is) does)
@@ -91,7 +93,7 @@ unfolding DoesDeed
 do_more may items duty d true true i l (Ok v) old new e f before after t u call within is own does calls (q, leads, kept, prints) more same =
     let next = calls q kept in (
       next.0,
-      leads_more may duty (at_start d) duty.part.tasks.now i l q next.0 within is leads (own_does may duty l (Do call) q next.0 own does next.1),
+      leads_more may duty (list_start d) duty.part.tasks.now i l q next.0 within is leads (own_does may duty l (Do call) q next.0 own does next.1),
       next.2,
       (more refl).2 ∙ ap (λ (x : List ℕ). x ++ items v) prints ∙ sym next.3,
     )
@@ -149,13 +151,13 @@ list_ends may duty d false i text e labels t all come = come
 pub come_none : {P : Type 0} (may : P → AllowRelation) (duty : Duty P) (d : Domain) (text : List ℕ) (labels : Labels) (t : Option Teller) → text ≡ [] → StartsTold duty d t → AreNamed labels []
     → HasCome may duty d true 0 text d labels t
 come_none may duty d text labels t none starts names =
-    (at_start d, refl, record { domain = refl; own = starts.0; names = names; asked = starts.1; told = starts.2 }, none)
+    (list_start d, refl, record { domain = refl; own = starts.0; names = names; asked = starts.1; told = starts.2 }, none)
 
 told_none : {A : Type 0} (dom : DomId) (log : Option A) (t : Option Teller) (trail : Telling) → trail ≡ silent → t ≡ option_map (λ l. record { told = nothing_told dom; next = 0 }) log
-    → (is_some t ≡ is_some log) × IsTold trail t []
-told_none dom None t trail fresh is = (ap is_some is, subst (λ (x : Option Teller). IsTold trail x []) (sym is) (refl, refl))
+    → (is_some t ≡ is_some log) × TellsOutcomes trail t []
+told_none dom None t trail fresh is = (ap is_some is, subst (λ (x : Option Teller). TellsOutcomes trail x []) (sym is) (refl, refl))
 told_none dom (Some log) t trail fresh is =
-    (ap is_some is, subst (λ (x : Option Teller). IsTold trail x []) (sym is) (sym (ap (λ (x : Telling). length x.records) fresh), refl, ap (λ (x : Telling). counted (x.lost + 0)) fresh))
+    (ap is_some is, subst (λ (x : Option Teller). TellsOutcomes trail x []) (sym is) (sym (ap (λ (x : Telling). length x.records) fresh), refl, ap (λ (x : Telling). counted (x.lost + 0)) fresh))
 
 -- nothing was pushed for a domain that has made no call
 pub starts_told : {P : Type 0} (may : P → AllowRelation) (duty : Duty P) (s : Stand P) (t : Option Teller) → IsReady may duty.monitor.now duty.part.dom s

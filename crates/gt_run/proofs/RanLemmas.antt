@@ -21,8 +21,8 @@ use Rattle.gt_streams.specs.Laws.{keeps_same, of_any_input}
 use Rattle.gt_streams.specs.Streams.{OfInput}
 use Rattle.gt_streams.specs.declared.fault.ReadFault.{ReadFault}
 use Rattle.gt_streams.specs.declared.fault.ReadFault.TheVariants as reads
-use Rattle.gt_run.specs.Faults.{out_of_memory}
-use Rattle.gt_run.specs.Runs.{AreOf, AreParts, ArePartsOf, AreUnder, IsOver, Ran, Wrote, WroteScript}
+use Rattle.gt_run.specs.Faults.{run_out_of_memory}
+use Rattle.gt_run.specs.Runs.{AreOf, AreParts, AreListsOf, AreUnder, IsOver, Ran, Wrote, WroteScript}
 use Rattle.gt_run.specs.declared.fault.RunFault.{RunFault}
 use Rattle.gt_run.specs.declared.fault.RunFault.TheVariants.{Play, Thread}
 use Rattle.gt_run.specs.declared.lists.Duty.{Duty}
@@ -40,7 +40,7 @@ parts_more domains i d tasks names parts p within is same over (doms, all) = (
 )
 
 -- the duties are those of the script
-are_of : (c : RunContents) (logged : Bool) (config : Config) (rights : ScriptRights) (parts : List Part) → ArePartsOf c parts → config.domains.items ≡ c.head.domains
+are_of : (c : RunContents) (logged : Bool) (config : Config) (rights : ScriptRights) (parts : List Part) → AreListsOf c parts → config.domains.items ≡ c.head.domains
     → config.first_gen ≡ first_gen c.head → may_by rights ≡ may_in c.head → (ds : List (Duty ScriptRights)) → AreUnder config rights logged parts ds → AreOf c logged ds
 are_of c logged config rights parts are domains generation may ds (m, of_config, of_rights, duties) = record {
   parts = parts;
@@ -63,10 +63,10 @@ wrote_script c logged config rights parts shown r old new domains tasks names ar
     let tasked = subst (λ l. AreParts domains l (type_names c.head) parts) t named in
     let all = subst (λ l. AreParts l c.tasks (type_names c.head) parts) d tasked in
     wrote_as may_by (AreUnder config rights logged shown) (AreOf c logged) r old new
-    (are_of c logged config rights shown (subst (λ l. ArePartsOf c l) (sym is) all) of_domains generation may) wrote
+    (are_of c logged config rights shown (subst (λ l. AreListsOf c l) (sym is) all) of_domains generation may) wrote
 
 -- no memory, and nothing was written
-pub wrote_nothing : (c : RunContents) (logged : Bool) (fault : RunFault) (old : Option (List ℕ)) → fault ≡ out_of_memory → WroteScript c logged old old (Err fault)
+pub wrote_nothing : (c : RunContents) (logged : Bool) (fault : RunFault) (old : Option (List ℕ)) → fault ≡ run_out_of_memory → WroteScript c logged old old (Err fault)
 wrote_nothing c logged fault old is = wrote_none may_by (AreOf c logged) fault old is
 
 -- a script was run

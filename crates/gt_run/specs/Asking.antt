@@ -2,7 +2,7 @@
 use Rattle.std.specs.Prelude.{◌≡◌, ℕ, List, Result, Ok, Err, OnOk, OnErr}
 use Rattle.gt_run.specs.Prelude.{Size, Denial, Copying, Reading, Writing, Handle, Tells, Hypercall, Step, Verdict, Held}
 use Rattle.gt_run.specs.Prelude.{Request, Answer, Domain, Monitor, IsCopiedBy, IsReadBy, IsWrittenBy, IsSameSeat}
-use Rattle.gt_run.specs.Prelude.{Accesses, Answered, IsOf, KeepsPinned, MapAnswered, AllowRelation, mapping_reply}
+use Rattle.gt_run.specs.Prelude.{Accesses, Answered, BelongsTo, KeepsPinned, MapAnswered, AllowRelation, mapping_reply}
 use Rattle.gt_run.specs.Prelude.{subject_of, told_copy, told_of, verdict_of, verdict_of_frames, verdict_of_size}
 use Rattle.gt_run.specs.Prelude.{verdict_of_version, Removes, HasVisited, WasCopied, WasRead, WasWritten, Visit}
 use Rattle.gt_audit.specs.declared.record.Hypercall.TheVariants as hypercalls
@@ -122,4 +122,4 @@ AnswersCall may m d request answer e =
 -- the same of a domain that keeps its number and its seat, and is of the monitor after it
 abbrev pub Asks : {P : Type 0} → (P → AllowRelation) → Monitor P → Domain → Request → Answer → Domain → Type 0
 Asks may m d request answer e =
-    (e.seat.dom ≡ d.seat.dom) × AnswersCall may m d request answer e × IsOf may m e × IsSameSeat d.seat e.seat
+    (e.seat.dom ≡ d.seat.dom) × AnswersCall may m d request answer e × BelongsTo may m e × IsSameSeat d.seat e.seat

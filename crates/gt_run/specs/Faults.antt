@@ -11,8 +11,8 @@ run_fault_text (faults.Play fault) = play_fault_text fault
 run_fault_text faults.Thread = codes "thread"
 
 -- memory was refused
-abbrev pub out_of_memory : RunFault
-out_of_memory = faults.Play Memory
+abbrev pub run_out_of_memory : RunFault
+run_out_of_memory = faults.Play Memory
 
 -- a write failed
 abbrev pub not_written : RunFault

@@ -8,14 +8,14 @@ use Rattle.gt_run.specs.declared.fault.RunFault.TheVariants.{Thread}
 use Rattle.gt_run.specs.declared.lists.Duty.{Duty}
 use Rattle.gt_run.specs.declared.threads.Refusal.{Refusal}
 use Rattle.gt_run.specs.declared.threads.Refusal.TheVariants as refusals
-use Rattle.gt_run.specs.Faults.{not_written, out_of_memory}
+use Rattle.gt_run.specs.Faults.{not_written, run_out_of_memory}
 use Rattle.gt_run.specs.Printing.{BeginsLists, Served, WritesLists, all_lost, audits_in}
 use Rattle.gt_run.specs.Runs.{WroteLists}
 use Rattle.gt_run.specs.Serving.{counted}
 
 -- the fault of a run that had begun to write: memory was refused, or a write failed
 abbrev pub IsLate : RunFault → Type 0
-IsLate fault = (fault ≡ out_of_memory) ⊎ (fault ≡ not_written)
+IsLate fault = (fault ≡ run_out_of_memory) ⊎ (fault ≡ not_written)
 
 -- a text that is whole or not is written if all went well before: it went out, or a
 -- beginning of it; after a fault nothing goes out, and the fault stays
@@ -36,13 +36,13 @@ Joins {P} may duties audit lost old new (Ok done) =
 Joins may duties audit lost old new (Err fault) = IsLate fault × BeginsLists may duties old new
 
 -- the fault of a run that has not a thread for each domain
-abbrev pub fault_of : Refusal → RunFault
-fault_of refusals.Thread = Thread
-fault_of refusals.Memory = out_of_memory
+abbrev pub run_fault_of : Refusal → RunFault
+run_fault_of refusals.Thread = Thread
+run_fault_of refusals.Memory = run_out_of_memory
 
 -- what was written of the duties that were started, if something was refused or nothing:
 -- nothing, and what was refused is the fault, unless all were started
 abbrev pub WroteStarted : {P : Type 0} → (P → AllowRelation) → Option Refusal → List (Duty P) → Option (List ℕ) → Option (List ℕ)
     → Result (Unit {0}) RunFault → Type 0
 WroteStarted may None duties old new r = WroteLists may duties old new r
-WroteStarted may (Some refusal) duties old new r = (r ≡ Err (fault_of refusal)) × Keeps old new
+WroteStarted may (Some refusal) duties old new r = (r ≡ Err (run_fault_of refusal)) × Keeps old new

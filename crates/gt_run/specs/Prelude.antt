@@ -15,11 +15,12 @@ pub use Rattle.gt_handles.specs.declared.handles.Handle.{Handle}
 pub use Rattle.gt_host.specs.Auditing.{call_told, record_told}
 pub use Rattle.gt_host.specs.Naming.{AreNamed}
 pub use Rattle.gt_host.specs.Printing.{answer_line, call_text}
-pub use Rattle.gt_host.specs.Runs.{Asks as SaysRequest, Named, handle_given, label_given, with_name}
+pub use Rattle.gt_host.specs.Runs.{SaysRequest, Named, handle_given, label_given, with_name}
 pub use Rattle.gt_host.specs.declared.labels.Labels.{Labels}
 pub use Rattle.gt_lines.specs.declared.calls.ScriptCall.{ScriptCall}
 pub use Rattle.gt_live.specs.Accesses.{IsCopiedBy, IsReadBy, IsWrittenBy}
-pub use Rattle.gt_live.specs.Domains.{Accesses, AllowRelation, Answered, IsOf, KeepsPinned, MapAnswered, mapping_reply}
+pub use Rattle.gt_live.specs.Domains.{Accesses, AllowRelation, Answered, BelongsTo, KeepsPinned, MapAnswered}
+pub use Rattle.gt_live.specs.Domains.{mapping_reply}
 pub use Rattle.gt_live.specs.Domains.{subject_of, told_copy, told_of, verdict_of, verdict_of_frames, verdict_of_size}
 pub use Rattle.gt_live.specs.Domains.{verdict_of_version}
 pub use Rattle.gt_live.specs.Mappings.{Removes}

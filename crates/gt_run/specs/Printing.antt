@@ -39,8 +39,8 @@ abbrev pub all_lost : {P : Type 0} → List (Served P) → ℕ
 all_lost all = sum_by (λ s. lost_in s.outcomes) all
 
 -- the whole text of a run: what the lists printed, after that their audit lines, and how many records were lost
-abbrev pub whole_text : {P : Type 0} → List (Served P) → List ℕ
-whole_text all = texts_in all ++ (audits_in all ++ lost_text (counted (all_lost all)))
+abbrev pub run_text : {P : Type 0} → List (Served P) → List ℕ
+run_text all = texts_in all ++ (audits_in all ++ lost_text (counted (all_lost all)))
 
 -- what came of a duty, whose list printed all or did not: what its calls came to is
 -- what its text, its audit lines and its count of lost records tell;
@@ -68,29 +68,30 @@ WritesLists may duties all old new = (duties_in all ≡ duties) × AreServed may
 -- the lists of these duties were served, and their whole text went out
 abbrev pub WritesAll : {P : Type 0} → (P → AllowRelation) → List (Duty P) → Option (List ℕ) → Option (List ℕ) → Type 0
 WritesAll {P} may duties old new =
-    (all : List (Served P)) × (duties_in all ≡ duties) × AreServed may all × Appends old new (whole_text all)
+    (all : List (Served P)) × (duties_in all ≡ duties) × AreServed may all × Appends old new (run_text all)
 
 -- what goes on after those lists that printed all: nothing, or what some first lines of the next list printed
-abbrev pub GoesOn : {P : Type 0} → (P → AllowRelation) → List (Duty P) → List ℕ → Type 0
-GoesOn may [] text = text ≡ []
-GoesOn may (next ∷ rest) text = (text ≡ []) ⊎ IsBegun may next text
+abbrev pub PrintsOn : {P : Type 0} → (P → AllowRelation) → List (Duty P) → List ℕ → Type 0
+PrintsOn may [] text = text ≡ []
+PrintsOn may (next ∷ rest) text = (text ≡ []) ⊎ IsBegun may next text
 
 -- a beginning of what these lists print went out: the first ones were served, and after
 -- what they printed goes nothing, or the beginning of the next one
 abbrev pub BeginsLists : {P : Type 0} → (P → AllowRelation) → List (Duty P) → Option (List ℕ) → Option (List ℕ) → Type 0
 BeginsLists {P} may duties old new =
     (all : List (Served P)) × (rest : List (Duty P)) × (text : List ℕ)
-    × (duties_in all ++ rest ≡ duties) × AreServed may all × GoesOn may rest text
+    × (duties_in all ++ rest ≡ duties) × AreServed may all × PrintsOn may rest text
     × AppendsBeginning old new (texts_in all ++ text)
 
 -- a beginning of the whole text of these lists went out
-abbrev pub BeginsWhole : {P : Type 0} → (P → AllowRelation) → List (Duty P) → Option (List ℕ) → Option (List ℕ) → Type 0
-BeginsWhole {P} may duties old new =
-    (all : List (Served P)) × (duties_in all ≡ duties) × AreServed may all × AppendsBeginning old new (whole_text all)
+abbrev pub BeginsRunText : {P : Type 0} → (P → AllowRelation) → List (Duty P) → Option (List ℕ) → Option (List ℕ)
+    → Type 0
+BeginsRunText {P} may duties old new =
+    (all : List (Served P)) × (duties_in all ≡ duties) × AreServed may all × AppendsBeginning old new (run_text all)
 
 -- a beginning of a whole text that these lists may print went out, if they were served so far
 abbrev pub BeginsAll : {P : Type 0} → (P → AllowRelation) → List (Duty P) → Option (List ℕ) → Option (List ℕ) → Type 0
-BeginsAll may duties old new = BeginsLists may duties old new ⊎ BeginsWhole may duties old new
+BeginsAll may duties old new = BeginsLists may duties old new ⊎ BeginsRunText may duties old new
 
 -- the duties that were promised
 abbrev pub promised : {P : Type 0} → List (PromisedHandle Output (Duty P)) → List (Duty P)

@@ -69,14 +69,14 @@ abbrev pub AreParts : List DomainConfig → List Task → List (List ℕ) → Li
 AreParts domains tasks names parts = (map (λ p. p.dom) parts ≡ map (λ d. d.id) domains) × All (IsOver tasks names) parts
 
 -- the parts of a script: its domains, each with the script's tasks and names of types
-abbrev pub ArePartsOf : RunContents → List Part → Type 0
-ArePartsOf c parts = AreParts c.head.domains c.tasks (type_names c.head) parts
+abbrev pub AreListsOf : RunContents → List Part → Type 0
+AreListsOf c parts = AreParts c.head.domains c.tasks (type_names c.head) parts
 
 -- the duties of a script's parts, over one monitor that has the script's domains and
 -- its first generation, and allows what the script allows
 pub record AreOf (c : RunContents) (logged : Bool) (duties : List (Duty ScriptRights)) : Type 0 where
   pub parts : List Part
-  pub of_script : ArePartsOf c parts
+  pub of_script : AreListsOf c parts
   pub monitor : Monitor ScriptRights
   pub domains : monitor.config.domains.items ≡ c.head.domains
   pub generation : monitor.config.first_gen ≡ first_gen c.head

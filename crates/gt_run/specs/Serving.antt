@@ -20,14 +20,14 @@ pub record Outcome : Type 0 where
   pub lost : ℕ
 
 -- how far a list has come: its domain, what the labels stand for, and what came of its calls so far, in order
-pub record Progress : Type 0 where
+pub record ListProgress : Type 0 where
   pub domain : Domain
   pub named : List Named
   pub outcomes : List Outcome
 
 -- before its first line no label stands for a handle, and no call was made
-abbrev pub at_start : Domain → Progress
-at_start d = record { domain = d; named = []; outcomes = [] }
+abbrev pub list_start : Domain → ListProgress
+list_start d = record { domain = d; named = []; outcomes = [] }
 
 -- what became of the record that a call makes, if it makes one: it went into
 -- the log, or it was lost; without a log neither
@@ -48,7 +48,7 @@ is_logged duty = is_some duty.log
 -- labels stood for then, and answered so. What it came to is the one
 -- outcome more, and a map answered Ok gives its handle to its label.
 pub record MakesCall {P : Type 0} (may : P → AllowRelation) (duty : Duty P) (line : ℕ) (call : ScriptCall)
-    (p q : Progress) : Type 0 where
+    (p q : ListProgress) : Type 0 where
   pub request : Request
   pub answer : Answer
   pub told : List Record
@@ -60,21 +60,21 @@ pub record MakesCall {P : Type 0} (may : P → AllowRelation) (duty : Duty P) (l
   pub outcomes : q.outcomes ≡ p.outcomes ++ record { line = line; answer = answer; told = told; lost = lost } ∷ []
 
 -- what a line leads to that has its domain do this: a call is made; a flag told or awaited changes nothing
-unfoldable pub DoesDeed : {P : Type 0} → (P → AllowRelation) → Duty P → ℕ → Deed → Progress → Progress → Type 0
+unfoldable pub DoesDeed : {P : Type 0} → (P → AllowRelation) → Duty P → ℕ → Deed → ListProgress → ListProgress → Type 0
 DoesDeed may duty line (Do call) p q = MakesCall may duty line call p q
 DoesDeed may duty line (Tell flag) p q = q ≡ p
 DoesDeed may duty line (Await flag) p q = q ≡ p
 
 -- what a line leads to that is the domain's, or is not: another's changes nothing
-abbrev pub DoesWhere : {P : Type 0} → Bool → (P → AllowRelation) → Duty P → Task → Progress → Progress → Type 0
+abbrev pub DoesWhere : {P : Type 0} → Bool → (P → AllowRelation) → Duty P → Task → ListProgress → ListProgress → Type 0
 DoesWhere true may duty task p q = DoesDeed may duty task.line task.deed p q
 DoesWhere false may duty task p q = q ≡ p
 
 -- these lines, one after the other, lead from one point of a list to another
-abbrev pub LeadsTo : {P : Type 0} → (P → AllowRelation) → Duty P → Progress → List Task → Progress → Type 0
-LeadsTo may duty p [] q = q ≡ p
-LeadsTo may duty p (task ∷ tasks) q =
-    (r : Progress) × DoesWhere (task.dom.0 == duty.part.dom.0) may duty task p r × LeadsTo may duty r tasks q
+abbrev pub ListLeadsTo : {P : Type 0} → (P → AllowRelation) → Duty P → ListProgress → List Task → ListProgress → Type 0
+ListLeadsTo may duty p [] q = q ≡ p
+ListLeadsTo may duty p (task ∷ tasks) q =
+    (r : ListProgress) × DoesWhere (task.dom.0 == duty.part.dom.0) may duty task p r × ListLeadsTo may duty r tasks q
 
 -- what outcomes print
 
@@ -133,8 +133,8 @@ pub record Stops (dom : DomId) (tasks : List Task) (number : ℕ) (last : List �
   pub last_is : last ≡ gate_line at.line dom
 
 -- a list ends after so many lines: they are all, and nothing more is printed; or it stops there
-abbrev pub Ends : DomId → List Task → ℕ → List ℕ → Type 0
-Ends dom tasks number last = ((number ≡ length tasks) × (last ≡ [])) ⊎ Stops dom tasks number last
+abbrev pub EndsList : DomId → List Task → ℕ → List ℕ → Type 0
+EndsList dom tasks number last = ((number ≡ length tasks) × (last ≡ [])) ⊎ Stops dom tasks number last
 
 -- The duty's list was served from a domain that had done nothing up to its end: its
 -- calls came to these outcomes, and it printed the lines of their
@@ -144,11 +144,11 @@ pub record IsServed {P : Type 0} (may : P → AllowRelation) (duty : Duty P) (ou
   pub domain : Domain
   pub first : IsFirst may duty.monitor.now duty.part.dom domain
   pub number : ℕ
-  pub left : Progress
-  pub leads : LeadsTo may duty (at_start domain) (take number duty.part.tasks.now) left
+  pub left : ListProgress
+  pub leads : ListLeadsTo may duty (list_start domain) (take number duty.part.tasks.now) left
   pub came : left.outcomes ≡ outcomes
   pub last : List ℕ
-  pub ends : Ends duty.part.dom duty.part.tasks.now number last
+  pub ends : EndsList duty.part.dom duty.part.tasks.now number last
   pub prints : text ≡ answer_lines duty.part.types.now duty.part.dom outcomes ++ last
 
 -- some first lines of the duty's list were served from a domain that had
@@ -157,35 +157,35 @@ pub record IsBegun {P : Type 0} (may : P → AllowRelation) (duty : Duty P) (tex
   pub domain : Domain
   pub first : IsFirst may duty.monitor.now duty.part.dom domain
   pub number : ℕ
-  pub left : Progress
-  pub leads : LeadsTo may duty (at_start domain) (take number duty.part.tasks.now) left
+  pub left : ListProgress
+  pub leads : ListLeadsTo may duty (list_start domain) (take number duty.part.tasks.now) left
   pub prints : text ≡ answer_lines duty.part.types.now duty.part.dom left.outcomes
 
 -- what is kept beside a list
 
 -- what went into the log, or was lost, are the records of these calls:
 -- each record of the domain's trail was pushed
-abbrev pub IsTold : Telling → Option Teller → List Outcome → Type 0
-IsTold trail None outcomes = (records_told outcomes ≡ []) × (lost_in outcomes ≡ 0)
-IsTold trail (Some t) outcomes =
+abbrev pub TellsOutcomes : Telling → Option Teller → List Outcome → Type 0
+TellsOutcomes trail None outcomes = (records_told outcomes ≡ []) × (lost_in outcomes ≡ 0)
+TellsOutcomes trail (Some t) outcomes =
     (t.next ≡ length trail.records) × (map (λ e. e.1) t.told.told ≡ records_told outcomes)
     × (counted (trail.lost + t.told.lost) ≡ counted (lost_in outcomes))
 
 -- the domain and what is kept beside it are where the list has come to
-pub record IsKept {P : Type 0} (duty : Duty P) (p : Progress) (d : Domain) (labels : Labels)
+pub record IsKeptAt {P : Type 0} (duty : Duty P) (p : ListProgress) (d : Domain) (labels : Labels)
     (teller : Option Teller) : Type 0 where
   pub domain : p.domain ≡ d
   pub own : d.seat.dom ≡ duty.part.dom
   pub names : AreNamed labels p.named
   pub asked : is_some teller ≡ is_logged duty
-  pub told : IsTold d.trail teller p.outcomes
+  pub told : TellsOutcomes d.trail teller p.outcomes
 
 -- from each point that is kept so, the call of this line leads to a next one, and prints this
 abbrev pub Calls : {P : Type 0} → (P → AllowRelation) → Duty P → ℕ → ScriptCall → Domain → Domain → Labels → Labels
     → Option Teller → Option Teller → List ℕ → Type 0
 Calls may duty line call d e before after t u text =
-    (p : Progress) → IsKept duty p d before t
-    → (q : Progress) × MakesCall may duty line call p q × IsKept duty q e after u
+    (p : ListProgress) → IsKeptAt duty p d before t
+    → (q : ListProgress) × MakesCall may duty line call p q × IsKeptAt duty q e after u
     × (answer_lines duty.part.types.now duty.part.dom q.outcomes
     ≡ answer_lines duty.part.types.now duty.part.dom p.outcomes ++ text)
 
@@ -200,26 +200,27 @@ Makes may duty call d e before after answer =
 
 -- nothing was pushed for the calls of this domain, which has made none
 abbrev pub StartsTold : {P : Type 0} → Duty P → Domain → Option Teller → Type 0
-StartsTold duty d teller = (d.seat.dom ≡ duty.part.dom) × (is_some teller ≡ is_logged duty) × IsTold d.trail teller []
+StartsTold duty d teller =
+    (d.seat.dom ≡ duty.part.dom) × (is_some teller ≡ is_logged duty) × TellsOutcomes d.trail teller []
 
 -- a list was served from this domain on, up to its end; what is kept is
 -- where it came to, and the text is what it printed
 pub record ServesAll {P : Type 0} (may : P → AllowRelation) (duty : Duty P) (d : Domain) (text : List ℕ) (e : Domain)
     (teller : Option Teller) : Type 0 where
-  pub left : Progress
+  pub left : ListProgress
   pub number : ℕ
-  pub leads : LeadsTo may duty (at_start d) (take number duty.part.tasks.now) left
+  pub leads : ListLeadsTo may duty (list_start d) (take number duty.part.tasks.now) left
   pub last : List ℕ
-  pub ends : Ends duty.part.dom duty.part.tasks.now number last
+  pub ends : EndsList duty.part.dom duty.part.tasks.now number last
   pub prints : text ≡ answer_lines duty.part.types.now duty.part.dom left.outcomes ++ last
   pub asked : is_some teller ≡ is_logged duty
-  pub told : IsTold e.trail teller left.outcomes
+  pub told : TellsOutcomes e.trail teller left.outcomes
 
 -- some first lines of it were served, and the text is what their calls printed
 pub record ServesSome {P : Type 0} (may : P → AllowRelation) (duty : Duty P) (d : Domain) (text : List ℕ) : Type 0 where
-  pub left : Progress
+  pub left : ListProgress
   pub number : ℕ
-  pub leads : LeadsTo may duty (at_start d) (take number duty.part.tasks.now) left
+  pub leads : ListLeadsTo may duty (list_start d) (take number duty.part.tasks.now) left
   pub prints : text ≡ answer_lines duty.part.types.now duty.part.dom left.outcomes
 
 -- a list that printed all, or did not, was served so
@@ -233,6 +234,7 @@ Serves may duty d false text e teller = ServesSome may duty d text
 abbrev pub HasCome : {P : Type 0} → (P → AllowRelation) → Duty P → Domain → Bool → ℕ → List ℕ → Domain → Labels
     → Option Teller → Type 0
 HasCome may duty d true count text e labels teller =
-    (q : Progress) × LeadsTo may duty (at_start d) (take count duty.part.tasks.now) q × IsKept duty q e labels teller
+    (q : ListProgress) × ListLeadsTo may duty (list_start d) (take count duty.part.tasks.now) q
+      × IsKeptAt duty q e labels teller
     × (text ≡ answer_lines duty.part.types.now duty.part.dom q.outcomes)
 HasCome may duty d false count text e labels teller = ServesSome may duty d text

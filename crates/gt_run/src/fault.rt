@@ -33,9 +33,9 @@ impl Error for RunFault {}
 
 impl From<Memory> for RunFault {
     ghost use Rattle.std.specs.Prelude.{◌≡◌};
-    ghost use Rattle.gt_run.specs.Faults.{out_of_memory};
+    ghost use Rattle.gt_run.specs.Faults.{run_out_of_memory};
 
-    ghost from_gives = { λ _ fault. fault ≡ out_of_memory };
+    ghost from_gives = { λ _ fault. fault ≡ run_out_of_memory };
 
     fn from(_error: Memory) -> RunFault {
         RunFault::Play(PlayFault::Memory)
@@ -44,9 +44,9 @@ impl From<Memory> for RunFault {
 
 impl From<AllocError> for RunFault {
     ghost use Rattle.std.specs.Prelude.{◌≡◌};
-    ghost use Rattle.gt_run.specs.Faults.{out_of_memory};
+    ghost use Rattle.gt_run.specs.Faults.{run_out_of_memory};
 
-    ghost from_gives = { λ _ fault. fault ≡ out_of_memory };
+    ghost from_gives = { λ _ fault. fault ≡ run_out_of_memory };
 
     fn from(_error: AllocError) -> RunFault {
         RunFault::Play(PlayFault::Memory)
@@ -55,9 +55,9 @@ impl From<AllocError> for RunFault {
 
 impl<T: Drop> From<AllocFailed<T>> for RunFault {
     ghost use Rattle.std.specs.Prelude.{◌≡◌};
-    ghost use Rattle.gt_run.specs.Faults.{out_of_memory};
+    ghost use Rattle.gt_run.specs.Faults.{run_out_of_memory};
 
-    ghost from_gives = { λ _ fault. fault ≡ out_of_memory };
+    ghost from_gives = { λ _ fault. fault ≡ run_out_of_memory };
 
     fn from(_error: AllocFailed<T>) -> RunFault {
         RunFault::Play(PlayFault::Memory)

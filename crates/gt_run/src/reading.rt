@@ -1,6 +1,6 @@
 //! A script in, and the lines of its domains out.
 ghost use Rattle.std.specs.Prelude.{◌≡◌, ℕ, List, take, is_some, IfOk};
-ghost use Rattle.gt_script.specs.Contents.{told};
+ghost use Rattle.gt_script.specs.Contents.{contents_told};
 ghost use Rattle.gt_script.specs.RunContents.{run_told};
 ghost use Rattle.gt_script.specs.RunScripts.{CanConfigure, RunTells};
 ghost use Rattle.gt_streams.specs.Streams.{ConsumesAtMost, OfInput};
@@ -48,7 +48,7 @@ fn run_script<'a, R: Threads + Wait + Sync, G: Gate + Sync, W: Write>(
     gate: &G,
     writer: &mut W,
 ) -> Result<(), RunFault>
-    requires { CanConfigure (told script.now.head) }
+    requires { CanConfigure (contents_told script.now.head) }
     ensures { WroteScript (run_told script.entry.now) (is_some log.entry)
         (W.contents writer.old) (W.contents writer.new) result }
 {

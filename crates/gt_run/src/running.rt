@@ -20,14 +20,14 @@ pub struct Running<'m, P: Allows> {
 }
 
 impl<'m, P: Allows> Model for Running<'m, P> {
-    ghost use Rattle.gt_live.specs.Domains.{IsOf};
+    ghost use Rattle.gt_live.specs.Domains.{BelongsTo};
     ghost use Rattle.gt_run.specs.Asking.{Stand};
 
     ghost Value = { Stand P };
 
     ghost view = { λ r. record { monitor = r.monitor.now; domain = r.domain } };
 
-    ghost invariant = { λ r. IsOf P.may r.monitor.now r.domain };
+    ghost invariant = { λ r. BelongsTo P.may r.monitor.now r.domain };
 }
 
 impl<'m, P: Allows> Drop for Running<'m, P> {
@@ -113,12 +113,12 @@ fn copied(answer: Result<Copied, Denial>) -> Answer
 }
 
 impl<'m, P: Allows> Running<'m, P> {
-    ghost use Rattle.gt_live.specs.Domains.{IsOf};
+    ghost use Rattle.gt_live.specs.Domains.{BelongsTo};
     ghost use Rattle.gt_run.specs.Asking.{Asks};
 
     /// The domain beside its monitor.
     pub fn new(monitor: &'m Monitor<P>, domain: Domain) -> Self
-        requires { IsOf P.may monitor.now domain }
+        requires { BelongsTo P.may monitor.now domain }
         ensures { result ≡ record { monitor = monitor.now; domain = domain } }
     {
         Running { monitor, domain }

@@ -5,10 +5,10 @@ ghost use Rattle.std.specs.Io.KnownBytes.{Appends};
 ghost use Rattle.gt_types.specs.Config.{AreFaultless};
 ghost use Rattle.gt_types.specs.declared.limits.TheConstants.{LAST_GENERATION};
 ghost use Rattle.gt_audit.specs.Lines.{lost_text};
-ghost use Rattle.gt_live.specs.Domains.{IsOf};
+ghost use Rattle.gt_live.specs.Domains.{BelongsTo};
 ghost use Rattle.gt_streams.specs.Streams.{AppendsBeginning};
-ghost use Rattle.gt_run.specs.Faults.{out_of_memory};
-ghost use Rattle.gt_run.specs.Joining.{IsLate, Joins, WritesNext, WroteStarted, fault_of};
+ghost use Rattle.gt_run.specs.Faults.{run_out_of_memory};
+ghost use Rattle.gt_run.specs.Joining.{IsLate, Joins, WritesNext, WroteStarted, run_fault_of};
 ghost use Rattle.gt_run.specs.Printing.{AreDuties, CameOf, promised};
 ghost use Rattle.gt_run.specs.Runs.{AreUnder, Wrote};
 ghost use Rattle.gt_run.specs.Serving.{counted, AreReady, IsReady};
@@ -30,7 +30,7 @@ use std::thread::{PromisedHandle, Scope, Threads};
 
 // Finishes domains that get no thread.
 fn finish_all<P: Allows>(monitor: &Monitor<P>, domains: Vec<Domain>)
-    requires { All (λ d. IsOf P.may monitor.now d) domains.items }
+    requires { All (λ d. BelongsTo P.may monitor.now d) domains.items }
 {
     let mut rest = domains.into_iter();
     'rest: while let Some(domain) = rest.next() {
@@ -45,7 +45,7 @@ pub fn all_running<'m, P: Allows>(
     monitor: &'m Monitor<P>,
     domains: Vec<Domain>,
 ) -> Result<Vec<Running<'m, P>>, Memory>
-    requires { All (λ d. IsOf P.may monitor.now d) domains.items }
+    requires { All (λ d. BelongsTo P.may monitor.now d) domains.items }
     ensures { IfOk result (λ all. all.items ≡ map (λ d. record { monitor = monitor.now; domain = d }) domains.items) }
 {
     let Ok(room) = Vec::with_capacity(alloc, domains.len()) else {
@@ -69,7 +69,7 @@ enum Refusal {
 }
 
 impl From<Refusal> for RunFault {
-    ghost from_gives = { λ refusal fault. fault ≡ fault_of refusal };
+    ghost from_gives = { λ refusal fault. fault ≡ run_fault_of refusal };
 
     fn from(refusal: Refusal) -> RunFault {
         match refusal {
@@ -170,7 +170,7 @@ fn keep_audit(
 ) -> Result<(), RunFault>
     ensures ok { OnOk result (IsOk outcome × IfOk audit (λ more. all.new.items ≡ all.old.items ++ more.items)
         × IsOk audit) }
-    ensures err { IfErr result (λ e. (outcome ≡ Err e) ⊎ (e ≡ out_of_memory)) }
+    ensures err { IfErr result (λ e. (outcome ≡ Err e) ⊎ (e ≡ run_out_of_memory)) }
 {
     outcome?;
     let more = audit?;

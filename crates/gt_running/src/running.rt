@@ -1,6 +1,6 @@
 //! Domains beside the monitor that they came with.
 ghost use Rattle.std.specs.Prelude.{All};
-ghost use Rattle.gt_live.specs.Domains.{IsOf};
+ghost use Rattle.gt_live.specs.Domains.{BelongsTo};
 
 use crate::asking::{Asks, Said};
 use gt_audit::Record;
@@ -23,13 +23,13 @@ pub struct Running<'m, P: Allows> {
 
 impl<'m, P: Allows> Model for Running<'m, P> {
     ghost use Rattle.gt_types.specs.declared.DomId.{DomId};
-    ghost use Rattle.gt_live.specs.Domains.{IsOf};
+    ghost use Rattle.gt_live.specs.Domains.{BelongsTo};
 
     ghost Value = { DomId };
 
     ghost view = { λ r. r.domain.seat.dom };
 
-    ghost invariant = { λ r. IsOf P.may r.monitor.now r.domain };
+    ghost invariant = { λ r. BelongsTo P.may r.monitor.now r.domain };
 }
 
 impl<'m, P: Allows> Drop for Running<'m, P> {
@@ -98,10 +98,10 @@ fn answer_of(said: Said, mapped: Option<Handle>) -> Answer {
 }
 
 impl<'m, P: Allows> Running<'m, P> {
-    ghost use Rattle.gt_live.specs.Domains.{IsOf};
+    ghost use Rattle.gt_live.specs.Domains.{BelongsTo};
 
     pub fn new(monitor: &'m Monitor<P>, domain: Domain) -> Self
-        requires { IsOf P.may monitor.now domain }
+        requires { BelongsTo P.may monitor.now domain }
     {
         Running {
             monitor,
@@ -259,7 +259,7 @@ impl<'m, P: Allows> Running<'m, P> {
 
 // Lets domains leave that nothing is asked of.
 fn finish_all<P: Allows>(monitor: &Monitor<P>, domains: Vec<Domain>)
-    requires { All (λ d. IsOf P.may monitor.now d) domains.items }
+    requires { All (λ d. BelongsTo P.may monitor.now d) domains.items }
 {
     let mut rest = domains.into_iter();
     'rest: while let Some(domain) = rest.next() {
@@ -274,7 +274,7 @@ pub fn all_running<'m, P: Allows>(
     monitor: &'m Monitor<P>,
     domains: Vec<Domain>,
 ) -> Result<Vec<Running<'m, P>>, Memory>
-    requires { All (λ d. IsOf P.may monitor.now d) domains.items }
+    requires { All (λ d. BelongsTo P.may monitor.now d) domains.items }
 {
     let Ok(room) = Vec::with_capacity(alloc, domains.len()) else {
         finish_all(monitor, domains);

@@ -1,6 +1,6 @@
 //! Runs of a few domains that may do all to each other but transfer pages.
 ghost use Rattle.std.specs.Prelude.{All, IfOk};
-ghost use Rattle.gt_live.specs.Domains.{IsOf};
+ghost use Rattle.gt_live.specs.Domains.{BelongsTo};
 
 use gt_live::{Domain, Monitor};
 use gt_types::{
@@ -58,7 +58,7 @@ pub fn start<P: Allows + Drop>(
     version: u32,
     first_gen: u32,
 ) -> Result<(Monitor<P>, Vec<Domain>), StartFault>
-    ensures { IfOk result (λ r. All (λ d. IsOf P.may r.0 d) r.1.items) }
+    ensures { IfOk result (λ r. All (λ d. BelongsTo P.may r.0 d) r.1.items) }
 {
     let domains = numbered(alloc, count, version)?;
     let config = Config { domains, first_gen };

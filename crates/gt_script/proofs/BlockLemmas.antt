@@ -11,7 +11,7 @@ use Rattle.std.proofs.lemmas.Slice.Eq.{bytes_eq-Decides}
 use Rattle.std.specs.Str.{bytes_eq}
 use Rattle.gt_lines.specs.Words.{words}
 use Rattle.gt_script.specs.Blocks.{is_just, opening, closing}
-use Rattle.gt_script.specs.Laws.{HasNone}
+use Rattle.gt_script.specs.Laws.{HasNoBlock}
 use Rattle.gt_script.proofs.ScriptLemmas.{texts}
 
 -- a place found behind others
@@ -129,11 +129,11 @@ first_is : (l m : List ℕ) (ls ms : List (List ℕ)) → l ∷ ls ≡ m ∷ ms 
 first_is l m ls ms e = cc
 
 -- no line opens a block
-pub none_opens : (ls : List (List ℕ)) → opening ls ≡ None → HasNone ls
+pub none_opens : (ls : List (List ℕ)) → opening ls ≡ None → HasNoBlock ls
 none_opens [] h = record { front = []; others = []; parts = refl; nothing = All-nil (λ x. words x ≡ []); another = λ l rest e. absurd cc }
 none_opens (l ∷ ls) h = by (eqb (length (words l)) 0) refl (λ e. none_opens ls e) h
   where
-    later : (o : Option ℕ) → opening ls ≡ o → words l ≡ [] → (opening ls ≡ None → HasNone ls) → option_map (λ n. suc n) o ≡ None → HasNone (l ∷ ls)
+    later : (o : Option ℕ) → opening ls ≡ o → words l ≡ [] → (opening ls ≡ None → HasNoBlock ls) → option_map (λ n. suc n) o ≡ None → HasNoBlock (l ∷ ls)
     later None e blank on h =
         let rest = on e in
         record {
@@ -145,7 +145,7 @@ none_opens (l ∷ ls) h = by (eqb (length (words l)) 0) refl (λ e. none_opens l
         }
     later (Some n) e blank on h = absurd cc
 
-    here : (b : Bool) → is_just (codes "policy") (words l) ≡ b → words l ≢ [] → cond {A = Option ℕ} b (Some 0) None ≡ None → HasNone (l ∷ ls)
+    here : (b : Bool) → is_just (codes "policy") (words l) ≡ b → words l ≢ [] → cond {A = Option ℕ} b (Some 0) None ≡ None → HasNoBlock (l ∷ ls)
     here true e some h = absurd cc
     here false e some h = record {
       front = [];
@@ -155,7 +155,7 @@ none_opens (l ∷ ls) h = by (eqb (length (words l)) 0) refl (λ e. none_opens l
       another = λ m rest is. subst (λ (x : List ℕ). (words x ≢ []) × (words x ≢ codes "policy" ∷ [])) (first_is l m ls rest is) (some, just-not (codes "policy") (words l) e);
     }
 
-    by : (b : Bool) → eqb (length (words l)) 0 ≡ b → (opening ls ≡ None → HasNone ls) → cond b (option_map (λ n. suc n) (opening ls)) (cond {A = Option ℕ} (is_just (codes "policy") (words l)) (Some 0) None) ≡ None → HasNone (l ∷ ls)
+    by : (b : Bool) → eqb (length (words l)) 0 ≡ b → (opening ls ≡ None → HasNoBlock ls) → cond b (option_map (λ n. suc n) (opening ls)) (cond {A = Option ℕ} (is_just (codes "policy") (words l)) (Some 0) None) ≡ None → HasNoBlock (l ∷ ls)
     by true e on h = later (opening ls) refl (no_words (words l) e) on h
     by false e on h = here (is_just (codes "policy") (words l)) refl (some_words (words l) e) h
 

@@ -20,15 +20,17 @@ use Rattle.gt_policy.specs.declared.parse.PolicyFaultKind as kinds
 use Rattle.gt_policy.specs.declared.parse.PolicyFaultKind.TheVariants as kind
 use Rattle.gt_lines.specs.Words.{words}
 use Rattle.gt_script.specs.Faults.{error_in_block}
-use Rattle.gt_script.specs.Blocks.{opening, closing, block_text, Means, IsFaulty, IsPolicyOf}
-use Rattle.gt_script.specs.Contents.{told, Contents, empty, with_policy, names_with}
+use Rattle.gt_script.specs.Blocks.{opening, closing, block_text, Means, IsFaultyBlock, IsPolicyOf}
+use Rattle.gt_script.specs.Contents.{contents_told, Contents, empty, with_policy, type_names_with}
 use Rattle.gt_script.specs.Script.{is_empty, has_no_rights, with_words, with_lines, completed, completed_if_ok, whole}
 use Rattle.gt_script.specs.Script.{in_result, in_script, in_policy, ClosedSays, BlockSays, LinesSay, TextSays, TellsFor}
 use Rattle.gt_script.specs.Script.{Wrong}
-use Rattle.gt_script.specs.Laws.{said, domain_in, step_on, order_on, is_for, SayParts, IsTripleScript, IsPolicyScript}
-use Rattle.gt_script.specs.Laws.{IsScriptFor, HasBlock, lines_before, IsOpen, IsFaultOfLine, IsFaultOfEnd, IsFirstFault}
+use Rattle.gt_script.specs.Laws.{lines_said, domain_in, step_on, order_on, is_for, SayParts, IsTripleScript}
+use Rattle.gt_script.specs.Laws.{IsPolicyScript}
+use Rattle.gt_script.specs.Laws.{IsScriptFor, HasBlock, lines_before, IsOpen, IsFaultOfLine, IsFaultOfEnd}
+use Rattle.gt_script.specs.Laws.{IsFirstScriptFault}
 use Rattle.gt_script.specs.Laws.{IsFaultBehind, IsFaultOfLines, IsUnread, IsFaultOf, IsFaultOfBlock, StandsFor}
-use Rattle.gt_script.specs.Outcomes.{Answers, Says}
+use Rattle.gt_script.specs.Outcomes.{AnswersScript, SaysScript}
 use Rattle.gt_script.specs.declared.command.Command.{Command}
 use Rattle.gt_script.specs.declared.script.Script.{Script}
 use Rattle.gt_script.specs.declared.faults.ScriptError.{ScriptError}
@@ -141,7 +143,7 @@ unfolding completed
 whole-by count n ls start s (Ok c) h e = end-whole count n ls start c s (has_no_rights c) (is_empty c.domains) h refl refl e
 whole-by count n ls start s (Err f) h e = absurd cc
 
-fault-by : (count n : ℕ) (ls : List (List ℕ)) (start : Contents) (f : ScriptFault) (r : Result Contents ScriptFault) → with_lines start n ls ≡ r → completed_if_ok count r ≡ Err f → IsFirstFault count start n ls f
+fault-by : (count n : ℕ) (ls : List (List ℕ)) (start : Contents) (f : ScriptFault) (r : Result Contents ScriptFault) → with_lines start n ls ≡ r → completed_if_ok count r ≡ Err f → IsFirstScriptFault count start n ls f
 unfolding completed
 fault-by count n ls start f (Ok c) h e = inr (end-fault count n ls start c f (has_no_rights c) (is_empty c.domains) h refl refl e)
 fault-by count n ls start f (Err g) h e = let same : g ≡ f = cc in inl (fault-at n ls start f (h ∙ ap Err same))
@@ -168,10 +170,10 @@ triple_script command ls s w =
         readable = x.readable;
         triples = x.triples s.types (Grown-refl s.types);
         wear = x.wear;
-        domains = subst (λ (o : Option Allowed). s.domains ≡ filter_map (λ l. domain_in (names_with o s.types) l.1) (said 1 ls)) (sym x.policy) (x.domains s.types (Grown-refl s.types));
-        steps = subst (λ (k : Command). s.steps ≡ filter_map (λ l. step_on k l.0 l.1) (said 1 ls)) (sym x.command) x.steps;
-        orders = subst (λ (k : Command). s.orders ≡ filter_map (λ l. order_on k l.0 l.1) (said 1 ls)) (sym x.command) x.orders;
-        suited = subst (λ (k : Command). All (λ l. IsTrue (is_for k l.1)) (said 1 ls)) (sym x.command) x.suited;
+        domains = subst (λ (o : Option Allowed). s.domains ≡ filter_map (λ l. domain_in (type_names_with o s.types) l.1) (lines_said 1 ls)) (sym x.policy) (x.domains s.types (Grown-refl s.types));
+        steps = subst (λ (k : Command). s.steps ≡ filter_map (λ l. step_on k l.0 l.1) (lines_said 1 ls)) (sym x.command) x.steps;
+        orders = subst (λ (k : Command). s.orders ≡ filter_map (λ l. order_on k l.0 l.1) (lines_said 1 ls)) (sym x.command) x.orders;
+        suited = subst (λ (k : Command). All (λ l. IsTrue (is_for k l.1)) (lines_said 1 ls)) (sym x.command) x.suited;
         faultless = x.faultless faultless-none;
         generation = first_gen-small 1 ls s.wear x.wear;
         configured = x.configured (λ k y past. absurd (omega arith));
@@ -192,10 +194,10 @@ rest_says command n ls p s w =
       readable = x.readable;
       triples = x.triples s.types (Grown-refl s.types);
       wear = x.wear;
-      domains = subst (λ (o : Option Allowed). s.domains ≡ filter_map (λ l. domain_in (names_with o s.types) l.1) (said n ls)) (sym x.policy) (x.domains s.types (Grown-refl s.types));
-      steps = subst (λ (k : Command). s.steps ≡ filter_map (λ l. step_on k l.0 l.1) (said n ls)) (sym x.command) x.steps;
-      orders = subst (λ (k : Command). s.orders ≡ filter_map (λ l. order_on k l.0 l.1) (said n ls)) (sym x.command) x.orders;
-      suited = subst (λ (k : Command). All (λ l. IsTrue (is_for k l.1)) (said n ls)) (sym x.command) x.suited;
+      domains = subst (λ (o : Option Allowed). s.domains ≡ filter_map (λ l. domain_in (type_names_with o s.types) l.1) (lines_said n ls)) (sym x.policy) (x.domains s.types (Grown-refl s.types));
+      steps = subst (λ (k : Command). s.steps ≡ filter_map (λ l. step_on k l.0 l.1) (lines_said n ls)) (sym x.command) x.steps;
+      orders = subst (λ (k : Command). s.orders ≡ filter_map (λ l. order_on k l.0 l.1) (lines_said n ls)) (sym x.command) x.orders;
+      suited = subst (λ (k : Command). All (λ l. IsTrue (is_for k l.1)) (lines_said n ls)) (sym x.command) x.suited;
       faultless = x.faultless faultless-none;
       generation = first_gen-small n ls s.wear x.wear;
       configured = x.configured (λ k y past. absurd (omega arith));
@@ -294,7 +296,7 @@ closed-script command ls first end f b (inl (p, means, e)) =
       has = b.has;
       rights = p;
       means = means;
-      first = subst (λ (k : ℕ). IsFirstFault (length ls) (with_policy command p) k (drop (end + 1) (drop first ls)) f) (number-behind ls first end b) r;
+      first = subst (λ (k : ℕ). IsFirstScriptFault (length ls) (with_policy command p) k (drop (end + 1) (drop first ls)) f) (number-behind ls first end b) r;
     }
 closed-script command ls first end f b (inr (g, faulty, e)) = absurd cc
 
@@ -316,7 +318,7 @@ closed-policy command bytes first end g short text b (inr (h, faulty, e)) =
       block = take end (drop first (lines_in bytes));
       rest = drop (end + 1) (drop first (lines_in bytes));
       has = b.has;
-      faulty = subst (λ (k : ℕ). IsFaulty k (take end (drop first (lines_in bytes))) g) (sym b.before) (subst (λ (x : policy.TokenFault). IsFaulty first (take end (drop first (lines_in bytes))) x) same faulty);
+      faulty = subst (λ (k : ℕ). IsFaultyBlock k (take end (drop first (lines_in bytes))) g) (sym b.before) (subst (λ (x : policy.TokenFault). IsFaultyBlock first (take end (drop first (lines_in bytes))) x) same faulty);
     }
 
 block-policy : (command : Command) (bytes : List ℕ) (place : ℕ) (o : Option ℕ) (g : policy.TokenFault) → length bytes ≤ 1048576 → IsUtf8 bytes → opening (lines_in bytes) ≡ Some place → closing (drop (place + 1) (lines_in bytes)) ≡ o
@@ -345,11 +347,11 @@ tells-policy command bytes g (inl (long, e)) = absurd cc
 tells-policy command bytes g (inr (inl (short, bad, e))) = absurd cc
 tells-policy command bytes g (inr (inr (short, text, says))) = lines-policy command bytes (opening (lines_in bytes)) g short text refl says
 
-pub answers-script : (command : Command) (bytes : List ℕ) (r : Result Script ScriptError) → Answers r (TellsFor command bytes) → IfOk r (λ s. IsScriptFor command (lines_in bytes) (told s))
-answers-script command bytes (Ok s) h = tells-Ok command bytes (told s) h
+pub answers-script : (command : Command) (bytes : List ℕ) (r : Result Script ScriptError) → AnswersScript r (TellsFor command bytes) → IfOk r (λ s. IsScriptFor command (lines_in bytes) (contents_told s))
+answers-script command bytes (Ok s) h = tells-Ok command bytes (contents_told s) h
 answers-script command bytes (Err e) h = tt
 
-pub answers-fault : (command : Command) (bytes : List ℕ) (r : Result Script ScriptError) → Answers r (TellsFor command bytes) → IfErr r (λ e. StandsFor command bytes e)
+pub answers-fault : (command : Command) (bytes : List ℕ) (r : Result Script ScriptError) → AnswersScript r (TellsFor command bytes) → IfErr r (λ e. StandsFor command bytes e)
 answers-fault command bytes (Ok s) h = tt
 answers-fault command bytes (Err errors.Memory) h = tt
 answers-fault command bytes (Err (errors.Fault f)) h = tells-script command bytes f h
@@ -360,27 +362,27 @@ answers-fault command bytes (Err (errors.Policy e)) (g, shown, h) = (g, shown, t
 longer : (n : ℕ) (xs : List ℕ) → n < length (take (n + 1) xs) → n < length xs
 longer n xs h = let many : length (take (n + 1) xs) ≤ length xs = rw length-take (omega arith) in omega (arith, many, h)
 
-tells-all : (command : Command) (all : List ℕ) (said : Result Contents Wrong) → TellsFor command (take 1048577 all) said → TellsFor command all said
-tells-all command all said (inl (long, e)) = inl (longer 1048576 all long, e)
-tells-all command all said (inr (inl (short, bad, e))) = subst (λ (l : List ℕ). TellsFor command l said) (take_whole 1048576 all short) (inr (inl (short, bad, e)))
-tells-all command all said (inr (inr (short, text, says))) = subst (λ (l : List ℕ). TellsFor command l said) (take_whole 1048576 all short) (inr (inr (short, text, says)))
+tells-all : (command : Command) (all : List ℕ) (lines_said : Result Contents Wrong) → TellsFor command (take 1048577 all) lines_said → TellsFor command all lines_said
+tells-all command all lines_said (inl (long, e)) = inl (longer 1048576 all long, e)
+tells-all command all lines_said (inr (inl (short, bad, e))) = subst (λ (l : List ℕ). TellsFor command l lines_said) (take_whole 1048576 all short) (inr (inl (short, bad, e)))
+tells-all command all lines_said (inr (inr (short, text, says))) = subst (λ (l : List ℕ). TellsFor command l lines_said) (take_whole 1048576 all short) (inr (inr (short, text, says)))
 
-pub answers-all : (command : Command) (bytes all : List ℕ) (r : Result Script ScriptError) → bytes ≡ take 1048577 all → Answers r (TellsFor command bytes) → Answers r (TellsFor command all)
-answers-all command bytes all (Ok s) e h = tells-all command all (Ok (told s)) (subst (λ (l : List ℕ). TellsFor command l (Ok (told s))) e h)
+pub answers-all : (command : Command) (bytes all : List ℕ) (r : Result Script ScriptError) → bytes ≡ take 1048577 all → AnswersScript r (TellsFor command bytes) → AnswersScript r (TellsFor command all)
+answers-all command bytes all (Ok s) e h = tells-all command all (Ok (contents_told s)) (subst (λ (l : List ℕ). TellsFor command l (Ok (contents_told s))) e h)
 answers-all command bytes all (Err errors.Memory) e h = tt
 answers-all command bytes all (Err (errors.Fault f)) e h = tells-all command all (Err (in_script f)) (subst (λ (l : List ℕ). TellsFor command l (Err (in_script f))) e h)
 answers-all command bytes all (Err (errors.Policy fault)) e (g, shown, h) = (g, shown, tells-all command all (Err (in_policy g)) (subst (λ (l : List ℕ). TellsFor command l (Err (in_policy g))) e h))
 
 -- from the answers of the parts to those of the whole
 
-pub answers-lines : (r : Result Script ScriptError) (all : Result Contents ScriptFault) → Says r all → Answers r (λ w. w ≡ in_result all)
+pub answers-lines : (r : Result Script ScriptError) (all : Result Contents ScriptFault) → SaysScript r all → AnswersScript r (λ w. w ≡ in_result all)
 answers-lines (Ok s) all h = ap in_result (sym h)
 answers-lines (Err errors.Memory) all h = tt
 answers-lines (Err (errors.Fault f)) all h = ap in_result (sym h)
 answers-lines (Err (errors.Policy e)) all h = absurd h
 
-pub answers-weaker : (r : Result Script ScriptError) (P Q : Result Contents Wrong → Type 0) → ((w : Result Contents Wrong) → P w → Q w) → Answers r P → Answers r Q
-answers-weaker (Ok s) P Q f h = f (Ok (told s)) h
+pub answers-weaker : (r : Result Script ScriptError) (P Q : Result Contents Wrong → Type 0) → ((w : Result Contents Wrong) → P w → Q w) → AnswersScript r P → AnswersScript r Q
+answers-weaker (Ok s) P Q f h = f (Ok (contents_told s)) h
 answers-weaker (Err errors.Memory) P Q f h = tt
 answers-weaker (Err (errors.Fault g)) P Q f h = f (Err (in_script g)) h
 answers-weaker (Err (errors.Policy e)) P Q f (g, shown, h) = (g, shown, f (Err (in_policy g)) h)
@@ -391,9 +393,9 @@ answers-unread command bytes f (inl (long, e)) = inl (long, ap (λ (g : ScriptFa
 answers-unread command bytes f (inr (short, bad, e)) = inr (inl (short, bad, ap (λ (g : ScriptFault). Err (in_script g)) e))
 
 -- a text
-pub answers-text : (command : Command) (bytes text : List ℕ) (r : Result Script ScriptError) → text ≡ bytes → length bytes ≤ 1048576 → IsUtf8 bytes → Answers r (TextSays command text) → Answers r (TellsFor command bytes)
+pub answers-text : (command : Command) (bytes text : List ℕ) (r : Result Script ScriptError) → text ≡ bytes → length bytes ≤ 1048576 → IsUtf8 bytes → AnswersScript r (TextSays command text) → AnswersScript r (TellsFor command bytes)
 answers-text command bytes text r same short utf8 h =
-    subst (λ (l : List ℕ). Answers r (TellsFor command l)) same (answers-weaker r (TextSays command text) (TellsFor command text) (λ w says. inr (inr (subst (λ (l : List ℕ). length l ≤ 1048576) (sym same) short, subst IsUtf8 (sym same) utf8, says))) h)
+    subst (λ (l : List ℕ). AnswersScript r (TellsFor command l)) same (answers-weaker r (TextSays command text) (TellsFor command text) (λ w says. inr (inr (subst (λ (l : List ℕ). length l ≤ 1048576) (sym same) short, subst IsUtf8 (sym same) utf8, says))) h)
 
 -- the parts of a text with a policy block
 
@@ -417,41 +419,41 @@ block_open command count first lines o closes none =
 
 -- a line closes it, and the lines behind it say the rest
 pub block_rest : (command : Command) (count first end : ℕ) (lines : List (Bor (List ℕ))) (p : Allowed) (c : Contents) (r : Result Script ScriptError) → Some end ≡ closing (texts lines) → Means (texts (take end lines)) p → c ≡ with_policy command p
-    → Says r (whole count c (first + end + 1 + 1) (texts (take (length lines - (end + 1)) (drop (end + 1) lines)))) → Answers r (BlockSays command count first (texts lines) (closing (texts lines)))
+    → SaysScript r (whole count c (first + end + 1 + 1) (texts (take (length lines - (end + 1)) (drop (end + 1) lines)))) → AnswersScript r (BlockSays command count first (texts lines) (closing (texts lines)))
 block_rest command count first end lines p c r closes means starts h =
-    let said : Says r (whole count (with_policy command p) (first + end + 1 + 1) (drop (end + 1) (texts lines))) =
-    subst (λ (l : List (List ℕ)). Says r (whole count (with_policy command p) (first + end + 1 + 1) l)) (ap texts (take_rest (end + 1) lines) ∙ texts-drop (end + 1) lines)
-    (subst (λ (k : Contents). Says r (whole count k (first + end + 1 + 1) (texts (take (length lines - (end + 1)) (drop (end + 1) lines))))) starts h) in
+    let lines_said : SaysScript r (whole count (with_policy command p) (first + end + 1 + 1) (drop (end + 1) (texts lines))) =
+    subst (λ (l : List (List ℕ)). SaysScript r (whole count (with_policy command p) (first + end + 1 + 1) l)) (ap texts (take_rest (end + 1) lines) ∙ texts-drop (end + 1) lines)
+    (subst (λ (k : Contents). SaysScript r (whole count k (first + end + 1 + 1) (texts (take (length lines - (end + 1)) (drop (end + 1) lines))))) starts h) in
     let meant : Means (take end (texts lines)) p = subst (λ (l : List (List ℕ)). Means l p) (texts-take end lines) means in
-    subst (λ (q : Option ℕ). Answers r (BlockSays command count first (texts lines) q)) closes
-    (answers-weaker r (λ w. w ≡ in_result (whole count (with_policy command p) (first + end + 1 + 1) (drop (end + 1) (texts lines)))) (ClosedSays command count first (texts lines) end) (λ w e. inl (p, meant, e)) (answers-lines r _ said))
+    subst (λ (q : Option ℕ). AnswersScript r (BlockSays command count first (texts lines) q)) closes
+    (answers-weaker r (λ w. w ≡ in_result (whole count (with_policy command p) (first + end + 1 + 1) (drop (end + 1) (texts lines)))) (ClosedSays command count first (texts lines) end) (λ w e. inl (p, meant, e)) (answers-lines r _ lines_said))
 
-block-fault : (command : Command) (count first end : ℕ) (lines : List (List ℕ)) (error : ScriptError) → IsPolicyOf first (take end lines) (Err error) → Answers (Err error) (ClosedSays command count first lines end)
+block-fault : (command : Command) (count first end : ℕ) (lines : List (List ℕ)) (error : ScriptError) → IsPolicyOf first (take end lines) (Err error) → AnswersScript (Err error) (ClosedSays command count first lines end)
 block-fault command count first end lines errors.Memory h = tt
 block-fault command count first end lines (errors.Fault f) h = absurd h
 block-fault command count first end lines (errors.Policy e) (g, shown, faulty) = (g, shown, inr (g, faulty, refl))
 
 pub block_faulty : (command : Command) (count first end : ℕ) (lines : List (Bor (List ℕ))) (error : ScriptError) → Some end ≡ closing (texts lines) → IsPolicyOf first (texts (take end lines)) (Err error)
-    → Answers (Err error) (BlockSays command count first (texts lines) (closing (texts lines)))
+    → AnswersScript (Err error) (BlockSays command count first (texts lines) (closing (texts lines)))
 block_faulty command count first end lines error closes h =
-    subst (λ (q : Option ℕ). Answers (Err error) (BlockSays command count first (texts lines) q)) closes
+    subst (λ (q : Option ℕ). AnswersScript (Err error) (BlockSays command count first (texts lines) q)) closes
     (block-fault command count first end (texts lines) error (subst (λ (l : List (List ℕ)). IsPolicyOf first l (Err error)) (texts-take end lines) h))
 
 -- lines with a block
 pub lines_block : (command : Command) (lines : List (Bor (List ℕ))) (place : ℕ) (r : Result Script ScriptError) → Some place ≡ opening (texts lines)
-    → (let behind : List (Bor (List ℕ)) = take (length lines - (place + 1)) (drop (place + 1) lines) in Answers r (BlockSays command (length lines) (place + 1) (texts behind) (closing (texts behind)))) → Answers r (LinesSay command (texts lines) (opening (texts lines)))
+    → (let behind : List (Bor (List ℕ)) = take (length lines - (place + 1)) (drop (place + 1) lines) in AnswersScript r (BlockSays command (length lines) (place + 1) (texts behind) (closing (texts behind)))) → AnswersScript r (LinesSay command (texts lines) (opening (texts lines)))
 lines_block command lines place r opens h =
-    subst (λ (q : Option ℕ). Answers r (LinesSay command (texts lines) q)) opens
-    (subst (λ (k : ℕ). Answers r (BlockSays command k (place + 1) (drop (place + 1) (texts lines)) (closing (drop (place + 1) (texts lines))))) (sym (texts-length lines))
-    (subst (λ (l : List (List ℕ)). Answers r (BlockSays command (length lines) (place + 1) l (closing l))) (ap texts (take_rest (place + 1) lines) ∙ texts-drop (place + 1) lines) h))
+    subst (λ (q : Option ℕ). AnswersScript r (LinesSay command (texts lines) q)) opens
+    (subst (λ (k : ℕ). AnswersScript r (BlockSays command k (place + 1) (drop (place + 1) (texts lines)) (closing (drop (place + 1) (texts lines))))) (sym (texts-length lines))
+    (subst (λ (l : List (List ℕ)). AnswersScript r (BlockSays command (length lines) (place + 1) l (closing l))) (ap texts (take_rest (place + 1) lines) ∙ texts-drop (place + 1) lines) h))
 
 -- lines without one
 pub lines_none : (command : Command) (lines : List (Bor (List ℕ))) (c : Contents) (o : Option ℕ) (r : Result Script ScriptError) → o ≡ opening (texts lines) → o ≡ None → c ≡ (empty command)
-    → Says r (whole (length lines) c (0 + 1) (texts lines)) → Answers r (LinesSay command (texts lines) (opening (texts lines)))
+    → SaysScript r (whole (length lines) c (0 + 1) (texts lines)) → AnswersScript r (LinesSay command (texts lines) (opening (texts lines)))
 lines_none command lines c o r opens none starts h =
-    let said : Says r (whole (length (texts lines)) (empty command) 1 (texts lines)) =
-    subst (λ (k : ℕ). Says r (whole k (empty command) 1 (texts lines))) (sym (texts-length lines)) (subst (λ (k : Contents). Says r (whole (length lines) k 1 (texts lines))) starts h) in
-    subst (λ (q : Option ℕ). Answers r (LinesSay command (texts lines) q)) (sym none ∙ opens) (answers-lines r (whole (length (texts lines)) (empty command) 1 (texts lines)) said)
+    let lines_said : SaysScript r (whole (length (texts lines)) (empty command) 1 (texts lines)) =
+    subst (λ (k : ℕ). SaysScript r (whole k (empty command) 1 (texts lines))) (sym (texts-length lines)) (subst (λ (k : Contents). SaysScript r (whole (length lines) k 1 (texts lines))) starts h) in
+    subst (λ (q : Option ℕ). AnswersScript r (LinesSay command (texts lines) q)) (sym none ∙ opens) (answers-lines r (whole (length (texts lines)) (empty command) 1 (texts lines)) lines_said)
 
 -- the policy of a block's text
 

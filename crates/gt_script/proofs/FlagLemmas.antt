@@ -12,7 +12,7 @@ use Rattle.std.proofs.lemmas.List.Folds.{list_any-append}
 use Rattle.std.proofs.lemmas.List.Sums.{fold-append, prefix_len-le-length}
 use Rattle.gt_types.specs.declared.DomId.{DomId}
 use Rattle.gt_lines.specs.declared.signals.Signal.TheVariants.{Tell, Await}
-use Rattle.gt_script.specs.Flags.{names_in, with_flag, flag_in, flags_of, flag_number}
+use Rattle.gt_script.specs.Flags.{names_in, with_flag, flag_in, flag_names_of, flag_number}
 use Rattle.gt_script.specs.Stuck.{IsBelow, AreNumbered}
 use Rattle.gt_script.specs.Tasks.{deed_of, task_of, tasks_for}
 use Rattle.gt_script.specs.declared.orders.Order.{Order}
@@ -62,24 +62,24 @@ named-one names None = refl
 named-one names (Some name) = refl
 
 flags-more : (orders : List Order) (i : ℕ) (x : Order) → i < length orders
-    → flags_of (take (i + 1) orders) ≡ fold with_flag (flags_of (take i orders)) (option_to_list (flag_in (get_or orders i x).asks))
+    → flag_names_of (take (i + 1) orders) ≡ fold with_flag (flag_names_of (take i orders)) (option_to_list (flag_in (get_or orders i x).asks))
 flags-more orders i x within =
     let front : take (i + 1) orders ≡ take i orders ++ get_or orders i x ∷ [] = rw add-one (take-suc orders i x within) in
-    ap flags_of front
+    ap flag_names_of front
     ∙ ap (fold with_flag []) (filter_map-append (λ (o : Order). flag_in o.asks) (take i orders) (get_or orders i x ∷ []))
     ∙ fold-append with_flag [] (filter_map (λ (o : Order). flag_in o.asks) (take i orders)) (cons_option (flag_in (get_or orders i x).asks) [])
-    ∙ named-one (flags_of (take i orders)) (flag_in (get_or orders i x).asks)
+    ∙ named-one (flag_names_of (take i orders)) (flag_in (get_or orders i x).asks)
 
-pub flags-named : (orders : List Order) (i : ℕ) (x : Order) (names new : List (List ℕ)) (name : List ℕ) → i < length orders → names ≡ flags_of (take i orders) → flag_in (get_or orders i x).asks ≡ Some name
-    → new ≡ with_flag names name → new ≡ flags_of (take (i + 1) orders)
+pub flags-named : (orders : List Order) (i : ℕ) (x : Order) (names new : List (List ℕ)) (name : List ℕ) → i < length orders → names ≡ flag_names_of (take i orders) → flag_in (get_or orders i x).asks ≡ Some name
+    → new ≡ with_flag names name → new ≡ flag_names_of (take (i + 1) orders)
 flags-named orders i x names new name within so_far here e =
     e ∙ ap (λ (l : List (List ℕ)). with_flag l name) so_far
-    ∙ ap (λ (o : Option (List ℕ)). fold with_flag (flags_of (take i orders)) (option_to_list o)) (sym here) ∙ sym (flags-more orders i x within)
+    ∙ ap (λ (o : Option (List ℕ)). fold with_flag (flag_names_of (take i orders)) (option_to_list o)) (sym here) ∙ sym (flags-more orders i x within)
 
-pub flags-unnamed : (orders : List Order) (i : ℕ) (x : Order) (names : List (List ℕ)) → i < length orders → names ≡ flags_of (take i orders) → flag_in (get_or orders i x).asks ≡ None
-    → names ≡ flags_of (take (i + 1) orders)
+pub flags-unnamed : (orders : List Order) (i : ℕ) (x : Order) (names : List (List ℕ)) → i < length orders → names ≡ flag_names_of (take i orders) → flag_in (get_or orders i x).asks ≡ None
+    → names ≡ flag_names_of (take (i + 1) orders)
 flags-unnamed orders i x names within so_far here =
-    so_far ∙ ap (λ (o : Option (List ℕ)). fold with_flag (flags_of (take i orders)) (option_to_list o)) (sym here) ∙ sym (flags-more orders i x within)
+    so_far ∙ ap (λ (o : Option (List ℕ)). fold with_flag (flag_names_of (take i orders)) (option_to_list o)) (sym here) ∙ sym (flags-more orders i x within)
 
 -- each flag that is named has a number
 
@@ -153,10 +153,10 @@ lines-below names (o ∷ orders) h =
     (lines-below names orders (rest-named names (flag_in o.asks) _ h))
 
 -- the tasks of a script name no flag past the last
-pub tasks-numbered : (orders : List Order) → AreNumbered (length (flags_of orders)) (tasks_for (flags_of orders) orders)
+pub tasks-numbered : (orders : List Order) → AreNumbered (length (flag_names_of orders)) (tasks_for (flag_names_of orders) orders)
 tasks-numbered orders =
-    All-map (λ (t : Task). IsBelow (length (flags_of orders)) t.deed) (task_of (flags_of orders)) orders
-    (lines-below (flags_of orders) orders (has-all (filter_map (λ (o : Order). flag_in o.asks) orders) []))
+    All-map (λ (t : Task). IsBelow (length (flag_names_of orders)) t.deed) (task_of (flag_names_of orders)) orders
+    (lines-below (flag_names_of orders) orders (has-all (filter_map (λ (o : Order). flag_in o.asks) orders) []))
 
 -- each task is one of a domain that each order is of
 pub tasks-known : (P : DomId → Type 0) (names : List (List ℕ)) (orders : List Order) → All (λ (o : Order). P o.dom) orders → All (λ (t : Task). P t.dom) (tasks_for names orders)

@@ -21,11 +21,13 @@ use Rattle.gt_lines.specs.Fields.{◌>>=◌}
 use Rattle.gt_lines.specs.Lines.{line_of}
 use Rattle.gt_script.specs.Types.{with_type}
 use Rattle.gt_policy.specs.Allowing.{Allowed, type_named}
-use Rattle.gt_script.specs.Contents.{Contents, names_with}
+use Rattle.gt_script.specs.Contents.{Contents, type_names_with}
 use Rattle.gt_script.specs.Script.{is_empty, is_misplaced, has_no_rights, or_config, or_mode, configured}
-use Rattle.gt_script.specs.Script.{domain_written, with_triple, type_in, with_domain, with_step, with_order, with_asked}
+use Rattle.gt_script.specs.Script.{domain_written, with_triple, type_named_in, with_domain, with_step, with_order}
+use Rattle.gt_script.specs.Script.{with_asked}
 use Rattle.gt_script.specs.Script.{with_body, with_placed, with_line, with_words, with_lines}
-use Rattle.gt_script.specs.Laws.{said, triple_in, wear_in, domain_in, step_for, step_on, order_for, order_on, asks_for}
+use Rattle.gt_script.specs.Laws.{lines_said, triple_in, wear_in, domain_in, step_for, step_on, order_for, order_on}
+use Rattle.gt_script.specs.Laws.{asks_for}
 use Rattle.gt_script.specs.Laws.{is_for, IsLine}
 use Rattle.gt_lines.specs.declared.numbers.Number.{Number}
 use Rattle.gt_lines.specs.declared.calls.ScriptAction.{ScriptAction}
@@ -107,7 +109,7 @@ record Adds (n : ℕ) (l : Option Line) (c d : Contents) : Type 0 where
   types : Grown c.types d.types
   triples : (types : List (List ℕ)) → Grown d.types types → d.triples ≡ c.triples ++ option_to_list (l >>= triple_in types)
   wear : option_to_list d.wear ≡ option_to_list c.wear ++ option_to_list (l >>= wear_in)
-  domains : (types : List (List ℕ)) → Grown d.types types → d.domains ≡ c.domains ++ option_to_list (l >>= domain_in (names_with c.policy types))
+  domains : (types : List (List ℕ)) → Grown d.types types → d.domains ≡ c.domains ++ option_to_list (l >>= domain_in (type_names_with c.policy types))
   command : d.command ≡ c.command
   steps : d.steps ≡ c.steps ++ option_to_list (l >>= step_on c.command n)
   orders : d.orders ≡ c.orders ++ option_to_list (l >>= order_on c.command n)
@@ -148,8 +150,8 @@ adds-triple-of n c d t source target free s r same =
       triples = λ types g.
           let first : type_named types t.source ≡ Some source.1 = g.kept _ _ (b.grown.kept _ _ a.number) in
           let second : type_named types t.target ≡ Some target.1 = g.kept _ _ b.number in
-          let said : triple_in types (line.Triple t) ≡ Some (record { source = source.1; target = target.1; perm = t.perm }) = bind-at _ _ _ first ∙ bind-at _ _ _ second in
-          ap (λ (o : Option Triple). c.triples ++ option_to_list o) (sym said);
+          let lines_said : triple_in types (line.Triple t) ≡ Some (record { source = source.1; target = target.1; perm = t.perm }) = bind-at _ _ _ first ∙ bind-at _ _ _ second in
+          ap (λ (o : Option Triple). c.triples ++ option_to_list o) (sym lines_said);
       wear = sym (append-nil (option_to_list c.wear));
       domains = λ types g. sym (append-nil c.domains);
       command = refl;
@@ -171,19 +173,19 @@ adds-triple n c d t free e =
 -- the number that a domain's type has, with the names after its line
 record TypeIn (policy : Option Allowed) (types : List (List ℕ)) (name : List ℕ) (label : List (List ℕ) × TypeId) : Type 0 where
   grown : Grown types label.0
-  number : (later : List (List ℕ)) → Grown label.0 later → type_named (names_with policy later) name ≡ Some label.1
+  number : (later : List (List ℕ)) → Grown label.0 later → type_named (type_names_with policy later) name ≡ Some label.1
 
 declared-as : (types : List (List ℕ)) (o : Option TypeId) (label : List (List ℕ) × TypeId) → option_map (λ id. (types, id)) o ≡ Some label → (types ≡ label.0) × (o ≡ Some label.1)
 declared-as types None label e = absurd cc
 declared-as types (Some id) label e = let same : (types, id) ≡ label = same_Some _ _ e in (ap (λ (l : List (List ℕ) × TypeId). l.0) same, ap (λ (l : List (List ℕ) × TypeId). Some l.1) same)
 
-type_in-Is : (policy : Option Allowed) (types : List (List ℕ)) (name : List ℕ) (label : List (List ℕ) × TypeId) → type_in policy types name ≡ Some label → TypeIn policy types name label
+type_in-Is : (policy : Option Allowed) (types : List (List ℕ)) (name : List ℕ) (label : List (List ℕ) × TypeId) → type_named_in policy types name ≡ Some label → TypeIn policy types name label
 type_in-Is None types name label e = let a = with_type-Typed types name label e in record { grown = a.grown; number = λ later g. g.kept _ _ a.number }
 type_in-Is (Some p) types name label e =
     let is = declared-as types (type_named p.types name) label e in
     record { grown = subst (λ (l : List (List ℕ)). Grown types l) is.0 (Grown-refl types); number = λ later g. is.1 }
 
-adds-domain-of : (n : ℕ) (c d : Contents) (l : DomainLine) (label : List (List ℕ) × TypeId) (domain : DomainConfig) → type_in c.policy c.types l.type_name ≡ Some label → domain_written l label.1 ≡ Some domain
+adds-domain-of : (n : ℕ) (c d : Contents) (l : DomainLine) (label : List (List ℕ) × TypeId) (domain : DomainConfig) → type_named_in c.policy c.types l.type_name ≡ Some label → domain_written l label.1 ≡ Some domain
     → is_none (domain_fault c.domains domain) ≡ true → record c { types = label.0; domains = c.domains ++ domain ∷ [] } ≡ d → Adds n (Some (line.Domain l)) c d
 adds-domain-of n c d l label domain t w fine same =
     let a = type_in-Is c.policy c.types l.type_name label t in
@@ -194,8 +196,8 @@ adds-domain-of n c d l label domain t w fine same =
       triples = λ types g. sym (append-nil c.triples);
       wear = sym (append-nil (option_to_list c.wear));
       domains = λ types g.
-          let said : domain_in (names_with c.policy types) (line.Domain l) ≡ Some domain = bind-at _ _ _ (a.number types g) ∙ w in
-          ap (λ (o : Option DomainConfig). c.domains ++ option_to_list o) (sym said);
+          let lines_said : domain_in (type_names_with c.policy types) (line.Domain l) ≡ Some domain = bind-at _ _ _ (a.number types g) ∙ w in
+          ap (λ (o : Option DomainConfig). c.domains ++ option_to_list o) (sym lines_said);
       command = refl;
       steps = sym (append-nil c.steps);
       orders = sym (append-nil c.orders);
@@ -235,12 +237,12 @@ adds-step n c d number asks dom play small taken e =
       domains = λ types g. sym (append-nil c.domains);
       command = refl;
       steps =
-          let said : step_on c.command n (line.Body number asks) ≡ Some (record { line = n; dom = dom; action = p.0 }) =
+          let lines_said : step_on c.command n (line.Body number asks) ≡ Some (record { line = n; dom = dom; action = p.0 }) =
           ap (λ (k : Command). step_for k n number asks) play ∙ bind-at _ _ _ small ∙ bind-at _ _ _ p.1 in
-          ap (λ (o : Option ScriptStep). c.steps ++ option_to_list o) (sym said);
+          ap (λ (o : Option ScriptStep). c.steps ++ option_to_list o) (sym lines_said);
       orders =
-          let said : order_on c.command n (line.Body number asks) ≡ None = ap (λ (k : Command). order_for k n number asks) play in
-          sym (append-nil c.orders) ∙ ap (λ (o : Option Order). c.orders ++ option_to_list o) (sym said);
+          let lines_said : order_on c.command n (line.Body number asks) ≡ None = ap (λ (k : Command). order_for k n number asks) play in
+          sym (append-nil c.orders) ∙ ap (λ (o : Option Order). c.orders ++ option_to_list o) (sym lines_said);
       suited = ap (λ (k : Command). asks_for k asks) play ∙ ap (λ (o : Option ScriptAction). is_some o) p.1;
       faultless = λ h. h;
       configured = λ h. All-push (λ (s : ScriptStep). IsTrue (is_taken c.domains s.dom)) c.steps _ h taken;
@@ -261,12 +263,12 @@ adds-order n c d number asks dom run small taken e =
       domains = λ types g. sym (append-nil c.domains);
       command = refl;
       steps =
-          let said : step_on c.command n (line.Body number asks) ≡ None = ap (λ (k : Command). step_for k n number asks) run in
-          sym (append-nil c.steps) ∙ ap (λ (o : Option ScriptStep). c.steps ++ option_to_list o) (sym said);
+          let lines_said : step_on c.command n (line.Body number asks) ≡ None = ap (λ (k : Command). step_for k n number asks) run in
+          sym (append-nil c.steps) ∙ ap (λ (o : Option ScriptStep). c.steps ++ option_to_list o) (sym lines_said);
       orders =
-          let said : order_on c.command n (line.Body number asks) ≡ Some (record { line = n; dom = dom; asks = p.0 }) =
+          let lines_said : order_on c.command n (line.Body number asks) ≡ Some (record { line = n; dom = dom; asks = p.0 }) =
           ap (λ (k : Command). order_for k n number asks) run ∙ bind-at _ _ _ small ∙ bind-at _ _ _ p.1 in
-          ap (λ (o : Option Order). c.orders ++ option_to_list o) (sym said);
+          ap (λ (o : Option Order). c.orders ++ option_to_list o) (sym lines_said);
       suited = ap (λ (k : Command). asks_for k asks) run ∙ ap (λ (o : Option RunLine). is_some o) p.1;
       faultless = λ h. h;
       configured = λ h. h;
@@ -359,13 +361,13 @@ pub record Extends (n : ℕ) (ls : List (List ℕ)) (c d : Contents) : Type 0 wh
   pub no_triples : (p : Allowed) → c.policy ≡ Some p → d.triples ≡ c.triples
   pub readable : All IsLine ls
   pub types : Grown c.types d.types
-  pub triples : (types : List (List ℕ)) → Grown d.types types → d.triples ≡ c.triples ++ filter_map (λ l. triple_in types l.1) (said n ls)
-  pub wear : option_to_list d.wear ≡ option_to_list c.wear ++ filter_map (λ l. wear_in l.1) (said n ls)
-  pub domains : (types : List (List ℕ)) → Grown d.types types → d.domains ≡ c.domains ++ filter_map (λ l. domain_in (names_with c.policy types) l.1) (said n ls)
+  pub triples : (types : List (List ℕ)) → Grown d.types types → d.triples ≡ c.triples ++ filter_map (λ l. triple_in types l.1) (lines_said n ls)
+  pub wear : option_to_list d.wear ≡ option_to_list c.wear ++ filter_map (λ l. wear_in l.1) (lines_said n ls)
+  pub domains : (types : List (List ℕ)) → Grown d.types types → d.domains ≡ c.domains ++ filter_map (λ l. domain_in (type_names_with c.policy types) l.1) (lines_said n ls)
   pub command : d.command ≡ c.command
-  pub steps : d.steps ≡ c.steps ++ filter_map (λ l. step_on c.command l.0 l.1) (said n ls)
-  pub orders : d.orders ≡ c.orders ++ filter_map (λ l. order_on c.command l.0 l.1) (said n ls)
-  pub suited : All (λ l. IsTrue (is_for c.command l.1)) (said n ls)
+  pub steps : d.steps ≡ c.steps ++ filter_map (λ l. step_on c.command l.0 l.1) (lines_said n ls)
+  pub orders : d.orders ≡ c.orders ++ filter_map (λ l. order_on c.command l.0 l.1) (lines_said n ls)
+  pub suited : All (λ l. IsTrue (is_for c.command l.1)) (lines_said n ls)
   pub faultless : AreFaultless c.domains → AreFaultless d.domains
   pub configured : All (λ (s : ScriptStep). IsTrue (is_taken c.domains s.dom)) c.steps → All (λ (s : ScriptStep). IsTrue (is_taken d.domains s.dom)) d.steps
   pub ordered : All (λ (o : Order). IsTrue (is_taken c.domains o.dom)) c.orders → All (λ (o : Order). IsTrue (is_taken d.domains o.dom)) d.orders
@@ -396,18 +398,18 @@ extends-cons n l ls c d e a x =
       readable = All-cons IsLine l ls a.readable x.readable;
       types = Grown-trans c.types d.types e.types here.types x.types;
       triples = λ types g. joined c.triples d.triples e.triples _ _ (here.triples types (Grown-trans _ _ _ x.types g)) (x.triples types g)
-          ∙ ap (λ (ts : List Triple). c.triples ++ ts) (sym (filter-cons (λ _ y. triple_in types y) n (line_of (words l)) (said (n + 1) ls)));
+          ∙ ap (λ (ts : List Triple). c.triples ++ ts) (sym (filter-cons (λ _ y. triple_in types y) n (line_of (words l)) (lines_said (n + 1) ls)));
       wear = joined (option_to_list c.wear) (option_to_list d.wear) (option_to_list e.wear) _ _ here.wear x.wear
-          ∙ ap (λ (gs : List ℕ). option_to_list c.wear ++ gs) (sym (filter-cons (λ _ y. wear_in y) n (line_of (words l)) (said (n + 1) ls)));
+          ∙ ap (λ (gs : List ℕ). option_to_list c.wear ++ gs) (sym (filter-cons (λ _ y. wear_in y) n (line_of (words l)) (lines_said (n + 1) ls)));
       domains = λ types g. joined c.domains d.domains e.domains _ _ (here.domains types (Grown-trans _ _ _ x.types g))
-          (subst (λ (q : Option Allowed). e.domains ≡ d.domains ++ filter_map (λ l. domain_in (names_with q types) l.1) (said (n + 1) ls)) here.policy (x.domains types g))
-          ∙ ap (λ (ds : List DomainConfig). c.domains ++ ds) (sym (filter-cons (λ _ y. domain_in (names_with c.policy types) y) n (line_of (words l)) (said (n + 1) ls)));
+          (subst (λ (q : Option Allowed). e.domains ≡ d.domains ++ filter_map (λ l. domain_in (type_names_with q types) l.1) (lines_said (n + 1) ls)) here.policy (x.domains types g))
+          ∙ ap (λ (ds : List DomainConfig). c.domains ++ ds) (sym (filter-cons (λ _ y. domain_in (type_names_with c.policy types) y) n (line_of (words l)) (lines_said (n + 1) ls)));
       command = x.command ∙ here.command;
-      steps = joined c.steps d.steps e.steps _ _ here.steps (subst (λ (k : Command). e.steps ≡ d.steps ++ filter_map (λ l. step_on k l.0 l.1) (said (n + 1) ls)) here.command x.steps)
-          ∙ ap (λ (ss : List ScriptStep). c.steps ++ ss) (sym (filter-cons (step_on c.command) n (line_of (words l)) (said (n + 1) ls)));
-      orders = joined c.orders d.orders e.orders _ _ here.orders (subst (λ (k : Command). e.orders ≡ d.orders ++ filter_map (λ l. order_on k l.0 l.1) (said (n + 1) ls)) here.command x.orders)
-          ∙ ap (λ (os : List Order). c.orders ++ os) (sym (filter-cons (order_on c.command) n (line_of (words l)) (said (n + 1) ls)));
-      suited = suits-cons c.command n (line_of (words l)) (said (n + 1) ls) here.suited (subst (λ (k : Command). All (λ l. IsTrue (is_for k l.1)) (said (n + 1) ls)) here.command x.suited);
+      steps = joined c.steps d.steps e.steps _ _ here.steps (subst (λ (k : Command). e.steps ≡ d.steps ++ filter_map (λ l. step_on k l.0 l.1) (lines_said (n + 1) ls)) here.command x.steps)
+          ∙ ap (λ (ss : List ScriptStep). c.steps ++ ss) (sym (filter-cons (step_on c.command) n (line_of (words l)) (lines_said (n + 1) ls)));
+      orders = joined c.orders d.orders e.orders _ _ here.orders (subst (λ (k : Command). e.orders ≡ d.orders ++ filter_map (λ l. order_on k l.0 l.1) (lines_said (n + 1) ls)) here.command x.orders)
+          ∙ ap (λ (os : List Order). c.orders ++ os) (sym (filter-cons (order_on c.command) n (line_of (words l)) (lines_said (n + 1) ls)));
+      suited = suits-cons c.command n (line_of (words l)) (lines_said (n + 1) ls) here.suited (subst (λ (k : Command). All (λ l. IsTrue (is_for k l.1)) (lines_said (n + 1) ls)) here.command x.suited);
       faultless = λ h. x.faultless (here.faultless h);
       configured = λ h. x.configured (here.configured h);
       ordered = λ h. x.ordered (here.ordered h);

@@ -5,7 +5,7 @@ use Rattle.std.specs.Str.Lines.{lines as lines_in}
 use Rattle.gt_policy.specs.Allowing.{Allowed, Meaning, allowed_by}
 use Rattle.gt_policy.specs.Whole.{Says}
 use Rattle.gt_policy.specs.declared.fault.TokenFault as policy
-use Rattle.gt_script.specs.Blocks.{Means, IsFaulty, behind, block_text, opening, closing}
+use Rattle.gt_script.specs.Blocks.{Means, IsFaultyBlock, fault_in_block, block_text, opening, closing}
 use Rattle.gt_script.specs.Contents.{Contents, with_policy}
 use Rattle.gt_script.specs.declared.command.Command.{Command}
 use Rattle.gt_script.specs.Script.{Wrong, in_policy, in_result, whole, ClosedSays, BlockSays, LinesSay, TellsFor}
@@ -26,10 +26,10 @@ never_both m f e = cc
 means_one : OneMeaning → (lines : List (List ℕ)) (a b : Allowed) → Means lines a → Means lines b → a ≡ b
 means_one one lines a b (m, says, is) (n, said, other) = is ∙ ap allowed_by (same_meaning m n (one (block_text lines) (Ok m) (Ok n) says said)) ∙ sym other
 
-faulty_one : OneMeaning → (before : ℕ) (lines : List (List ℕ)) (f g : policy.TokenFault) → IsFaulty before lines f → IsFaulty before lines g → f ≡ g
-faulty_one one before lines f g (k, says, is) (l, said, other) = is ∙ ap (behind before) (same_fault k l (one (block_text lines) (Err k) (Err l) says said)) ∙ sym other
+faulty_one : OneMeaning → (before : ℕ) (lines : List (List ℕ)) (f g : policy.TokenFault) → IsFaultyBlock before lines f → IsFaultyBlock before lines g → f ≡ g
+faulty_one one before lines f g (k, says, is) (l, said, other) = is ∙ ap (fault_in_block before) (same_fault k l (one (block_text lines) (Err k) (Err l) says said)) ∙ sym other
 
-means_or_faulty : OneMeaning → (before : ℕ) (lines : List (List ℕ)) (a : Allowed) (g : policy.TokenFault) → Means lines a → IsFaulty before lines g → ⊥
+means_or_faulty : OneMeaning → (before : ℕ) (lines : List (List ℕ)) (a : Allowed) (g : policy.TokenFault) → Means lines a → IsFaultyBlock before lines g → ⊥
 means_or_faulty one before lines a g (m, says, is) (f, said, other) = never_both m f (one (block_text lines) (Ok m) (Err f) says said)
 
 closed_one : (command : Command) → OneMeaning → (count first : ℕ) (lines : List (List ℕ)) (end : ℕ) (x y : Result Contents Wrong) → ClosedSays command count first lines end x → ClosedSays command count first lines end y → x ≡ y

@@ -19,8 +19,9 @@ use Rattle.gt_types.specs.declared.DomId.{DomId}
 use Rattle.gt_types.specs.declared.config.DomainConfig.{DomainConfig}
 use Rattle.gt_script.specs.Stuck.{IsBelow, AreNumbered, IsPassed, PassesAll, IsClosed, IsTold, WaitsAt, AllEnd}
 use Rattle.gt_script.specs.Stuck.{IsJudged}
-use Rattle.gt_script.specs.Rounds.{holds, Holds, Within, is_untold, untold, IsDone, is_waiting, told_after, is_new}
-use Rattle.gt_script.specs.Rounds.{Comes, WayTo, WaitsFor, GoesOn, HaveCome, Turning, WaitsIn}
+use Rattle.gt_script.specs.Rounds.{flag_holds, HasFlag, Within, is_untold, untold, IsDone, is_waiting, told_after}
+use Rattle.gt_script.specs.Rounds.{is_new}
+use Rattle.gt_script.specs.Rounds.{Comes, WayTo, WaitsFor, TurnGoesOn, HaveCome, Turning, WaitsIn}
 use Rattle.gt_script.specs.declared.tasks.Deed.{Deed}
 use Rattle.gt_script.specs.declared.tasks.Deed.TheVariants.{Do, Tell, Await}
 use Rattle.gt_script.specs.declared.tasks.Task.{Task}
@@ -33,12 +34,12 @@ comes-more tasks dom place told x within so_far here =
     subst (λ (l : List Task). All (λ t. t.dom.0 ≡ dom.0 → IsDone told t.deed) l) (sym (rw add-one (take-suc tasks place x within)))
     (All-push (λ (t : Task). t.dom.0 ≡ dom.0 → IsDone told t.deed) (take place tasks) (get_or tasks place x) so_far here)
 
-done-grown : (old new : List Bool) → ((flag : ℕ) → Holds old flag → Holds new flag) → (d : Deed) → IsDone old d → IsDone new d
+done-grown : (old new : List Bool) → ((flag : ℕ) → HasFlag old flag → HasFlag new flag) → (d : Deed) → IsDone old d → IsDone new d
 done-grown old new grown (Do call) h = tt
 done-grown old new grown (Tell flag) h = grown flag h
 done-grown old new grown (Await flag) h = grown flag h
 
-comes-grown : (tasks : List Task) (dom : DomId) (place : ℕ) (old new : List Bool) → ((flag : ℕ) → Holds old flag → Holds new flag) → Comes tasks dom place old → Comes tasks dom place new
+comes-grown : (tasks : List Task) (dom : DomId) (place : ℕ) (old new : List Bool) → ((flag : ℕ) → HasFlag old flag → HasFlag new flag) → Comes tasks dom place old → Comes tasks dom place new
 comes-grown tasks dom place old new grown come =
     All-weaker (λ (t : Task). t.dom.0 ≡ dom.0 → IsDone old t.deed) (λ (t : Task). t.dom.0 ≡ dom.0 → IsDone new t.deed) (λ t h own. done-grown old new grown t.deed (h own)) (take place tasks) come
 
@@ -64,18 +65,18 @@ way-past tasks dom old new place news x w within here = record {
   loud = w.loud;
 }
 
-pub done-await : (told : List Bool) (d : Deed) (flag : ℕ) → d ≡ Await flag → Holds told flag → IsDone told d
+pub done-await : (told : List Bool) (d : Deed) (flag : ℕ) → d ≡ Await flag → HasFlag told flag → IsDone told d
 done-await told d flag e h = subst (λ (k : Deed). IsDone told k) (sym e) h
 
 -- telling a flag
 
-told-more : (told : List Bool) (flag f : ℕ) → flag < length told → Holds told f → Holds (set told flag true) f
+told-more : (told : List Bool) (flag f : ℕ) → flag < length told → HasFlag told f → HasFlag (set told flag true) f
 told-more told flag f within h = elim (cases_eq f flag) [
-  | inl e ↦ subst (λ (k : ℕ). Holds (set told flag true) k) (sym e) (get_or-set_same told flag true false within)
+  | inl e ↦ subst (λ (k : ℕ). HasFlag (set told flag true) k) (sym e) (get_or-set_same told flag true false within)
   | inr n ↦ get_or-set_other told flag f true false n ∙ h
 ]
 
-told-before : (told : List Bool) (flag f : ℕ) → Holds (set told flag true) f → (f ≡ flag) ⊎ Holds told f
+told-before : (told : List Bool) (flag f : ℕ) → HasFlag (set told flag true) f → (f ≡ flag) ⊎ HasFlag told f
 told-before told flag f h = elim (cases_eq f flag) [
   | inl e ↦ inl e
   | inr n ↦ inr (sym (get_or-set_other told flag f true false n) ∙ h)
@@ -85,21 +86,21 @@ no_fewer : (old new : List Bool) (news : Bool) → (news ≡ false → new ≡ o
 no_fewer old new true quiet loud = let less = loud refl in omega arith
 no_fewer old new false quiet loud = let same : untold new ≡ untold old = ap untold (quiet refl) in omega arith
 
-fewer-by : (told : List Bool) (flag : ℕ) → flag < length told → holds told flag ≡ false → untold (set told flag true) < untold told
+fewer-by : (told : List Bool) (flag : ℕ) → flag < length told → flag_holds told flag ≡ false → untold (set told flag true) < untold told
 fewer-by told flag within h =
     let sums = sum_by-set is_untold told flag true false within in
     let was : is_untold (get_or told flag false) ≡ 1 = ap is_untold h in
     omega (arith, sums, was)
 
-same-told : (told : List Bool) (flag : ℕ) → Holds told flag → set told flag true ≡ told
+same-told : (told : List Bool) (flag : ℕ) → HasFlag told flag → set told flag true ≡ told
 same-told told flag h = ap (λ (b : Bool). set told flag b) (sym h) ∙ set-get_or told flag false
 
-quiet-tell : (old new : List Bool) (flag : ℕ) (news b : Bool) → (news ≡ false → new ≡ old) → holds new flag ≡ b → (news || not b) ≡ false → set new flag true ≡ old
+quiet-tell : (old new : List Bool) (flag : ℕ) (news b : Bool) → (news ≡ false → new ≡ old) → flag_holds new flag ≡ b → (news || not b) ≡ false → set new flag true ≡ old
 quiet-tell old new flag false true quiet h e = same-told new flag h ∙ quiet refl
 quiet-tell old new flag false false quiet h e = absurd cc
 quiet-tell old new flag true b quiet h e = absurd cc
 
-loud-tell : (old new : List Bool) (flag : ℕ) (news b : Bool) → flag < length new → (news ≡ false → new ≡ old) → (news ≡ true → untold new < untold old) → holds new flag ≡ b → (news || not b) ≡ true
+loud-tell : (old new : List Bool) (flag : ℕ) (news b : Bool) → flag < length new → (news ≡ false → new ≡ old) → (news ≡ true → untold new < untold old) → flag_holds new flag ≡ b → (news || not b) ≡ true
     → untold (set new flag true) < untold old
 loud-tell old new flag news false within quiet loud h e = let some = no_fewer old new news quiet loud in let less = fewer-by new flag within h in omega (arith, some, less)
 loud-tell old new flag true true within quiet loud h e = subst (λ (k : ℕ). k < untold old) (sym (ap untold (same-told new flag h))) (loud refl)
@@ -117,9 +118,9 @@ passes-all tasks dom own place told set within same come =
     (λ t h e. passes told set within t.deed (h (e ∙ same))) (take place tasks) come
 
 pub way-tell : (tasks : List Task) (dom : DomId) (old new : List Bool) (place flag : ℕ) (news : Bool) (x : Task) → WayTo tasks dom old new place news → place < length tasks
-    → (get_or tasks place x).deed ≡ Tell flag → (get_or tasks place x).dom.0 ≡ dom.0 → flag < length new → WayTo tasks dom old (set new flag true) (place + 1) (news || not (holds new flag))
+    → (get_or tasks place x).deed ≡ Tell flag → (get_or tasks place x).dom.0 ≡ dom.0 → flag < length new → WayTo tasks dom old (set new flag true) (place + 1) (news || not (flag_holds new flag))
 way-tell tasks dom old new place flag news x w within deed own below =
-    let grown : (f : ℕ) → Holds new f → Holds (set new flag true) f = λ f h. told-more new flag f below h in
+    let grown : (f : ℕ) → HasFlag new f → HasFlag (set new flag true) f = λ f h. told-more new flag f below h in
     record {
       comes = comes-more tasks dom place (set new flag true) x within (comes-grown tasks dom place new (set new flag true) grown w.comes)
           (λ e. subst (λ (d : Deed). IsDone (set new flag true) d) (sym deed) (get_or-set_same new flag true false below));
@@ -130,8 +131,8 @@ way-tell tasks dom old new place flag news x w within deed own below =
         | inr k ↦ w.sound all closed inside f k
       ];
       many = length-set new flag true ∙ w.many;
-      quiet = λ e. quiet-tell old new flag news (holds new flag) w.quiet refl e;
-      loud = λ e. loud-tell old new flag news (holds new flag) below w.quiet w.loud refl e;
+      quiet = λ e. quiet-tell old new flag news (flag_holds new flag) w.quiet refl e;
+      loud = λ e. loud-tell old new flag news (flag_holds new flag) below w.quiet w.loud refl e;
     }
 
 -- past one of its own tasks, at which it does not wait
@@ -153,7 +154,7 @@ way-by tasks dom old new place news x (Do call) w within deed own below waits =
 way-by tasks dom old new place news x (Tell flag) w within deed own below waits = way-tell tasks dom old new place flag news x w within deed own below
 way-by tasks dom old new place news x (Await flag) w within deed own below waits =
     subst (λ (b : Bool). WayTo tasks dom old new (place + 1) b) (sym (or-false news))
-    (way-past tasks dom old new place news x w within (λ e. done-await new _ flag deed (not-true (holds new flag) waits)))
+    (way-past tasks dom old new place news x w within (λ e. done-await new _ flag deed (not-true (flag_holds new flag) waits)))
 
 pub below-at : (tasks : List Task) (old new : List Bool) (dom : DomId) (place : ℕ) (news : Bool) (x : Task) → AreNumbered (length old) tasks → WayTo tasks dom old new place news → place < length tasks → x ≡ get_or tasks place x
     → IsBelow (length new) x.deed
@@ -174,7 +175,7 @@ way-other tasks dom old new place news x w within is other = way-past tasks dom 
 -- where a domain stops
 
 pub goes-on : (tasks : List Task) (dom : DomId) (old new : List Bool) (place flag : ℕ) (news : Bool) (x : Task) → WayTo tasks dom old new place news → place < length tasks
-    → (get_or tasks place x).deed ≡ Await flag → (get_or tasks place x).dom.0 ≡ dom.0 → holds new flag ≡ false → GoesOn tasks dom old new place news
+    → (get_or tasks place x).deed ≡ Await flag → (get_or tasks place x).dom.0 ≡ dom.0 → flag_holds new flag ≡ false → TurnGoesOn tasks dom old new place news
 goes-on tasks dom old new place flag news x w within deed own untold = (
   let le : place ≤ length tasks = omega arith in le,
   w,
@@ -183,23 +184,23 @@ goes-on tasks dom old new place flag news x w within deed own untold = (
       (flag, subst (λ (t : Task). t.deed ≡ Await flag) is deed, subst (λ (t : Task). t.dom.0 ≡ dom.0) is own, untold),
 )
 
-waits-at : (told : List Bool) (d : Deed) → is_waiting told d ≡ true → (flag : ℕ) × (d ≡ Await flag) × (holds told flag ≡ false)
+waits-at : (told : List Bool) (d : Deed) → is_waiting told d ≡ true → (flag : ℕ) × (d ≡ Await flag) × (flag_holds told flag ≡ false)
 unfolding is_waiting
 waits-at told (Do call) e = absurd cc
 waits-at told (Tell flag) e = absurd cc
-waits-at told (Await flag) e = (flag, refl, not-false (holds told flag) e)
+waits-at told (Await flag) e = (flag, refl, not-false (flag_holds told flag) e)
   where
     not-false : (b : Bool) → not b ≡ true → b ≡ false
     not-false true e = absurd cc
     not-false false e = refl
 
 pub stops-at : (tasks : List Task) (dom : DomId) (old new : List Bool) (place : ℕ) (news : Bool) (x : Task) → WayTo tasks dom old new place news → place < length tasks → x ≡ get_or tasks place x
-    → x.dom.0 ≡ dom.0 → is_waiting new x.deed ≡ true → GoesOn tasks dom old new place news
+    → x.dom.0 ≡ dom.0 → is_waiting new x.deed ≡ true → TurnGoesOn tasks dom old new place news
 stops-at tasks dom old new place news x w within is own waits =
     let f = waits-at new x.deed waits in
     goes-on tasks dom old new place f.0 news x w within (ap (λ (t : Task). t.deed) (sym is) ∙ f.1) (ap (λ (t : Task). t.dom.0) (sym is) ∙ own) f.2
 
-pub goes-to-end : (tasks : List Task) (dom : DomId) (old new : List Bool) (place : ℕ) (news : Bool) → WayTo tasks dom old new place news → place ≡ length tasks → GoesOn tasks dom old new (length tasks) news
+pub goes-to-end : (tasks : List Task) (dom : DomId) (old new : List Bool) (place : ℕ) (news : Bool) → WayTo tasks dom old new place news → place ≡ length tasks → TurnGoesOn tasks dom old new (length tasks) news
 goes-to-end tasks dom old new place news w e =
     (omega arith, subst (λ (k : ℕ). WayTo tasks dom old new k news) e w, λ task there. absurd (omega (arith, slice_get_within tasks (length tasks) task there)))
 
@@ -222,7 +223,7 @@ loud-turn old new newer true false quiet loud calm strong e = subst (λ (l : Lis
 loud-turn old new newer false false quiet loud calm strong e = absurd cc
 
 pub turn-more : (tasks : List Task) (domains : List DomainConfig) (places : List ℕ) (old new newer : List Bool) (i p : ℕ) (news more : Bool) (x : DomainConfig) → Turning tasks domains places old new i news
-    → i < length domains → length places ≡ length domains → GoesOn tasks (get_or domains i x).id new newer p more → Turning tasks domains (set places i p) old newer (i + 1) (news || more)
+    → i < length domains → length places ≡ length domains → TurnGoesOn tasks (get_or domains i x).id new newer p more → Turning tasks domains (set places i p) old newer (i + 1) (news || more)
 turn-more tasks domains places old new newer i p news more x t within many (short, way, waits) =
     let room : i < length places = omega arith in
     let here : get_or (set places i p) i 0 ≡ p = get_or-set_same places i p 0 room in
@@ -275,7 +276,7 @@ sound-more tasks old new step so_far set closed = step set closed (so_far set cl
 
 -- before the first turn
 
-none-told : (n f : ℕ) → holds (replicate n false) f ≡ false
+none-told : (n f : ℕ) → flag_holds (replicate n false) f ≡ false
 none-told n f = elim (cases_lt f n) [
   | inl below ↦ get_or-replicate n f false false below
   | inr past ↦ get_or_past (replicate n false) f false (omega (arith, length-replicate n false))
@@ -298,18 +299,18 @@ nobody-went tasks domains n told i d there = (
 
 -- after a turn without news the told flags are closed
 
-at-tell : (told : List Bool) (d : Deed) (flag : ℕ) → d ≡ Tell flag → IsDone told d → Holds told flag
+at-tell : (told : List Bool) (d : Deed) (flag : ℕ) → d ≡ Tell flag → IsDone told d → HasFlag told flag
 at-tell told d flag e h = subst (λ (k : Deed). IsDone told k) e h
 
-at-await : (told : List Bool) (d : Deed) (flag : ℕ) → d ≡ Await flag → IsPassed (Holds told) d → Holds told flag
-at-await told d flag e h = subst (λ (k : Deed). IsPassed (Holds told) k) e h
+at-await : (told : List Bool) (d : Deed) (flag : ℕ) → d ≡ Await flag → IsPassed (HasFlag told) d → HasFlag told flag
+at-await told d flag e h = subst (λ (k : Deed). IsPassed (HasFlag told) k) e h
 
 tell-or-await : (d : Deed) (f g : ℕ) → d ≡ Tell f → d ≡ Await g → ⊥
 tell-or-await d f g e h = cc
 
 -- the task at this place tells its flag, where the domain has come further
 behind : (tasks : List Task) (dom : DomId) (place at : ℕ) (task : Task) (flag : ℕ) (told : List Bool) → Comes tasks dom place told → slice_get tasks at ≡ Some task → task.dom.0 ≡ dom.0 → task.deed ≡ Tell flag
-    → at < place → Holds told flag
+    → at < place → HasFlag told flag
 behind tasks dom place at task flag told come there own deed less =
     let within : at < length tasks = slice_get_within tasks at task there in
     let inside : at < length (take place tasks) = rw length-take (omega arith) in
@@ -318,7 +319,7 @@ behind tasks dom place at task flag told come there own deed less =
 
 -- it can't stand where the domain waits, nor behind that place, past which the domain would have gone
 ahead : (tasks : List Task) (dom : DomId) (place at : ℕ) (task : Task) (flag : ℕ) (told : List Bool) → WaitsFor tasks dom place told → slice_get tasks at ≡ Some task → task.dom.0 ≡ dom.0 → task.deed ≡ Tell flag
-    → PassesAll (Holds told) task.dom (take at tasks) → place ≤ at → ⊥
+    → PassesAll (HasFlag told) task.dom (take at tasks) → place ≤ at → ⊥
 ahead tasks dom place at task flag told waits there own deed before le =
     let within : at < length tasks = slice_get_within tasks at task there in
     let w = waits (get_or tasks place task) (slice_get-get_or tasks place task (omega arith)) in
@@ -330,21 +331,21 @@ ahead tasks dom place at task flag told waits there own deed before le =
           let less : place < at = omega (arith, n) in
           let inside : place < length (take at tasks) = rw length-take (omega arith) in
           let is : get_or (take at tasks) place task ≡ get_or tasks place task = get_or-take at tasks place task less in
-          let passed = subst (λ (t : Task). t.dom.0 ≡ task.dom.0 → IsPassed (Holds told) t.deed) is (before place task inside) (w.2 ∙ sym own) in
+          let passed = subst (λ (t : Task). t.dom.0 ≡ task.dom.0 → IsPassed (HasFlag told) t.deed) is (before place task inside) (w.2 ∙ sym own) in
           cc (at-await told _ w.0 w.1 passed, w.3)
     ]
 
 closed-at : (tasks : List Task) (domains : List DomainConfig) (places : List ℕ) (told : List Bool) → HaveCome tasks domains places told
     → ((i : ℕ) (d : DomainConfig) → i < length domains → slice_get domains i ≡ Some d → WaitsFor tasks d.id (get_or places i 0) told)
     → (i at : ℕ) (d : DomainConfig) (task : Task) (flag : ℕ) → slice_get domains i ≡ Some d → task.dom.0 ≡ d.id.0 → slice_get tasks at ≡ Some task → task.deed ≡ Tell flag
-    → PassesAll (Holds told) task.dom (take at tasks) → Holds told flag
+    → PassesAll (HasFlag told) task.dom (take at tasks) → HasFlag told flag
 closed-at tasks domains places told have rest i at d task flag known own there deed before = elim (cases_lt at (get_or places i 0)) [
   | inl less ↦ behind tasks d.id (get_or places i 0) at task flag told (have i d known).1 there own deed less
   | inr past ↦ absurd (ahead tasks d.id (get_or places i 0) at task flag told (rest i d (slice_get_within domains i d known) known) there own deed before past)
 ]
 
 pub closed-told : (tasks : List Task) (domains : List DomainConfig) (places : List ℕ) (old told : List Bool) (news : Bool) → All (λ (t : Task). IsTrue (is_taken domains t.dom)) tasks
-    → Turning tasks domains places old told (length domains) news → news ≡ false → IsClosed tasks (holds told)
+    → Turning tasks domains places old told (length domains) news → news ≡ false → IsClosed tasks (flag_holds told)
 closed-told tasks domains places old told news known t e at task flag there deed before =
     let within : at < length tasks = slice_get_within tasks at task there in
     let is : get_or tasks at task ≡ task = get_or_from_slice_get tasks at task task there in
@@ -355,8 +356,8 @@ closed-told tasks domains places old told news known t e at task flag there deed
 
 -- flags that are told in the least closed set
 
-pub told-is : (tasks : List Task) (told : List Bool) → IsClosed tasks (holds told) → ((set : ℕ → Bool) → IsClosed tasks set → Within told set) → (flag : ℕ) → Holds told flag ↔ IsTold tasks flag
-told-is tasks told closed least flag = (λ h set c. least set c flag h, λ h. h (holds told) closed)
+pub told-is : (tasks : List Task) (told : List Bool) → IsClosed tasks (flag_holds told) → ((set : ℕ → Bool) → IsClosed tasks set → Within told set) → (flag : ℕ) → HasFlag told flag ↔ IsTold tasks flag
+told-is tasks told closed least flag = (λ h set c. least set c flag h, λ h. h (flag_holds told) closed)
 
 passed-as : (A B : ℕ → Type 0) → ((f : ℕ) → A f → B f) → (d : Deed) → IsPassed A d → IsPassed B d
 passed-as A B to (Do call) h = tt
@@ -396,35 +397,35 @@ judged-as A B to tasks domains (Some line) h = record {
 
 -- domain by domain
 
-all-end-more : (told : List Bool) (tasks : List Task) (domains : List DomainConfig) (i : ℕ) (x : DomainConfig) → AllEnd (Holds told) tasks (take i domains) → i < length domains
-    → PassesAll (Holds told) (get_or domains i x).id tasks → AllEnd (Holds told) tasks (take (i + 1) domains)
+all-end-more : (told : List Bool) (tasks : List Task) (domains : List DomainConfig) (i : ℕ) (x : DomainConfig) → AllEnd (HasFlag told) tasks (take i domains) → i < length domains
+    → PassesAll (HasFlag told) (get_or domains i x).id tasks → AllEnd (HasFlag told) tasks (take (i + 1) domains)
 all-end-more told tasks domains i x so_far within here =
-    subst (λ (l : List DomainConfig). AllEnd (Holds told) tasks l) (sym (rw add-one (take-suc domains i x within)))
-    (All-push (λ (d : DomainConfig). PassesAll (Holds told) d.id tasks) (take i domains) (get_or domains i x) so_far here)
+    subst (λ (l : List DomainConfig). AllEnd (HasFlag told) tasks l) (sym (rw add-one (take-suc domains i x within)))
+    (All-push (λ (d : DomainConfig). PassesAll (HasFlag told) d.id tasks) (take i domains) (get_or domains i x) so_far here)
 
-none-by : (told : List Bool) (tasks : List Task) (domains : List DomainConfig) (i : ℕ) (x : DomainConfig) (o : Option ℕ) → AllEnd (Holds told) tasks (take i domains) → i < length domains
-    → WaitsIn told tasks (get_or domains i x).id o → is_some o ≡ false → AllEnd (Holds told) tasks (take (i + 1) domains)
+none-by : (told : List Bool) (tasks : List Task) (domains : List DomainConfig) (i : ℕ) (x : DomainConfig) (o : Option ℕ) → AllEnd (HasFlag told) tasks (take i domains) → i < length domains
+    → WaitsIn told tasks (get_or domains i x).id o → is_some o ≡ false → AllEnd (HasFlag told) tasks (take (i + 1) domains)
 none-by told tasks domains i x None so_far within here e = all-end-more told tasks domains i x so_far within here
 none-by told tasks domains i x (Some line) so_far within here e = absurd cc
 
-one-by : (told : List Bool) (tasks : List Task) (domains : List DomainConfig) (i : ℕ) (x : DomainConfig) (o : Option ℕ) → ((f : ℕ) → Holds told f ↔ IsTold tasks f) → AllEnd (Holds told) tasks (take i domains)
+one-by : (told : List Bool) (tasks : List Task) (domains : List DomainConfig) (i : ℕ) (x : DomainConfig) (o : Option ℕ) → ((f : ℕ) → HasFlag told f ↔ IsTold tasks f) → AllEnd (HasFlag told) tasks (take i domains)
     → i < length domains → WaitsIn told tasks (get_or domains i x).id o → is_some o ≡ true → IsJudged (IsTold tasks) tasks domains o
 one-by told tasks domains i x None to so_far within here e = absurd cc
 one-by told tasks domains i x (Some line) to so_far within here e =
-    judged-as (Holds told) (IsTold tasks) to tasks domains (Some line)
+    judged-as (HasFlag told) (IsTold tasks) to tasks domains (Some line)
     (record { place = i; domain = get_or domains i x; there = slice_get-get_or domains i x within; others = so_far; waits = here })
 
-pub none-waits : (told now : List Bool) (tasks : List Task) (domains : List DomainConfig) (i : ℕ) (x : DomainConfig) (o : Option ℕ) → AllEnd (Holds told) tasks (take i domains) → i < length domains → now ≡ told
-    → WaitsIn now tasks (get_or domains i x).id o → is_some o ≡ false → AllEnd (Holds told) tasks (take (i + 1) domains)
+pub none-waits : (told now : List Bool) (tasks : List Task) (domains : List DomainConfig) (i : ℕ) (x : DomainConfig) (o : Option ℕ) → AllEnd (HasFlag told) tasks (take i domains) → i < length domains → now ≡ told
+    → WaitsIn now tasks (get_or domains i x).id o → is_some o ≡ false → AllEnd (HasFlag told) tasks (take (i + 1) domains)
 none-waits told now tasks domains i x o so_far within same here e =
     none-by told tasks domains i x o so_far within (subst (λ (l : List Bool). WaitsIn l tasks (get_or domains i x).id o) same here) e
 
-pub one-waits : (told now : List Bool) (tasks : List Task) (domains : List DomainConfig) (i : ℕ) (x : DomainConfig) (o : Option ℕ) → ((f : ℕ) → Holds told f ↔ IsTold tasks f)
-    → AllEnd (Holds told) tasks (take i domains) → i < length domains → now ≡ told → WaitsIn now tasks (get_or domains i x).id o → is_some o ≡ true → IsJudged (IsTold tasks) tasks domains o
+pub one-waits : (told now : List Bool) (tasks : List Task) (domains : List DomainConfig) (i : ℕ) (x : DomainConfig) (o : Option ℕ) → ((f : ℕ) → HasFlag told f ↔ IsTold tasks f)
+    → AllEnd (HasFlag told) tasks (take i domains) → i < length domains → now ≡ told → WaitsIn now tasks (get_or domains i x).id o → is_some o ≡ true → IsJudged (IsTold tasks) tasks domains o
 one-waits told now tasks domains i x o to so_far within same here e =
     one-by told tasks domains i x o to so_far within (subst (λ (l : List Bool). WaitsIn l tasks (get_or domains i x).id o) same here) e
 
-pub nobody-waits : (told : List Bool) (tasks : List Task) (domains : List DomainConfig) (i : ℕ) → ((f : ℕ) → Holds told f ↔ IsTold tasks f) → AllEnd (Holds told) tasks (take i domains) → length domains ≤ i
+pub nobody-waits : (told : List Bool) (tasks : List Task) (domains : List DomainConfig) (i : ℕ) → ((f : ℕ) → HasFlag told f ↔ IsTold tasks f) → AllEnd (HasFlag told) tasks (take i domains) → length domains ≤ i
     → IsJudged (IsTold tasks) tasks domains None
 nobody-waits told tasks domains i to so_far all =
-    judged-as (Holds told) (IsTold tasks) to tasks domains None (subst (λ (l : List DomainConfig). AllEnd (Holds told) tasks l) (take_all i domains all) so_far)
+    judged-as (HasFlag told) (IsTold tasks) to tasks domains None (subst (λ (l : List DomainConfig). AllEnd (HasFlag told) tasks l) (take_all i domains all) so_far)

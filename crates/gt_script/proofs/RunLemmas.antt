@@ -3,10 +3,10 @@ use Rattle.std.proofs.Common.{◌≡◌, inl, inr, ℕ, List, length, Option, So
 use Rattle.std.proofs.Common.{subst, All, IsTrue, IfOk}
 use Rattle.gt_types.specs.Config.{is_taken}
 use Rattle.gt_types.specs.declared.config.DomainConfig.{DomainConfig}
-use Rattle.gt_script.specs.Contents.{Contents, told, without_orders}
-use Rattle.gt_script.specs.Flags.{flags_of}
+use Rattle.gt_script.specs.Contents.{Contents, contents_told, without_orders}
+use Rattle.gt_script.specs.Flags.{flag_names_of}
 use Rattle.gt_script.specs.Laws.{IsScriptFor}
-use Rattle.gt_script.specs.Outcomes.{Answers}
+use Rattle.gt_script.specs.Outcomes.{AnswersScript}
 use Rattle.gt_script.specs.RunContents.{RunContents}
 use Rattle.gt_script.specs.RunScripts.{CanConfigure, RunSays, RunTells, RunAnswers}
 use Rattle.gt_script.specs.Script.{Wrong, in_script, TellsFor}
@@ -23,22 +23,22 @@ use Rattle.gt_script.specs.declared.tasks.Task.{Task}
 use Rattle.gt_script.proofs.FlagLemmas.{tasks-numbered, tasks-known}
 
 -- the tasks that were made are those of the script
-pub tasks-are : (c : Contents) (orders : List Order) (names : List (List ℕ)) (tasks : List Task) → orders ≡ c.orders → names ≡ flags_of orders → tasks ≡ tasks_for names orders → tasks ≡ tasks_of c
+pub tasks-are : (c : Contents) (orders : List Order) (names : List (List ℕ)) (tasks : List Task) → orders ≡ c.orders → names ≡ flag_names_of orders → tasks ≡ tasks_for names orders → tasks ≡ tasks_of c
 tasks-are c orders names tasks same named made =
-    made ∙ ap (λ (ns : List (List ℕ)). tasks_for ns orders) named ∙ ap (λ (os : List Order). tasks_for (flags_of os) os) same
+    made ∙ ap (λ (ns : List (List ℕ)). tasks_for ns orders) named ∙ ap (λ (os : List Order). tasks_for (flag_names_of os) os) same
 
-pub flags-are : (c : Contents) (orders : List Order) (names : List (List ℕ)) (count : ℕ) → orders ≡ c.orders → names ≡ flags_of orders → count ≡ length names → count ≡ length (flags_of c.orders)
-flags-are c orders names count same named many = many ∙ ap (λ (ns : List (List ℕ)). length ns) named ∙ ap (λ (os : List Order). length (flags_of os)) same
+pub flags-are : (c : Contents) (orders : List Order) (names : List (List ℕ)) (count : ℕ) → orders ≡ c.orders → names ≡ flag_names_of orders → count ≡ length names → count ≡ length (flag_names_of c.orders)
+flags-are c orders names count same named many = many ∙ ap (λ (ns : List (List ℕ)). length ns) named ∙ ap (λ (os : List Order). length (flag_names_of os)) same
 
-pub numbered : (c : Contents) (count : ℕ) (tasks : List Task) → count ≡ length (flags_of c.orders) → tasks ≡ tasks_of c → AreNumbered count tasks
+pub numbered : (c : Contents) (count : ℕ) (tasks : List Task) → count ≡ length (flag_names_of c.orders) → tasks ≡ tasks_of c → AreNumbered count tasks
 numbered c count tasks many is =
-    subst (λ (n : ℕ). AreNumbered n tasks) (sym many) (subst (λ (ts : List Task). AreNumbered (length (flags_of c.orders)) ts) (sym is) (tasks-numbered c.orders))
+    subst (λ (n : ℕ). AreNumbered n tasks) (sym many) (subst (λ (ts : List Task). AreNumbered (length (flag_names_of c.orders)) ts) (sym is) (tasks-numbered c.orders))
 
 pub known : (c : Contents) (domains : List DomainConfig) (tasks : List Task) → domains ≡ c.domains → tasks ≡ tasks_of c → All (λ (o : Order). IsTrue (is_taken c.domains o.dom)) c.orders
     → All (λ (t : Task). IsTrue (is_taken domains t.dom)) tasks
 known c domains tasks same is h =
     subst (λ (ds : List DomainConfig). All (λ (t : Task). IsTrue (is_taken ds t.dom)) tasks) (sym same)
-    (subst (λ (ts : List Task). All (λ (t : Task). IsTrue (is_taken c.domains t.dom)) ts) (sym is) (tasks-known (λ dom. IsTrue (is_taken c.domains dom)) (flags_of c.orders) c.orders h))
+    (subst (λ (ts : List Task). All (λ (t : Task). IsTrue (is_taken c.domains t.dom)) ts) (sym is) (tasks-known (λ dom. IsTrue (is_taken c.domains dom)) (flag_names_of c.orders) c.orders h))
 
 judged-in : (c : Contents) (domains : List DomainConfig) (tasks : List Task) (o : Option ℕ) → domains ≡ c.domains → tasks ≡ tasks_of c → IsJudged (IsTold tasks) tasks domains o
     → IsJudged (IsTold (tasks_of c)) (tasks_of c) c.domains o
@@ -51,7 +51,7 @@ says-stuck c domains tasks o line same is h e =
     (subst (λ (p : Option ℕ). IsJudged (IsTold (tasks_of c)) (tasks_of c) c.domains p) e (judged-in c domains tasks o same is h), refl)
 
 pub says-run : (c : Contents) (domains : List DomainConfig) (head : Contents) (tasks kept : List Task) (flags : ℕ) (o : Option ℕ) → domains ≡ c.domains → tasks ≡ tasks_of c → kept ≡ tasks_of c → head ≡ without_orders c
-    → flags ≡ length (flags_of c.orders) → IsJudged (IsTold tasks) tasks domains o → o ≡ None → RunSays c (Ok (record { head = head; tasks = kept; flags = flags }))
+    → flags ≡ length (flag_names_of c.orders) → IsJudged (IsTold tasks) tasks domains o → o ≡ None → RunSays c (Ok (record { head = head; tasks = kept; flags = flags }))
 says-run c domains head tasks kept flags o same is too front many h e =
     (subst (λ (p : Option ℕ). IsJudged (IsTold (tasks_of c)) (tasks_of c) c.domains p) e (judged-in c domains tasks o same is h), rw (too, front, many) refl)
 
@@ -70,7 +70,7 @@ says-tells bytes c t (Err wrong) h = inr (c, t, h)
 pub run-tells : (bytes : List ℕ) (c : Contents) (r : Result RunScript ScriptError) → TellsFor Run bytes (Ok c) → RunAnswers r (RunSays c) → RunAnswers r (RunTells bytes)
 run-tells bytes c r t h = run-weaker r (RunSays c) (RunTells bytes) (says-tells bytes c t) h
 
-pub fault-tells : (bytes : List ℕ) (error : ScriptError) → Answers (Err error) (TellsFor Run bytes) → RunAnswers (Err error) (RunTells bytes)
+pub fault-tells : (bytes : List ℕ) (error : ScriptError) → AnswersScript (Err error) (TellsFor Run bytes) → RunAnswers (Err error) (RunTells bytes)
 fault-tells bytes errors.Memory h = tt
 fault-tells bytes (errors.Fault fault) h = inl h
 fault-tells bytes (errors.Policy fault) (g, shown, h) = (g, shown, inl h)
@@ -79,9 +79,9 @@ can-configure : (lines : List (List ℕ)) (c : Contents) → IsScriptFor Run lin
 can-configure lines c (inl s) = (s.parts.faultless, s.parts.some_domain, s.parts.generation)
 can-configure lines c (inr s) = (s.parts.faultless, s.parts.some_domain, s.parts.generation)
 
-pub head-configures : (lines : List (List ℕ)) (c : Contents) (r : Result RunScript ScriptError) → IsScriptFor Run lines c → RunAnswers r (RunSays c) → IfOk r (λ s. CanConfigure (told s.head))
+pub head-configures : (lines : List (List ℕ)) (c : Contents) (r : Result RunScript ScriptError) → IsScriptFor Run lines c → RunAnswers r (RunSays c) → IfOk r (λ s. CanConfigure (contents_told s.head))
 head-configures lines c (Ok s) of h =
-    let head : told s.head ≡ without_orders c = ap (λ (k : RunContents). k.head) h.1 in
+    let head : contents_told s.head ≡ without_orders c = ap (λ (k : RunContents). k.head) h.1 in
     subst (λ (k : Contents). CanConfigure k) (sym head) (can-configure lines c of)
 head-configures lines c (Err e) of h = tt
 

@@ -12,7 +12,7 @@ use Rattle.gt_lines.specs.Words.{words}
 use Rattle.gt_lines.specs.Numbers.{decimal_value, decimal_number, below}
 use Rattle.gt_lines.specs.Fields.{◌>>=◌, generation_word}
 use Rattle.gt_lines.specs.Lines.{triple_of, wear_of, domain_of, body_of, line_of, asked_of}
-use Rattle.gt_script.specs.Laws.{said, wear_in}
+use Rattle.gt_script.specs.Laws.{lines_said, wear_in}
 use Rattle.gt_lines.specs.declared.numbers.Number.{Number}
 use Rattle.gt_lines.specs.declared.lines.BodyLine.{BodyLine}
 use Rattle.gt_lines.specs.declared.lines.TripleLine.{TripleLine}
@@ -78,10 +78,10 @@ ages-cons (Some (line.Wear first)) h gs a = All-cons (λ g. g ≤ LAST_GENERATIO
 ages-cons (Some (line.Domain d)) h gs a = a
 ages-cons (Some (line.Body id asks)) h gs a = a
 
-all-age : (n : ℕ) (ls : List (List ℕ)) → All (λ g. g ≤ LAST_GENERATION) (filter_map (λ l. wear_in l.1) (said n ls))
+all-age : (n : ℕ) (ls : List (List ℕ)) → All (λ g. g ≤ LAST_GENERATION) (filter_map (λ l. wear_in l.1) (lines_said n ls))
 all-age n [] = All-nil (λ g. g ≤ LAST_GENERATION)
 all-age n (l ∷ ls) =
-    subst (λ (gs : List ℕ). All (λ g. g ≤ LAST_GENERATION) gs) (sym (filter-cons (λ _ y. wear_in y) n (line_of (words l)) (said (n + 1) ls)))
+    subst (λ (gs : List ℕ). All (λ g. g ≤ LAST_GENERATION) gs) (sym (filter-cons (λ _ y. wear_in y) n (line_of (words l)) (lines_said (n + 1) ls)))
     (ages-cons (line_of (words l)) (line-ages (words l)) _ (all-age (n + 1) ls))
 
 first-ages : (o : Option ℕ) → All (λ g. g ≤ LAST_GENERATION) (option_to_list o) → unwrap_or o 0 ≤ LAST_GENERATION
@@ -89,5 +89,5 @@ first-ages None a = omega arith
 first-ages (Some n) a = a 0 n (omega arith)
 
 -- the generation of the lines `wear`, where they are at most one
-pub first_gen-small : (n : ℕ) (ls : List (List ℕ)) (o : Option ℕ) → option_to_list o ≡ filter_map (λ l. wear_in l.1) (said n ls) → unwrap_or o 0 ≤ LAST_GENERATION
+pub first_gen-small : (n : ℕ) (ls : List (List ℕ)) (o : Option ℕ) → option_to_list o ≡ filter_map (λ l. wear_in l.1) (lines_said n ls) → unwrap_or o 0 ≤ LAST_GENERATION
 first_gen-small n ls o e = first-ages o (subst (λ (gs : List ℕ). All (λ g. g ≤ LAST_GENERATION) gs) (sym e) (all-age n ls))

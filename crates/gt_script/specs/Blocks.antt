@@ -30,16 +30,16 @@ closing [] = None
 closing (l ∷ ls) = if is_just (codes "end") (words l) then Some 0 else option_map (λ n. suc n) (closing ls)
 
 -- a line with its end
-abbrev pub ended : List ℕ → List ℕ
-ended line = line ++ 10 ∷ []
+abbrev pub closed_block : List ℕ → List ℕ
+closed_block line = line ++ 10 ∷ []
 
 -- the text of a policy: the lines of its block, each with its end
 abbrev pub block_text : List (List ℕ) → List ℕ
-block_text lines = flat_map ended lines
+block_text lines = flat_map closed_block lines
 
 -- a fault of a policy, on a line that has others in front of its text
-abbrev pub behind : ℕ → policy.TokenFault → policy.TokenFault
-behind before f = record { line = before + f.line; kind = f.kind }
+abbrev pub fault_in_block : ℕ → policy.TokenFault → policy.TokenFault
+fault_in_block before f = record { line = before + f.line; kind = f.kind }
 
 -- the fault in the text that a fault of a block shows; none if memory ran out
 abbrev pub block_fault_shown : BlockFault → Option policy.TokenFault
@@ -50,8 +50,8 @@ abbrev pub Means : List (List ℕ) → Allowed → Type 0
 Means lines a = (m : Meaning) × Says (block_text lines) (Ok m) × (a ≡ allowed_by m)
 
 -- the block, after so many lines, has this fault, which is its first
-abbrev pub IsFaulty : ℕ → List (List ℕ) → policy.TokenFault → Type 0
-IsFaulty before lines g = (f : policy.TokenFault) × Says (block_text lines) (Err f) × (g ≡ behind before f)
+abbrev pub IsFaultyBlock : ℕ → List (List ℕ) → policy.TokenFault → Type 0
+IsFaultyBlock before lines g = (f : policy.TokenFault) × Says (block_text lines) (Err f) × (g ≡ fault_in_block before f)
 
 -- the policy of a block or its fault, unless memory ran out
 abbrev pub IsPolicyOf : ℕ → List (List ℕ) → Result KeptPolicy ScriptError → Type 0
@@ -59,4 +59,4 @@ IsPolicyOf before lines (Ok p) = Means lines (allowed_of p)
 IsPolicyOf before lines (Err errors.Memory) = Unit {0}
 IsPolicyOf before lines (Err (errors.Fault f)) = ⊥
 IsPolicyOf before lines (Err (errors.Policy e)) =
-    (g : policy.TokenFault) × (block_fault_shown e ≡ Some g) × IsFaulty before lines g
+    (g : policy.TokenFault) × (block_fault_shown e ≡ Some g) × IsFaultyBlock before lines g

@@ -33,8 +33,8 @@ pub record KeptContents : Type 0 where
   pub orders : List Order
 
 -- what a script holds that is kept so
-abbrev pub told : KeptContents → Contents
-told k = record {
+abbrev pub contents_told : KeptContents → Contents
+contents_told k = record {
   command = k.command;
   policy = option_map allowed_of k.policy;
   types = k.types;
@@ -68,13 +68,13 @@ abbrev pub without_orders : Contents → Contents
 without_orders c = record c { orders = [] }
 
 -- the names of the types, with these if there is no policy
-abbrev pub names_with : Option Allowed → List (List ℕ) → List (List ℕ)
-names_with None types = types
-names_with (Some p) types = p.types
+abbrev pub type_names_with : Option Allowed → List (List ℕ) → List (List ℕ)
+type_names_with None types = types
+type_names_with (Some p) types = p.types
 
 -- the names of the types, by their numbers
 abbrev pub type_names : Contents → List (List ℕ)
-type_names c = names_with c.policy c.types
+type_names c = type_names_with c.policy c.types
 
 -- the first generation of all entries: 0 if no line gives it
 abbrev pub first_gen : Contents → ℕ

@@ -21,13 +21,13 @@ fault_word Mode = codes "mode"
 fault_word Stuck = codes "stuck"
 
 -- a fault with the number of its line
-abbrev pub fault_text : ScriptFault → List ℕ
-fault_text f = codes "line " ++ decimal f.line ++ codes ": " ++ fault_word f.kind
+abbrev pub script_fault_text : ScriptFault → List ℕ
+script_fault_text f = codes "line " ++ decimal f.line ++ codes ": " ++ fault_word f.kind
 
 -- why there is no script: a fault of its policy block is reported as one of a policy, with its line in the script
 abbrev pub error_text : ScriptError → List ℕ
 error_text Memory = codes "memory"
-error_text (errors.Fault f) = fault_text f
+error_text (errors.Fault f) = script_fault_text f
 error_text (errors.Policy f) = policy_fault_text f.line f.kind
 
 -- a kind of fault of a policy on this line of a script, if it is not refused memory

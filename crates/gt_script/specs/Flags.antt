@@ -23,8 +23,8 @@ flag_in (runs.Signal (Tell flag)) = Some flag
 flag_in (runs.Signal (Await flag)) = Some flag
 
 -- the names of the flags of these lines, each once, in the order in which they first appear
-abbrev pub flags_of : List Order → List (List ℕ)
-flags_of orders = fold with_flag [] (filter_map (λ o. flag_in o.asks) orders)
+abbrev pub flag_names_of : List Order → List (List ℕ)
+flag_names_of orders = fold with_flag [] (filter_map (λ o. flag_in o.asks) orders)
 
 -- the number of a flag: the place of its name
 unfoldable pub flag_number : List (List ℕ) → List ℕ → ℕ

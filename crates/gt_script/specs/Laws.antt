@@ -7,15 +7,15 @@ use Rattle.gt_script.specs.Prelude.{Triple, DomainConfig, Allowed, type_named, w
 use Rattle.gt_script.specs.Prelude.{Line, Number, BodyLine, Command, Play, Run, Order, ScriptStep, ScriptFault, Limit}
 use Rattle.gt_script.specs.Prelude.{Utf8, Syntax, Config, ScriptError, Memory}
 use Rattle.gt_policy.specs.declared.fault.TokenFault as policy
-use Rattle.gt_script.specs.Blocks.{Means, IsFaulty, block_fault_shown}
+use Rattle.gt_script.specs.Blocks.{Means, IsFaultyBlock, block_fault_shown}
 use Rattle.gt_script.specs.Contents.{Contents, empty, with_policy, type_names, first_gen}
 use Rattle.gt_script.specs.Script.{domain_written, action_in, run_line_in, with_words, with_lines}
 use Rattle.gt_lines.specs.declared.lines.Line.TheVariants as line
 use Rattle.gt_script.specs.declared.faults.ScriptError.TheVariants as errors
 
 -- what the lines say, each with its number
-abbrev pub said : ℕ → List (List ℕ) → List (ℕ × Line)
-said n lines = filter_map (λ l. option_map (λ x. (l.0, x)) (line_of (words l.1))) (enumerate_from n lines)
+abbrev pub lines_said : ℕ → List (List ℕ) → List (ℕ × Line)
+lines_said n lines = filter_map (λ l. option_map (λ x. (l.0, x)) (line_of (words l.1))) (enumerate_from n lines)
 
 -- the triple of a line, if it says one
 abbrev pub triple_in : List (List ℕ) → Line → Option Triple
@@ -93,12 +93,12 @@ IsLine line = (words line ≡ []) ⊎ IsSome (line_of (words line))
 -- it, in their order; so at most one of them is a line `wear`
 pub record SayParts (n : ℕ) (lines : List (List ℕ)) (c : Contents) : Type 0 where
   pub readable : All IsLine lines
-  pub triples : c.triples ≡ filter_map (λ l. triple_in c.types l.1) (said n lines)
-  pub wear : option_to_list c.wear ≡ filter_map (λ l. wear_in l.1) (said n lines)
-  pub domains : c.domains ≡ filter_map (λ l. domain_in (type_names c) l.1) (said n lines)
-  pub steps : c.steps ≡ filter_map (λ l. step_on c.command l.0 l.1) (said n lines)
-  pub orders : c.orders ≡ filter_map (λ l. order_on c.command l.0 l.1) (said n lines)
-  pub suited : All (λ l. IsTrue (is_for c.command l.1)) (said n lines)
+  pub triples : c.triples ≡ filter_map (λ l. triple_in c.types l.1) (lines_said n lines)
+  pub wear : option_to_list c.wear ≡ filter_map (λ l. wear_in l.1) (lines_said n lines)
+  pub domains : c.domains ≡ filter_map (λ l. domain_in (type_names c) l.1) (lines_said n lines)
+  pub steps : c.steps ≡ filter_map (λ l. step_on c.command l.0 l.1) (lines_said n lines)
+  pub orders : c.orders ≡ filter_map (λ l. order_on c.command l.0 l.1) (lines_said n lines)
+  pub suited : All (λ l. IsTrue (is_for c.command l.1)) (lines_said n lines)
   pub faultless : AreFaultless c.domains
   pub generation : first_gen c ≤ LAST_GENERATION
   pub configured : All (λ s. IsTrue (is_taken c.domains s.dom)) c.steps
@@ -173,8 +173,8 @@ pub record IsFaultOfEnd (count n : ℕ) (lines : List (List ℕ)) (c : Contents)
       ⊎ (((1 ≤ length all.triples) ⊎ IsSome all.policy) × (all.domains ≡ []) × (f.kind ≡ Config))
 
 -- the first fault of lines from number n on that are added to a script of `count` lines
-abbrev pub IsFirstFault : ℕ → Contents → ℕ → List (List ℕ) → ScriptFault → Type 0
-IsFirstFault count c n lines f = IsFaultOfLine n lines c f ⊎ IsFaultOfEnd count n lines c f
+abbrev pub IsFirstScriptFault : ℕ → Contents → ℕ → List (List ℕ) → ScriptFault → Type 0
+IsFirstScriptFault count c n lines f = IsFaultOfLine n lines c f ⊎ IsFaultOfEnd count n lines c f
 
 -- a line `policy` opens a block that no line `end` closes
 pub record IsOpen (lines : List (List ℕ)) : Type 0 where
@@ -188,7 +188,7 @@ pub record IsOpen (lines : List (List ℕ)) : Type 0 where
 
 -- the lines open no block: they are all without words, or the first with
 -- words says something else than just `policy`
-pub record HasNone (lines : List (List ℕ)) : Type 0 where
+pub record HasNoBlock (lines : List (List ℕ)) : Type 0 where
   pub front : List (List ℕ)
   pub others : List (List ℕ)
   pub parts : lines ≡ front ++ others
@@ -202,12 +202,13 @@ pub record IsFaultBehind (command : Command) (lines : List (List ℕ)) (f : Scri
   pub has : HasBlock lines block rest
   pub rights : Allowed
   pub means : Means block rights
-  pub first : IsFirstFault (length lines) (with_policy command rights) (lines_before has + length block + 2) rest f
+  pub first : IsFirstScriptFault (length lines) (with_policy command rights)
+      (lines_before has + length block + 2) rest f
 
 -- the first fault of the lines, if it is none of a policy
 abbrev pub IsFaultOfLines : Command → List (List ℕ) → ScriptFault → Type 0
 IsFaultOfLines command lines f =
-    (HasNone lines × IsFirstFault (length lines) (empty command) 1 lines f)
+    (HasNoBlock lines × IsFirstScriptFault (length lines) (empty command) 1 lines f)
     ⊎ ((IsOpen lines × (f ≡ record { line = length lines + 1; kind = Syntax }))
     ⊎ IsFaultBehind command lines f)
 
@@ -230,7 +231,7 @@ pub record IsFaultOfBlock (bytes : List ℕ) (g : policy.TokenFault) : Type 0 wh
   pub block : List (List ℕ)
   pub rest : List (List ℕ)
   pub has : HasBlock (lines_in bytes) block rest
-  pub faulty : IsFaulty (lines_before has) block g
+  pub faulty : IsFaultyBlock (lines_before has) block g
 
 -- memory ran out, or this is the first fault of a script for the command
 abbrev pub StandsFor : Command → List ℕ → ScriptError → Type 0

@@ -10,16 +10,16 @@ use Rattle.gt_script.specs.declared.tasks.Deed.TheVariants.{Do, Tell, Await}
 use Rattle.gt_script.specs.declared.tasks.Task.{Task}
 
 -- whether a flag is raised
-abbrev pub holds : List Bool → ℕ → Bool
-holds told flag = get_or told flag false
+abbrev pub flag_holds : List Bool → ℕ → Bool
+flag_holds told flag = get_or told flag false
 
 -- a flag is raised
-abbrev pub Holds : List Bool → ℕ → Type 0
-Holds told flag = IsTrue (holds told flag)
+abbrev pub HasFlag : List Bool → ℕ → Type 0
+HasFlag told flag = IsTrue (flag_holds told flag)
 
 -- each raised flag is one of this set
 abbrev pub Within : List Bool → (ℕ → Bool) → Type 0
-Within told set = (flag : ℕ) → Holds told flag → IsTrue (set flag)
+Within told set = (flag : ℕ) → HasFlag told flag → IsTrue (set flag)
 
 -- one for a flag that is not raised
 abbrev pub is_untold : Bool → ℕ
@@ -33,14 +33,14 @@ untold told = sum_by is_untold told
 -- the flag of a task is raised
 abbrev pub IsDone : List Bool → Deed → Type 0
 IsDone told (Do call) = Unit {0}
-IsDone told (Tell flag) = Holds told flag
-IsDone told (Await flag) = Holds told flag
+IsDone told (Tell flag) = HasFlag told flag
+IsDone told (Await flag) = HasFlag told flag
 
 -- a domain waits at this deed
 unfoldable pub is_waiting : List Bool → Deed → Bool
 is_waiting told (Do call) = false
 is_waiting told (Tell flag) = false
-is_waiting told (Await flag) = not (holds told flag)
+is_waiting told (Await flag) = not (flag_holds told flag)
 
 -- the raised flags after this deed
 unfoldable pub told_after : List Bool → Deed → List Bool
@@ -51,7 +51,7 @@ told_after told (Await flag) = told
 -- this deed raises a flag that is not raised yet
 unfoldable pub is_new : List Bool → Deed → Bool
 is_new told (Do call) = false
-is_new told (Tell flag) = not (holds told flag)
+is_new told (Tell flag) = not (flag_holds told flag)
 is_new told (Await flag) = false
 
 -- the domain has come to this place: the flags of its own tasks before it are raised
@@ -61,7 +61,7 @@ Comes tasks dom place told = All (λ t. t.dom.0 ≡ dom.0 → IsDone told t.deed
 -- a domain went on to this place and raised flags on its way; the last part says whether one was new
 pub record WayTo (tasks : List Task) (dom : DomId) (old new : List Bool) (place : ℕ) (is_news : Bool) : Type 0 where
   pub comes : Comes tasks dom place new
-  pub grown : (flag : ℕ) → Holds old flag → Holds new flag
+  pub grown : (flag : ℕ) → HasFlag old flag → HasFlag new flag
   pub sound : (set : ℕ → Bool) → IsClosed tasks set → Within old set → Within new set
   pub many : length new ≡ length old
   pub quiet : is_news ≡ false → new ≡ old
@@ -70,11 +70,11 @@ pub record WayTo (tasks : List Task) (dom : DomId) (old new : List Bool) (place 
 -- a domain at this place waits there for a flag that is not raised, unless it is at its end
 abbrev pub WaitsFor : List Task → DomId → ℕ → List Bool → Type 0
 WaitsFor tasks dom place told = (task : Task) → slice_get tasks place ≡ Some task
-    → (flag : ℕ) × (task.deed ≡ Await flag) × (task.dom.0 ≡ dom.0) × (holds told flag ≡ false)
+    → (flag : ℕ) × (task.deed ≡ Await flag) × (task.dom.0 ≡ dom.0) × (flag_holds told flag ≡ false)
 
 -- a domain went on as far as raised flags let it
-abbrev pub GoesOn : List Task → DomId → List Bool → List Bool → ℕ → Bool → Type 0
-GoesOn tasks dom old new place is_news =
+abbrev pub TurnGoesOn : List Task → DomId → List Bool → List Bool → ℕ → Bool → Type 0
+TurnGoesOn tasks dom old new place is_news =
     (place ≤ length tasks) × WayTo tasks dom old new place is_news × WaitsFor tasks dom place new
 
 -- each domain has come to its place
@@ -95,5 +95,5 @@ pub record Turning (tasks : List Task) (domains : List DomainConfig) (places : L
 
 -- the line where a domain waits, if these flags are raised; none if it comes to its end
 abbrev pub WaitsIn : List Bool → List Task → DomId → Option ℕ → Type 0
-WaitsIn told tasks dom None = PassesAll (Holds told) dom tasks
-WaitsIn told tasks dom (Some line) = WaitsAt (Holds told) tasks dom line
+WaitsIn told tasks dom None = PassesAll (HasFlag told) dom tasks
+WaitsIn told tasks dom (Some line) = WaitsAt (HasFlag told) tasks dom line

@@ -1,6 +1,6 @@
 -- What a script for `run` holds.
 use Rattle.std.specs.Prelude.{ℕ, List}
-use Rattle.gt_script.specs.Contents.{Contents, KeptContents, told}
+use Rattle.gt_script.specs.Contents.{Contents, KeptContents, contents_told}
 use Rattle.gt_script.specs.declared.tasks.Task.{Task}
 
 -- what comes before the body, as a script without lines of a body; what each line of
@@ -18,4 +18,4 @@ pub record RunKept : Type 0 where
 
 -- what a script holds that is kept so
 abbrev pub run_told : RunKept → RunContents
-run_told k = record { head = told k.head; tasks = k.tasks; flags = k.flags }
+run_told k = record { head = contents_told k.head; tasks = k.tasks; flags = k.flags }

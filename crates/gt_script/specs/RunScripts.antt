@@ -6,7 +6,7 @@ use Rattle.gt_types.specs.declared.limits.TheConstants.{LAST_GENERATION}
 use Rattle.gt_policy.specs.declared.fault.TokenFault as policy
 use Rattle.gt_script.specs.Blocks.{block_fault_shown}
 use Rattle.gt_script.specs.Contents.{Contents, without_orders, first_gen}
-use Rattle.gt_script.specs.Flags.{flags_of}
+use Rattle.gt_script.specs.Flags.{flag_names_of}
 use Rattle.gt_script.specs.RunContents.{RunContents, run_told}
 use Rattle.gt_script.specs.Script.{Wrong, in_script, in_policy, TellsFor}
 use Rattle.gt_script.specs.Stuck.{IsTold, AllEnd, IsStuckAt}
@@ -28,7 +28,7 @@ list_of tasks dom = filter (λ t. t.dom.0 == dom.0) tasks
 
 -- what a script that was read for `run` holds: flags are numbered as they first appear in it
 abbrev pub run_of : Contents → RunContents
-run_of c = record { head = without_orders c; tasks = tasks_of c; flags = length (flags_of c.orders) }
+run_of c = record { head = without_orders c; tasks = tasks_of c; flags = length (flag_names_of c.orders) }
 
 -- a script that was read for `run` says this: what it holds, if each domain comes to the end of its
 -- list, and else the line where the first one that does not waits for ever

@@ -7,7 +7,7 @@ use Rattle.gt_script.specs.Prelude.{◌>>=◌, line_of, Number, ScriptAction, Bo
 use Rattle.gt_script.specs.Prelude.{TripleLine, DomainLine, Line, ScriptFaultKind, Limit, Utf8, Syntax, Config, Mode}
 use Rattle.gt_script.specs.Prelude.{ScriptFault}
 use Rattle.gt_policy.specs.declared.fault.TokenFault as policy
-use Rattle.gt_script.specs.Blocks.{opening, closing, Means, IsFaulty}
+use Rattle.gt_script.specs.Blocks.{opening, closing, Means, IsFaultyBlock}
 use Rattle.gt_script.specs.Types.{with_type}
 use Rattle.gt_script.specs.Contents.{Contents, empty, with_policy}
 use Rattle.gt_lines.specs.declared.calls.ScriptAction.TheVariants as actions
@@ -60,24 +60,24 @@ with_triple c t = or_config (do
   }))
 
 -- the number of a domain's type, which the policy has to declare; if there is none, any name is a type
-abbrev pub type_in : Option Allowed → List (List ℕ) → List ℕ → Option (List (List ℕ) × TypeId)
-type_in None types name = with_type types name
-type_in (Some p) types name = option_map (λ id. (types, id)) (type_named p.types name)
+abbrev pub type_named_in : Option Allowed → List (List ℕ) → List ℕ → Option (List (List ℕ) × TypeId)
+type_named_in None types name = with_type types name
+type_named_in (Some p) types name = option_map (λ id. (types, id)) (type_named p.types name)
 
 -- a script with these names of its types, and the number of one of them
-abbrev pub with_names : Contents → List (List ℕ) × TypeId → Contents × TypeId
-with_names c named = (record c { types = named.0 }, named.1)
+abbrev pub with_type_names : Contents → List (List ℕ) × TypeId → Contents × TypeId
+with_type_names c named = (record c { types = named.0 }, named.1)
 
 -- a name has this number as that of a domain's type, and the script takes in the
 -- name if it is new; none if the name is no type
 abbrev pub GivesTypeNumber : Contents → Contents → List ℕ → Option TypeId → Type 0
 GivesTypeNumber old new name number =
-    option_map (λ id. (new, id)) number ≡ option_map (with_names old) (type_in old.policy old.types name)
+    option_map (λ id. (new, id)) number ≡ option_map (with_type_names old) (type_named_in old.policy old.types name)
 
 -- a script with one domain more, which has no fault after those before it
 unfoldable pub with_domain : Contents → DomainLine → Result Contents ScriptFaultKind
 with_domain c d = or_config (do
-  label ← type_in c.policy c.types d.type_name
+  label ← type_named_in c.policy c.types d.type_name
   domain ← domain_written d label.1
   if is_none (domain_fault c.domains domain)
       then Some (record c { types = label.0; domains = c.domains ++ domain ∷ [] }) else None)
@@ -182,7 +182,7 @@ abbrev pub ClosedSays : Command → ℕ → ℕ → List (List ℕ) → ℕ → 
 ClosedSays command count first lines end said =
     ((p : Allowed) × Means (take end lines) p
     × (said ≡ in_result (whole count (with_policy command p) (first + end + 1 + 1) (drop (end + 1) lines))))
-    ⊎ ((g : policy.TokenFault) × IsFaulty first (take end lines) g × (said ≡ Err (in_policy g)))
+    ⊎ ((g : policy.TokenFault) × IsFaultyBlock first (take end lines) g × (said ≡ Err (in_policy g)))
 
 -- the same, if a line `end` may be missing
 abbrev pub BlockSays : Command → ℕ → ℕ → List (List ℕ) → Option ℕ → Result Contents Wrong → Type 0
@@ -209,5 +209,5 @@ TellsFor command bytes said =
     ⊎ ((length bytes ≤ LONGEST_TEXT) × IsUtf8 bytes × TextSays command bytes said))
 
 -- the bytes say this script for `play`, or have this fault, which is their first
-abbrev pub Tells : List ℕ → Result Contents Wrong → Type 0
-Tells bytes said = TellsFor Play bytes said
+abbrev pub TellsScript : List ℕ → Result Contents Wrong → Type 0
+TellsScript bytes said = TellsFor Play bytes said

@@ -38,8 +38,8 @@ abbrev pub IsTold : List Task → ℕ → Type 0
 IsTold tasks flag = (set : ℕ → Bool) → IsClosed tasks set → IsTrue (set flag)
 
 -- a domain comes to the end of its list, if these flags are raised
-abbrev pub Ends : (ℕ → Type 0) → List Task → DomId → Type 0
-Ends Told tasks dom = PassesAll Told dom tasks
+abbrev pub CanEnd : (ℕ → Type 0) → List Task → DomId → Type 0
+CanEnd Told tasks dom = PassesAll Told dom tasks
 
 -- a domain goes on as far as the line with this number, where it waits for a flag that is not raised
 pub record WaitsAt (Told : ℕ → Type 0) (tasks : List Task) (dom : DomId) (line : ℕ) : Type 0 where
@@ -55,7 +55,7 @@ pub record WaitsAt (Told : ℕ → Type 0) (tasks : List Task) (dom : DomId) (li
 
 -- each of the domains comes to the end of its list
 abbrev pub AllEnd : (ℕ → Type 0) → List Task → List DomainConfig → Type 0
-AllEnd Told tasks domains = All (λ d. Ends Told tasks d.id) domains
+AllEnd Told tasks domains = All (λ d. CanEnd Told tasks d.id) domains
 
 -- the first of the domains that does not come to its end waits at this line
 pub record IsStuckAt (Told : ℕ → Type 0) (tasks : List Task) (domains : List DomainConfig) (line : ℕ) : Type 0 where

@@ -2,7 +2,7 @@
 use Rattle.std.specs.Prelude.{ℕ, List, map}
 use Rattle.gt_lines.specs.declared.signals.Signal.TheVariants as signals
 use Rattle.gt_script.specs.Contents.{Contents}
-use Rattle.gt_script.specs.Flags.{flags_of, flag_number}
+use Rattle.gt_script.specs.Flags.{flag_names_of, flag_number}
 use Rattle.gt_script.specs.declared.orders.Order.{Order}
 use Rattle.gt_script.specs.declared.orders.RunLine.{RunLine}
 use Rattle.gt_script.specs.declared.orders.RunLine.TheVariants as runs
@@ -26,4 +26,4 @@ tasks_for flags orders = map (task_of flags) orders
 
 -- what the lines of a script have its domains do
 abbrev pub tasks_of : Contents → List Task
-tasks_of c = tasks_for (flags_of c.orders) c.orders
+tasks_of c = tasks_for (flag_names_of c.orders) c.orders

@@ -73,7 +73,7 @@ impl fmt::Display for BlockFault {
     ghost use Rattle.std.specs.Prelude.{Some};
     ghost use Rattle.gt_policy.specs.Texts.{fault_text};
 
-    ghost output = { λ fault. Some (fault_text fault.line fault.kind) };
+    ghost output = { λ fault. Some (script_fault_text fault.line fault.kind) };
 
     fn fmt<W: fmt::Write>(&self, f: &mut fmt::Formatter<W>) -> fmt::Result {
         write!(f, "line {}: policy {}", self.line, self.kind)
@@ -130,9 +130,9 @@ impl fmt::Display for ScriptFaultKind {
 
 impl fmt::Display for ScriptFault {
     ghost use Rattle.std.specs.Prelude.{Some};
-    ghost use Rattle.gt_script.specs.Faults.{fault_text};
+    ghost use Rattle.gt_script.specs.Faults.{script_fault_text};
 
-    ghost output = { λ fault. Some (fault_text fault) };
+    ghost output = { λ fault. Some (script_fault_text fault) };
 
     fn fmt<W: fmt::Write>(&self, f: &mut fmt::Formatter<W>) -> fmt::Result {
         write!(f, "line {}: {}", self.line, self.kind)

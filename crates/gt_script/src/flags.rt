@@ -1,7 +1,7 @@
 //! The flags of a script for `run`, numbered as they first appear.
 ghost use Rattle.std.specs.Prelude.{◌≡◌, length, IfOk};
 ghost use Rattle.std.specs.Option.{option_map};
-ghost use Rattle.gt_script.specs.Flags.{flag_in as flag_in_line, flags_of as flags_in, flag_number};
+ghost use Rattle.gt_script.specs.Flags.{flag_in as flag_in_line, flag_names_of as flags_in, flag_number};
 
 use crate::orders::{Order, RunLine};
 use gt_lines::Signal;

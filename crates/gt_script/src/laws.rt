@@ -2,7 +2,7 @@
 ghost use Rattle.std.specs.Prelude.{◌≡◌, ℕ, List, Result, Err};
 ghost use Rattle.gt_script.specs.Contents.{Contents};
 ghost use Rattle.gt_script.specs.Laws.{IsFaultOf, IsFaultOfBlock};
-ghost use Rattle.gt_script.specs.Script.{Tells, TellsFor, Wrong, in_policy, in_script};
+ghost use Rattle.gt_script.specs.Script.{TellsScript, TellsFor, Wrong, in_policy, in_script};
 ghost use Rattle.gt_script.specs.declared.command.Command.{Command};
 ghost use Rattle.gt_script.specs.declared.faults.ScriptFault.{ScriptFault};
 ghost use Rattle.gt_policy.specs.declared.fault.TokenFault as policy;
@@ -13,7 +13,7 @@ use gt_policy::one_meaning;
 /// same: what is allowed, the types, domains and steps.
 pub fn every_text_tells_one_thing()
     ensures { (bytes : List ℕ) (one other : Result Contents Wrong) →
-        Tells bytes one → Tells bytes other → one ≡ other }
+        TellsScript bytes one → TellsScript bytes other → one ≡ other }
 {
     one_meaning();
 }

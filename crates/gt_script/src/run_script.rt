@@ -2,7 +2,7 @@
 ghost use Rattle.std.specs.Prelude.{◌≡◌, ◌+◌, ℕ, List, All, IsTrue, take, map, filter, IfOk};
 ghost use Rattle.gt_types.specs.Config.{is_taken};
 ghost use Rattle.gt_types.specs.declared.limits.TheConstants.{LONGEST_TEXT};
-ghost use Rattle.gt_script.specs.Contents.{told};
+ghost use Rattle.gt_script.specs.Contents.{contents_told};
 ghost use Rattle.gt_script.specs.RunScripts.{CanConfigure, RunSays, RunTells, RunAnswers, list_of as list_in};
 
 use crate::command::Command;
@@ -69,8 +69,8 @@ impl<'a> RunScript<'a> {
 
 // The script for `run` that was read as this one.
 fn of_script<'a>(alloc: Global, script: Script<'a>) -> Result<RunScript<'a>, ScriptError>
-    requires { All (λ o. IsTrue (is_taken (told script).domains o.dom)) (told script).orders }
-    ensures { RunAnswers result (RunSays (told script.entry)) }
+    requires { All (λ o. IsTrue (is_taken (contents_told script).domains o.dom)) (contents_told script).orders }
+    ensures { RunAnswers result (RunSays (contents_told script.entry)) }
 {
     let (head, orders) = script.into_parts(alloc);
     let flags = flags_of(alloc, orders.as_slice())?;
@@ -92,7 +92,7 @@ fn of_script<'a>(alloc: Global, script: Script<'a>) -> Result<RunScript<'a>, Scr
 /// only `play` is a fault. Last of all comes a domain that waits for a flag that is never raised.
 pub fn parse_run<'a>(alloc: Global, bytes: &'a [u8]) -> Result<RunScript<'a>, ScriptError>
     ensures script { RunAnswers result (RunTells bytes.entry.now) }
-    ensures holds { IfOk result (λ s. CanConfigure (told s.head)) }
+    ensures holds { IfOk result (λ s. CanConfigure (contents_told s.head)) }
 
     // The bytes up to one past the limit decide what all of them say.
     ensures beginning { (all : List ℕ) → bytes.entry.now ≡ take (LONGEST_TEXT + 1) all →

@@ -5,9 +5,9 @@ ghost use Rattle.std.specs.Str.Lines.{lines as lines_in};
 ghost use Rattle.gt_types.specs.Config.{is_taken};
 ghost use Rattle.gt_script.specs.Blocks.{opening as opening_in, closing as closing_in};
 ghost use Rattle.gt_script.specs.Script.{domain_written, configured, action_in, run_line_in, LinesSay};
-ghost use Rattle.gt_script.specs.Script.{BlockSays, TextSays, TellsFor, Tells};
-ghost use Rattle.gt_script.specs.Contents.{told};
-ghost use Rattle.gt_script.specs.Outcomes.{Answers};
+ghost use Rattle.gt_script.specs.Script.{BlockSays, TextSays, TellsFor, TellsScript};
+ghost use Rattle.gt_script.specs.Contents.{contents_told};
+ghost use Rattle.gt_script.specs.Outcomes.{AnswersScript};
 ghost use Rattle.gt_script.specs.Laws.{IsScriptFor, IsScriptOf, StandsFor, Stands, IsUnread};
 
 use crate::blocks::{closing, opening, read_policy};
@@ -181,14 +181,15 @@ impl<'a> Script<'a> {
     ghost use Rattle.gt_lines.specs.Words.{words as words_in};
     ghost use Rattle.std.specs.Option.{option_map};
     ghost use Rattle.gt_policy.specs.Allowing.{allowed_of};
-    ghost use Rattle.gt_script.specs.Contents.{told, empty, with_policy, without_orders, type_names, first_gen};
+    ghost use Rattle.gt_script.specs.Contents.{contents_told, empty, with_policy, without_orders, type_names};
+    ghost use Rattle.gt_script.specs.Contents.{first_gen};
     ghost use Rattle.gt_script.specs.Script.{with_triple, GivesTypeNumber, with_domain, with_step, with_order};
     ghost use Rattle.gt_script.specs.Script.{with_body, with_line, with_words, with_lines, completed, whole};
     ghost use Rattle.gt_script.specs.Script.{has_no_rights, has_body, is_misplaced};
-    ghost use Rattle.gt_script.specs.Outcomes.{Adds, Says};
+    ghost use Rattle.gt_script.specs.Outcomes.{AddsLine, SaysScript};
 
     fn new(alloc: Global, command: Command) -> Script<'a>
-        ensures { told result ≡ empty command }
+        ensures { contents_told result ≡ empty command }
     {
         Script {
             command,
@@ -204,7 +205,7 @@ impl<'a> Script<'a> {
 
     // A script with this policy, and nothing more so far.
     fn with_policy(alloc: Global, command: Command, policy: Policy) -> Script<'a>
-        ensures { told result ≡ with_policy command (allowed_of policy) }
+        ensures { contents_told result ≡ with_policy command (allowed_of policy) }
     {
         let mut script = Script::new(alloc, command);
         script.policy = Some(policy);
@@ -214,7 +215,7 @@ impl<'a> Script<'a> {
     /// The names of the types, from the policy or from triples and labels: the type with number i has
     /// the name at place i.
     pub fn type_names(&self, alloc: Global) -> Result<Vec<Text<'_>>, AllocError>
-        ensures { IfOk result (λ names. names.items ≡ type_names (told self.now)) }
+        ensures { IfOk result (λ names. names.items ≡ type_names (contents_told self.now)) }
     {
         match &self.policy {
             Some(policy) => names_of(alloc, policy),
@@ -238,7 +239,7 @@ impl<'a> Script<'a> {
 
     /// The first generation of all entries, 0 to 1,048,575: that of the line `wear`, or 0.
     pub fn first_gen(&self) -> u32
-        ensures { result ≡ first_gen (told self.now) }
+        ensures { result ≡ first_gen (contents_told self.now) }
     {
         self.wear.unwrap_or(0)
     }
@@ -252,8 +253,8 @@ impl<'a> Script<'a> {
 
     // The script without the lines of its body for `run`, and these.
     pub(crate) fn into_parts(mut self, alloc: Global) -> (Script<'a>, Vec<Order<'a>>)
-        ensures head { told result.0 ≡ without_orders (told self.entry) }
-        ensures orders { result.1.items ≡ (told self.entry).orders }
+        ensures head { contents_told result.0 ≡ without_orders (contents_told self.entry) }
+        ensures orders { result.1.items ≡ (contents_told self.entry).orders }
     {
         let orders = mem::replace(&mut self.orders, Vec::new(alloc));
         (self, orders)
@@ -268,7 +269,7 @@ impl<'a> Script<'a> {
 
     #[tactic(auto, unfolding(crate::specs::Script::with_triple))]
     fn with_triple(mut self, triple: TripleLine<'a>) -> Result<Script<'a>, AddError>
-        ensures { Adds result (with_triple (told self.entry) triple.entry) }
+        ensures { AddsLine result (with_triple (contents_told self.entry) triple.entry) }
     {
         let Some(source) = self.types.number(triple.source.as_bytes())? else {
             return Err(AddError::Fault(ScriptFaultKind::Config));
@@ -289,7 +290,7 @@ impl<'a> Script<'a> {
 
     // The number of a domain's type, which the policy has to declare; without one any name is a type.
     fn type_number(&mut self, name: &'a [u8]) -> Result<Option<TypeId>, AllocError>
-        ensures { IfOk result (GivesTypeNumber (told self.old) (told self.new) name.entry.now) }
+        ensures { IfOk result (GivesTypeNumber (contents_told self.old) (contents_told self.new) name.entry.now) }
     {
         match &self.policy {
             Some(policy) => Ok(policy.type_spelled(name)),
@@ -299,7 +300,7 @@ impl<'a> Script<'a> {
 
     #[tactic(auto, unfolding(crate::specs::Script::with_domain))]
     fn with_domain(mut self, line: DomainLine<'a>) -> Result<Script<'a>, AddError>
-        ensures { Adds result (with_domain (told self.entry) line.entry) }
+        ensures { AddsLine result (with_domain (contents_told self.entry) line.entry) }
     {
         let Some(label) = self.type_number(line.type_name.as_bytes())? else {
             return Err(AddError::Fault(ScriptFaultKind::Config));
@@ -321,7 +322,7 @@ impl<'a> Script<'a> {
         dom: DomId,
         asks: BodyLine<'a>,
     ) -> Result<Script<'a>, AddError>
-        ensures { Adds result (with_step (told self.entry) line dom asks.entry) }
+        ensures { AddsLine result (with_step (contents_told self.entry) line dom asks.entry) }
     {
         let Some(action) = action_in(asks) else {
             return Err(AddError::Fault(ScriptFaultKind::Mode));
@@ -339,7 +340,7 @@ impl<'a> Script<'a> {
         dom: DomId,
         asks: BodyLine<'a>,
     ) -> Result<Script<'a>, AddError>
-        ensures { Adds result (with_order (told self.entry) line dom asks.entry) }
+        ensures { AddsLine result (with_order (contents_told self.entry) line dom asks.entry) }
     {
         let Some(asks) = run_line_in(asks) else {
             return Err(AddError::Fault(ScriptFaultKind::Mode));
@@ -352,7 +353,7 @@ impl<'a> Script<'a> {
 
     #[tactic(auto, unfolding(crate::specs::Script::with_body))]
     fn with_body(self, line: usize, id: Number, asks: BodyLine<'a>) -> Result<Script<'a>, AddError>
-        ensures { Adds result (with_body (told self.entry) line id asks.entry) }
+        ensures { AddsLine result (with_body (contents_told self.entry) line id asks.entry) }
     {
         let Some(dom) = configured(&self.domains, id) else {
             return Err(AddError::Fault(ScriptFaultKind::Config));
@@ -365,21 +366,21 @@ impl<'a> Script<'a> {
 
     #[tactic(auto, unfolding(crate::specs::Script::has_no_rights))]
     fn has_no_rights(&self) -> bool
-        ensures { result ≡ has_no_rights (told self.now) }
+        ensures { result ≡ has_no_rights (contents_told self.now) }
     {
         self.policy.is_none() && self.triples.is_empty()
     }
 
     #[tactic(auto, unfolding(crate::specs::Script::has_body))]
     fn has_body(&self) -> bool
-        ensures { result ≡ has_body (told self.now) }
+        ensures { result ≡ has_body (contents_told self.now) }
     {
         !self.steps.is_empty() || !self.orders.is_empty()
     }
 
     #[tactic(auto, unfolding(crate::specs::Script::is_misplaced))]
     fn is_misplaced(&self, line: &Line<'a>) -> bool
-        ensures { result ≡ is_misplaced (told self.now) line.now }
+        ensures { result ≡ is_misplaced (contents_told self.now) line.now }
     {
         match line {
             Line::Triple(_) => {
@@ -395,7 +396,7 @@ impl<'a> Script<'a> {
 
     #[tactic(auto, unfolding(crate::specs::Script::with_line))]
     fn with_line(mut self, number: usize, line: Line<'a>) -> Result<Script<'a>, AddError>
-        ensures { Adds result (with_line (told self.entry) number line.entry) }
+        ensures { AddsLine result (with_line (contents_told self.entry) number line.entry) }
     {
         if self.is_misplaced(&line) {
             return Err(AddError::Fault(ScriptFaultKind::Syntax));
@@ -413,7 +414,7 @@ impl<'a> Script<'a> {
 
     #[tactic(auto, unfolding(crate::specs::Script::with_words))]
     fn with_words(self, number: usize, words: &[&'a [u8]]) -> Result<Script<'a>, AddError>
-        ensures { Adds result (with_words (told self.entry) number (map (λ w. w.now) words.now)) }
+        ensures { AddsLine result (with_words (contents_told self.entry) number (map (λ w. w.now) words.now)) }
     {
         if words.is_empty() {
             return Ok(self);
@@ -430,7 +431,7 @@ impl<'a> Script<'a> {
         number: usize,
         line: &'a str,
     ) -> Result<Script<'a>, AddError>
-        ensures { Adds result (with_words (told self.entry) number (words_in line.entry.now)) }
+        ensures { AddsLine result (with_words (contents_told self.entry) number (words_in line.entry.now)) }
     {
         let words = line_words(alloc, line)?;
         self.with_words(number, words.as_slice())
@@ -444,7 +445,8 @@ impl<'a> Script<'a> {
         lines: &[&'a str],
     ) -> Result<Script<'a>, ScriptError>
         requires { before + length lines.now < 2 ^ 64 - 1 }
-        ensures { Says result (with_lines (told self.entry) (before + 1) (map (λ line. line.now) lines.now)) }
+        ensures { SaysScript result (with_lines (contents_told self.entry) (before + 1)
+            (map (λ line. line.now) lines.now)) }
     {
         let mut script = self;
         for (i, line) in lines.iter().enumerate() {
@@ -461,7 +463,7 @@ impl<'a> Script<'a> {
     #[tactic(auto, unfolding(crate::specs::Script::completed))]
     fn completed(self, count: usize) -> Result<Script<'a>, ScriptError>
         requires { count < 2 ^ 64 - 1 }
-        ensures { Says result (completed count (told self.entry)) }
+        ensures { SaysScript result (completed count (contents_told self.entry)) }
     {
         let kind = if self.has_no_rights() {
             ScriptFaultKind::Syntax
@@ -483,7 +485,8 @@ impl<'a> Script<'a> {
         lines: &[&'a str],
     ) -> Result<Script<'a>, ScriptError>
         requires { (before + length lines.now ≤ count) × (count < 2 ^ 64 - 1) }
-        ensures { Says result (whole count (told self.entry) (before + 1) (map (λ line. line.now) lines.now)) }
+        ensures { SaysScript result (whole count (contents_told self.entry) (before + 1)
+            (map (λ line. line.now) lines.now)) }
     {
         self.with_lines(alloc, before, lines)?.completed(count)
     }
@@ -501,7 +504,7 @@ fn of_block<'a>(
     requires whole { first + length lines.now ≡ count }
     requires fits { count < 2 ^ 63 }
     ensures { let said = map (λ line. line.now) lines.now in
-        Answers result (BlockSays command count first said (closing_in said)) }
+        AnswersScript result (BlockSays command count first said (closing_in said)) }
 {
     let Some(end) = closing(alloc, lines)? else {
         return Err(ScriptError::Fault(ScriptFault {
@@ -524,7 +527,8 @@ fn of_lines<'a>(
     command: Command,
     lines: &[&'a str],
 ) -> Result<Script<'a>, ScriptError>
-    ensures { let said = map (λ line. line.now) lines.now in Answers result (LinesSay command said (opening_in said)) }
+    ensures { let said = map (λ line. line.now) lines.now in
+        AnswersScript result (LinesSay command said (opening_in said)) }
 {
     match opening(alloc, lines)? {
         Some(place) => of_block(alloc, command, lines.len(), place + 1, &lines[place + 1..]),
@@ -533,7 +537,7 @@ fn of_lines<'a>(
 }
 
 fn of_text<'a>(alloc: Global, command: Command, text: &'a str) -> Result<Script<'a>, ScriptError>
-    ensures { Answers result (TextSays command text.entry.now) }
+    ensures { AnswersScript result (TextSays command text.entry.now) }
 {
     let lines = text_lines(alloc, text)?;
     of_lines(alloc, command, lines.as_slice())
@@ -568,13 +572,13 @@ pub fn parse_for<'a>(
     command: Command,
     bytes: &'a [u8],
 ) -> Result<Script<'a>, ScriptError>
-    ensures script { Answers result (TellsFor command bytes.entry.now) }
-    ensures holds { IfOk result (λ s. IsScriptFor command (lines_in bytes.entry.now) (told s)) }
+    ensures script { AnswersScript result (TellsFor command bytes.entry.now) }
+    ensures holds { IfOk result (λ s. IsScriptFor command (lines_in bytes.entry.now) (contents_told s)) }
     ensures fault { IfErr result (λ e. StandsFor command bytes.entry.now e) }
 
     // The bytes up to one past the limit decide what all of them say.
     ensures beginning { (all : List ℕ) → bytes.entry.now ≡ take (LONGEST_TEXT + 1) all →
-        Answers result (TellsFor command all) }
+        AnswersScript result (TellsFor command all) }
 {
     match script_text(bytes) {
         Ok(text) => of_text(alloc, command, text),
@@ -586,13 +590,13 @@ pub fn parse_for<'a>(
 /// that is wrong, then what the whole lacks. A policy block is judged as a whole at its end. A line for only `run` is
 /// a fault.
 pub fn parse<'a>(alloc: Global, bytes: &'a [u8]) -> Result<Script<'a>, ScriptError>
-    ensures script { Answers result (Tells bytes.entry.now) }
-    ensures holds { IfOk result (λ s. IsScriptOf (lines_in bytes.entry.now) (told s)) }
+    ensures script { AnswersScript result (TellsScript bytes.entry.now) }
+    ensures holds { IfOk result (λ s. IsScriptOf (lines_in bytes.entry.now) (contents_told s)) }
     ensures fault { IfErr result (λ e. Stands bytes.entry.now e) }
 
     // The bytes up to one past the limit decide what all of them say.
     ensures beginning { (all : List ℕ) → bytes.entry.now ≡ take (LONGEST_TEXT + 1) all →
-        Answers result (Tells all) }
+        AnswersScript result (TellsScript all) }
 {
     parse_for(alloc, Command::Play, bytes)
 }

@@ -4,7 +4,7 @@
 ghost use Rattle.std.specs.Prelude.{◌≡◌, ◌≤◌, ◌↔◌, ℕ, Bool, IfOk, All, IsTrue, length};
 ghost use Rattle.gt_types.specs.Config.{is_taken};
 ghost use Rattle.gt_script.specs.Stuck.{IsBelow, AreNumbered, IsClosed, IsTold, IsJudged};
-ghost use Rattle.gt_script.specs.Rounds.{holds, is_waiting, told_after, is_new, Within, GoesOn, Comes};
+ghost use Rattle.gt_script.specs.Rounds.{flag_holds, is_waiting, told_after, is_new, Within, TurnGoesOn, Comes};
 ghost use Rattle.gt_script.specs.Rounds.{HaveCome, Turning, WaitsIn};
 
 use crate::tasks::{Deed, Task};
@@ -70,7 +70,7 @@ impl Turns {
         requires numbered { AreNumbered (length self.old.told.items) tasks.now }
         requires place { from ≤ length tasks.now }
         requires come { Comes tasks.now dom from self.old.told.items }
-        ensures goes { GoesOn tasks.now dom self.old.told.items self.new.told.items result.place result.is_news }
+        ensures goes { TurnGoesOn tasks.now dom self.old.told.items self.new.told.items result.place result.is_news }
         ensures places { self.new.places.items ≡ self.old.places.items }
     {
         let mut is_news = false;
@@ -119,7 +119,7 @@ fn told_flags(
     requires numbered { AreNumbered flags tasks.now }
     requires known { All (λ t. IsTrue (is_taken domains.now t.dom)) tasks.now }
     ensures many { IfOk result (λ told. length told.items ≡ flags) }
-    ensures closed { IfOk result (λ told. IsClosed tasks.now (holds told.items)) }
+    ensures closed { IfOk result (λ told. IsClosed tasks.now (flag_holds told.items)) }
     ensures least { IfOk result (λ told. (set : ℕ → Bool) → IsClosed tasks.now set → Within told.items set) }
 {
     let mut turns = Turns {

@@ -7,13 +7,13 @@ use Rattle.gt_policy.specs.declared.fault.TokenFault.{TokenFault}
 use Rattle.gt_advice.specs.Check.{error_lines}
 use Rattle.gt_advice.specs.declared.findings.Finding.{Finding}
 use Rattle.gt_script.specs.Blocks.{block_fault_shown}
-use Rattle.gt_script.specs.Outcomes.{Answers}
+use Rattle.gt_script.specs.Outcomes.{AnswersScript}
 use Rattle.gt_script.specs.RunScripts.{RunAnswers, RunTells}
-use Rattle.gt_script.specs.Script.{Tells, Wrong, in_script, in_policy}
+use Rattle.gt_script.specs.Script.{TellsScript, Wrong, in_script, in_policy}
 use Rattle.gt_script.specs.declared.faults.BlockFault.{BlockFault}
 use Rattle.gt_script.specs.declared.faults.ScriptError.{ScriptError}
 use Rattle.gt_script.specs.declared.faults.ScriptError.TheVariants.{Memory, Fault, Policy}
-use Rattle.gt_script_advice.specs.Judging.{IsAtEither, Judges, error_line, faulty, line_of}
+use Rattle.gt_script_advice.specs.Judging.{IsAtEither, JudgesScript, error_line, faulty, line_of_fault}
 
 some_same : (a b : ℕ) → ◌≡◌ {A = Option ℕ} (Some a) (Some b) → a ≡ b
 some_same a b e = ap (λ (o : Option ℕ). option_map_or (λ n. n) o 0) e
@@ -26,18 +26,18 @@ shown_line e g shown = by _ shown
     by None is = absurd (cc is)
     by (Some k) is = ap (λ (o : Option TokenFault). option_map_or (λ x. x.line) o 0) is
 
-play_fault : (e : ScriptError) (line : ℕ) (bytes : List ℕ) → error_line e ≡ Some line → Answers (Err e) (Tells bytes) → (w : Wrong) × Tells bytes (Err w) × (line ≡ line_of w)
+play_fault : (e : ScriptError) (line : ℕ) (bytes : List ℕ) → error_line e ≡ Some line → AnswersScript (Err e) (TellsScript bytes) → (w : Wrong) × TellsScript bytes (Err w) × (line ≡ line_of_fault w)
 play_fault Memory line bytes is told = absurd (cc is)
 play_fault (Fault f) line bytes is told = (in_script f, told, sym (some_same f.line line is))
 play_fault (Policy f) line bytes is (g, shown, told) = (in_policy g, told, sym (some_same f.line line is) ∙ shown_line f g shown)
 
-run_fault : (e : ScriptError) (line : ℕ) (bytes : List ℕ) → error_line e ≡ Some line → RunAnswers (Err e) (RunTells bytes) → (w : Wrong) × RunTells bytes (Err w) × (line ≡ line_of w)
+run_fault : (e : ScriptError) (line : ℕ) (bytes : List ℕ) → error_line e ≡ Some line → RunAnswers (Err e) (RunTells bytes) → (w : Wrong) × RunTells bytes (Err w) × (line ≡ line_of_fault w)
 run_fault Memory line bytes is told = absurd (cc is)
 run_fault (Fault f) line bytes is told = (in_script f, told, sym (some_same f.line line is))
 run_fault (Policy f) line bytes is (g, shown, told) = (in_policy g, told, sym (some_same f.line line is) ∙ shown_line f g shown)
 
 -- the error is at the line of one of the faults
-pub judged_faulty : (play run : ScriptError) (bytes : List ℕ) (found : List Finding) → Answers (Err play) (Tells bytes) → RunAnswers (Err run) (RunTells bytes) → IsAtEither play run found → Judges bytes found
+pub judged_faulty : (play run : ScriptError) (bytes : List ℕ) (found : List Finding) → AnswersScript (Err play) (TellsScript bytes) → RunAnswers (Err run) (RunTells bytes) → IsAtEither play run found → JudgesScript bytes found
 judged_faulty play run bytes found told ran (line, other, one, two, at) =
     let p = play_fault play line bytes one told in
     let r = run_fault run other bytes two ran in

@@ -2,7 +2,7 @@
 ghost use Rattle.std.specs.Prelude.{◌≡◌, ◌+◌, [], ℕ, List, take, IfOk, OnOk};
 ghost use Rattle.gt_types.specs.declared.limits.TheConstants.{LONGEST_TEXT};
 ghost use Rattle.gt_advice.specs.Check.{error_lines};
-ghost use Rattle.gt_script_advice.specs.Judging.{Judges};
+ghost use Rattle.gt_script_advice.specs.Judging.{JudgesScript};
 
 use crate::block::warn_block;
 use crate::faults::errors;
@@ -66,7 +66,7 @@ fn warnings(alloc: Global, input: &[u8]) -> Result<Vec<Finding>, Memory>
 /// it tells no error.
 pub fn judge(alloc: Global, input: &[u8]) -> Result<Vec<Finding>, Memory>
     ensures { (all : List ℕ) → input.now ≡ take (LONGEST_TEXT + 1) all →
-        IfOk result (λ v. Judges all v.items) }
+        IfOk result (λ v. JudgesScript all v.items) }
 {
     let play = match parse(alloc, input) {
         Ok(_) => return warnings(alloc, input),

@@ -1,5 +1,5 @@
 //! The search.
-ghost use Rattle.gt_script.specs.Contents.{told};
+ghost use Rattle.gt_script.specs.Contents.{contents_told};
 ghost use Rattle.gt_script.specs.RunScripts.{CanConfigure};
 
 use crate::fault::SearchFault;
@@ -225,7 +225,7 @@ fn new_explorer<'s, 'a>(
     script: &'s RunScript<'a>,
     limit: usize,
 ) -> Result<Explorer<'s, 'a>, SearchFault>
-    requires { CanConfigure (told script.now.head) }
+    requires { CanConfigure (contents_told script.now.head) }
 {
     Ok(Explorer {
         scene: Scene::new(alloc, script)?,
@@ -246,7 +246,7 @@ pub fn search<'s, 'a>(
     script: &'s RunScript<'a>,
     limit: usize,
 ) -> Result<Found, SearchFault>
-    requires { CanConfigure (told script.now.head) }
+    requires { CanConfigure (contents_told script.now.head) }
 {
     let mut explorer = new_explorer(alloc, script, limit)?;
     explorer.run(script)?;

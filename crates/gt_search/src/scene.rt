@@ -1,5 +1,5 @@
 //! What all states of a search have in common, and a state.
-ghost use Rattle.gt_script.specs.Contents.{told};
+ghost use Rattle.gt_script.specs.Contents.{contents_told};
 ghost use Rattle.gt_script.specs.RunScripts.{CanConfigure};
 
 use crate::actor::Actor;
@@ -56,7 +56,7 @@ impl<'a> World<'a> {
 
 // The domains of a script, found by their numbers.
 fn roster_of(alloc: Global, script: &Script) -> Result<Roster, SearchFault>
-    requires { CanConfigure (told script.now) }
+    requires { CanConfigure (contents_told script.now) }
 {
     let config = Config {
         domains: Vec::from_slice(alloc, script.domains())?,
@@ -80,7 +80,7 @@ fn header_of(domain: &DomainConfig) -> Header {
 impl<'s, 'a> Scene<'s, 'a> {
     /// The common part of the states of a script.
     pub fn new(alloc: Global, script: &'s RunScript<'a>) -> Result<Scene<'s, 'a>, SearchFault>
-        requires { CanConfigure (told script.now.head) }
+        requires { CanConfigure (contents_told script.now.head) }
     {
         let head = script.head();
         let mut lists = Vec::new(alloc);

@@ -4,7 +4,7 @@ use Rattle.gt_live.specs.declared.domain.Domain.{Domain}
 use Rattle.gt_live.specs.declared.domain.copies.Halfway.{Halfway}
 use Rattle.gt_live.specs.declared.monitor.Monitor.{Monitor}
 use Rattle.gt_calls.specs.declared.request.CopyArgs.{CopyArgs}
-use Rattle.gt_live.specs.Domains.{AllowRelation, IsOf}
+use Rattle.gt_live.specs.Domains.{AllowRelation, BelongsTo}
 use Rattle.gt_live.specs.Halves.{ComesHalfway, IsHalfway}
 use Rattle.gt_seat.specs.Seated.{Seated, StandsBy}
 
@@ -14,20 +14,20 @@ beside {P} {m} {n} {d} {o} {s} Q e v q = subst (λ (t : Seated P). Q t.monitor t
 
 pub idle : {P : Type 0} (may : P → AllowRelation) {m n : Monitor P} {d : Domain} {o : Option Halfway} {s : Seated P}
     → m ≡ n → ◌≡◌ {A = Seated P} (record { monitor = n; domain = d; copying = o }) s → s.copying ≡ None → StandsBy may n d o
-    → IsOf may m d
+    → BelongsTo may m d
 idle {P} may {m} {n} {d} {o} {s} e v none stands =
-    subst (λ (k : Monitor P). IsOf may k d) (sym e)
+    subst (λ (k : Monitor P). BelongsTo may k d) (sym e)
     (subst (λ (x : Option Halfway). StandsBy may n d x) (ap (λ (t : Seated P). t.copying) v ∙ none) stands)
 
 pub still : {P : Type 0} (may : P → AllowRelation) {m n : Monitor P} {d e : Domain} {o : Option Halfway} {s : Seated P}
-    → m ≡ n → ◌≡◌ {A = Seated P} (record { monitor = n; domain = d; copying = o }) s → s.copying ≡ None → IsOf may m e
+    → m ≡ n → ◌≡◌ {A = Seated P} (record { monitor = n; domain = d; copying = o }) s → s.copying ≡ None → BelongsTo may m e
     → StandsBy may n e o
 still {P} may {m} {n} {d} {e} {o} {s} q v none mine =
     subst (λ (x : Option Halfway). StandsBy may n e x) (sym (ap (λ (t : Seated P). t.copying) v ∙ none))
-    (subst (λ (k : Monitor P). IsOf may k e) q mine)
+    (subst (λ (k : Monitor P). BelongsTo may k e) q mine)
 
 pub stands-there : {P : Type 0} (may : P → AllowRelation) (m n : Monitor P) (d e : Domain) (copy : CopyArgs) (h : Halfway)
-    → m ≡ n → IsOf may m d → ComesHalfway may m d copy h e → IsHalfway may n h e
+    → m ≡ n → BelongsTo may m d → ComesHalfway may m d copy h e → IsHalfway may n h e
 stands-there {P} may m n d e copy h q mine comes =
     subst (λ (k : Monitor P). IsHalfway may k h e) q (d, mine, subst (λ (x : CopyArgs). ComesHalfway may m d x h e) (sym comes.asked) comes)
 

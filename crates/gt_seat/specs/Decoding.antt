@@ -87,8 +87,8 @@ facts_in a =
     facts.None
 
 -- what an answer that is Ok gives
-abbrev pub given_in : Answer → Outcome
-given_in a =
+abbrev pub decoded_answer : Answer → Outcome
+decoded_answer a =
     if a.kind == 1 then Mapped (record { serial = a.value; key = a.more }) else
     if a.kind == 2 then Frames a.value else
     if a.kind == 3 then Version a.value else
@@ -105,7 +105,7 @@ decoded a =
     if a.rule == 259 then NoCopy else
     if a.rule == 260 then Absent else
     if a.rule == 261 then NullPointer else
-    if a.rule == 0 then given_in a else
+    if a.rule == 0 then decoded_answer a else
     Denied (record { rule = rule_named a.rule; status = status_named a.status; facts = facts_in a })
 
 -- each outcome is read back from its answer

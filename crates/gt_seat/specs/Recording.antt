@@ -13,12 +13,12 @@ use Rattle.gt_seat.specs.declared.record.CopyEnd.{CopyEnd}
 use Rattle.gt_seat.specs.declared.record.Record.{Record}
 
 -- the outcome that a reply says
-abbrev pub replied : Reply → Outcome
-replied replies.Done = outcomes.Done
-replied (replies.Frames frames) = outcomes.Frames frames
-replied (replies.Size size) = outcomes.Size size
-replied (replies.Version version) = outcomes.Version version
-replied (replies.Denied denial) = outcomes.Denied denial
+abbrev pub outcome_of_reply : Reply → Outcome
+outcome_of_reply replies.Done = outcomes.Done
+outcome_of_reply (replies.Frames frames) = outcomes.Frames frames
+outcome_of_reply (replies.Size size) = outcomes.Size size
+outcome_of_reply (replies.Version version) = outcomes.Version version
+outcome_of_reply (replies.Denied denial) = outcomes.Denied denial
 
 -- an end of a copy
 abbrev pub end_recorded : Told → CopyEnd
@@ -40,7 +40,7 @@ plainly r =
       len = 0;
       source = no_end;
       dest = no_end;
-      reply = encoded (replied r.reply);
+      reply = encoded (outcome_of_reply r.reply);
     }
 
 -- a record with what was called
@@ -56,5 +56,5 @@ with_call (calls.SetVersion version) r = record r { call = 7; flags = version }
 with_call (calls.SetupTable frames) r = record r { call = 8; flags = frames }
 
 -- the record, as C reads it
-abbrev pub recorded : Kept → Record
-recorded r = with_call r.call (plainly r)
+abbrev pub record_kept : Kept → Record
+record_kept r = with_call r.call (plainly r)

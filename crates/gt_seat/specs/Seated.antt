@@ -8,7 +8,7 @@ use Rattle.gt_calls.specs.declared.request.Request.TheVariants as requests
 use Rattle.gt_live.specs.declared.domain.Domain.{Domain}
 use Rattle.gt_live.specs.declared.domain.copies.Halfway.{Halfway}
 use Rattle.gt_live.specs.declared.monitor.Monitor.{Monitor}
-use Rattle.gt_live.specs.Domains.{AllowRelation, Answered, IsOf, KeepsPinned, told_copy}
+use Rattle.gt_live.specs.Domains.{AllowRelation, Answered, BelongsTo, KeepsPinned, told_copy}
 use Rattle.gt_live.specs.Halves.{ComesHalfway, EndsHalfway, IsHalfway, done_copy}
 use Rattle.gt_seat.specs.declared.guest.Places.{Places}
 
@@ -20,7 +20,7 @@ pub record Seated (P : Type 0) : Type 0 where
 
 -- the domain came with this monitor, or stands at the access of this copy
 abbrev pub StandsBy : {P : Type 0} → (P → AllowRelation) → Monitor P → Domain → Option Halfway → Type 0
-StandsBy may m d None = IsOf may m d
+StandsBy may m d None = BelongsTo may m d
 StandsBy may m d (Some h) = IsHalfway may m h d
 
 -- the monitor is the one that it was, and it is in no copy
@@ -33,17 +33,18 @@ places_of h = record { from = h.from; to = h.to; len = h.len }
 
 -- A copy was begun so. Ok: it came to its access, at which the guest stands, and its places are told. Refused: by its
 -- path, and the guest keeps its mappings and pins as they were, is in no copy, and tells the record
-abbrev pub Begins : {P : Type 0} → (P → AllowRelation) → Seated P → CopyArgs → Result Places Denial → Seated P → Type 0
-Begins may s copy (Ok places) t =
+abbrev pub BeginsAccess : {P : Type 0} → (P → AllowRelation) → Seated P → CopyArgs → Result Places Denial → Seated P
+    → Type 0
+BeginsAccess may s copy (Ok places) t =
     (h : Halfway) × (t.copying ≡ Some h) × (places ≡ places_of h) × (t.monitor ≡ s.monitor)
     × ComesHalfway may s.monitor s.domain copy h t.domain
-Begins may s copy (Err denial) t =
+BeginsAccess may s copy (Err denial) t =
     StaysIdle s t × Answered may s.monitor s.domain (requests.Copy copy) (Refused denial) t.domain
     × KeepsPinned s.domain t.domain × Tells s.domain.trail (told_copy s.domain copy (Err denial)) t.domain.trail
 
 -- the pins of the copy that the guest was in were given back, and it tells that it is Ok
-abbrev pub Ends : {P : Type 0} → Seated P → Seated P → Type 0
-Ends s t =
+abbrev pub EndsAccess : {P : Type 0} → Seated P → Seated P → Type 0
+EndsAccess s t =
     (h : Halfway) × (s.copying ≡ Some h) × StaysIdle s t
     × EndsHalfway s.monitor.words.layout h s.domain t.domain
     × Tells s.domain.trail (done_copy s.domain h.copy) t.domain.trail

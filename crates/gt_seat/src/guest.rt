@@ -1,6 +1,6 @@
 //! A domain beside its monitor.
 ghost use Rattle.std.specs.Prelude.{◌≡◌};
-ghost use Rattle.gt_live.specs.Domains.{IsOf};
+ghost use Rattle.gt_live.specs.Domains.{BelongsTo};
 ghost use Rattle.gt_seat.specs.Seated.{StandsBy};
 
 use gt_audit::Record;
@@ -31,7 +31,7 @@ pub struct Guest<P: Allows + Drop> {
 // Gives back the pins of the copy that the domain is in, if it is in one.
 fn settle<P: Allows>(monitor: &Monitor<P>, domain: &mut Domain, copying: Option<Halfway>)
     requires { StandsBy P.may monitor.now domain.old copying }
-    ensures { IsOf P.may monitor.now domain.new }
+    ensures { BelongsTo P.may monitor.now domain.new }
 {
     if let Some(halfway) = copying {
         domain.copy_end(monitor, halfway);
@@ -72,13 +72,13 @@ impl<P: Allows + Drop> Guest<P> {
     ghost use Rattle.gt_live.specs.Domains.{verdict_of_version};
     ghost use Rattle.gt_live.specs.Mappings.{Removes};
     ghost use Rattle.gt_handles.specs.Handles.{value_of};
-    ghost use Rattle.gt_seat.specs.Seated.{Begins, Ends, StaysIdle};
+    ghost use Rattle.gt_seat.specs.Seated.{BeginsAccess, EndsAccess, StaysIdle};
     ghost use Rattle.std.specs.List.{slice_get};
     ghost use Rattle.std.specs.Arc.{arc_value};
 
     /// The domain beside its monitor.
     pub(crate) fn new(monitor: Arc<Monitor<P>, Global>, domain: Domain) -> Self
-        requires { IsOf P.may (arc_value monitor) domain }
+        requires { BelongsTo P.may (arc_value monitor) domain }
         ensures { result ≡ record { monitor = arc_value monitor; domain = domain; copying = None } }
     {
         Guest {
@@ -339,7 +339,7 @@ impl<P: Allows + Drop> Guest<P> {
     /// The first rule that stands. Then no pin is kept.
     pub fn copy_begin(&mut self, copy: &CopyArgs) -> Result<Places, Denial>
         requires idle { self.old.copying ≡ None }
-        ensures begins { Begins P.may self.old copy.now result self.new }
+        ensures begins { BeginsAccess P.may self.old copy.now result self.new }
     {
         match self.domain.copy_begin(&self.monitor, copy) {
             Ok(halfway) => {
@@ -357,7 +357,7 @@ impl<P: Allows + Drop> Guest<P> {
     /// Ends the copy that it is in: its pins are given back, the last one first.
     pub fn copy_end(&mut self)
         requires copying { IsSome self.old.copying }
-        ensures ends { Ends self.old self.new }
+        ensures ends { EndsAccess self.old self.new }
     {
         let copying = self.copying;
         if let Some(halfway) = copying {

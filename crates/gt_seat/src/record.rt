@@ -1,6 +1,6 @@
 //! The record of a call, in a layout that C reads.
 ghost use Rattle.std.specs.Prelude.{◌≡◌};
-ghost use Rattle.gt_seat.specs.Recording.{end_recorded, recorded, replied};
+ghost use Rattle.gt_seat.specs.Recording.{end_recorded, record_kept, outcome_of_reply};
 
 use crate::answer::{Answer, Outcome};
 use gt_audit::{Hypercall, Reply};
@@ -45,7 +45,7 @@ const NO_END: CopyEnd = CopyEnd {
 
 // What a record keeps of an answer.
 fn replied(reply: Reply) -> Outcome
-    ensures { result ≡ replied reply }
+    ensures { result ≡ outcome_of_reply reply }
 {
     match reply {
         Reply::Done => Outcome::Done,
@@ -68,11 +68,11 @@ fn end_recorded(end: gt_audit::CopyEnd) -> CopyEnd
 
 impl Record {
     ghost use Rattle.std.specs.Prelude.{◌≡◌};
-    ghost use Rattle.gt_seat.specs.Recording.{recorded};
+    ghost use Rattle.gt_seat.specs.Recording.{record_kept};
 
     /// The record, as C reads it.
     pub fn of(told: gt_audit::Record) -> Record
-        ensures { result ≡ recorded told }
+        ensures { result ≡ record_kept told }
     {
         let bare = Record {
             call: 0,

@@ -2,7 +2,7 @@
 ghost use Rattle.std.specs.Prelude.{◌≡◌, All, length, IfOk, IfErr, OnOk};
 ghost use Rattle.gt_types.specs.Config.{IsWithinLimits};
 ghost use Rattle.gt_words.specs.Answers.{IsStartFault};
-ghost use Rattle.gt_live.specs.Domains.{IsOf};
+ghost use Rattle.gt_live.specs.Domains.{BelongsTo};
 ghost use Rattle.std.specs.Arc.{arc_value};
 
 use crate::guest::Guest;
@@ -13,7 +13,7 @@ use std::sync::Arc;
 
 // Lets domains leave that do nothing.
 fn finish_all<P: Allows + Drop>(monitor: &Monitor<P>, domains: Vec<Domain>)
-    requires { All (λ d. IsOf P.may monitor.now d) domains.items }
+    requires { All (λ d. BelongsTo P.may monitor.now d) domains.items }
 {
     let mut rest = domains.into_iter();
     'rest: while let Some(domain) = rest.next() {
@@ -28,7 +28,7 @@ fn all_guests<P: Allows + Drop>(
     monitor: &Arc<Monitor<P>, Global>,
     domains: Vec<Domain>,
 ) -> Result<Vec<Guest<P>>, AllocError>
-    requires { All (λ d. IsOf P.may (arc_value monitor.now) d) domains.items }
+    requires { All (λ d. BelongsTo P.may (arc_value monitor.now) d) domains.items }
     ensures count { IfOk result (λ v. length v.items ≡ length domains.items) }
 {
     let count = domains.len();

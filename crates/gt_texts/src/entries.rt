@@ -1,6 +1,6 @@
 //! What answers print of an entry.
 ghost use Rattle.std.specs.Prelude.{◌≡◌, ◌++◌, OnOk, codes};
-ghost use Rattle.gt_texts.specs.Entries.{mode_text, kind_text, range_text, entry_text};
+ghost use Rattle.gt_texts.specs.Entries.{mode_text, entry_kind_text, range_text, entry_text};
 ghost use Rattle.gt_texts.specs.Texts.{StaysText};
 
 use crate::numbers::{push_number, push_part};
@@ -16,7 +16,7 @@ fn mode(ro: bool) -> &'static str
 }
 
 fn push_kind(out: &mut Vec<u8>, kind: &str, dom: DomId, ro: bool) -> Result<(), AllocError>
-    ensures text { OnOk result (out.new.items ≡ out.old.items ++ kind_text kind.now dom ro) }
+    ensures text { OnOk result (out.new.items ≡ out.old.items ++ entry_kind_text kind.now dom ro) }
     ensures stays { OnOk result (StaysText out.old.items out.new.items) }
 {
     push_text(out, kind)?;

@@ -9,7 +9,7 @@ use Rattle.gt_types.specs.declared.Dir.TheVariants.{Read, Write}
 use Rattle.gt_words.proofs.Records.{legal_record, spelled_parts}
 use Rattle.gt_words.specs.Controls.{generation_of, pins_in}
 use Rattle.gt_words.specs.Rule.{HasGoneOn, IsNextEntry, IsRevocation, MayFollow, ShowsRecord, total_pins, total_until}
-use Rattle.gt_words.specs.Views.{LivePin, is_same_dir, pin_count, pins, pins_until, weight, without_pin}
+use Rattle.gt_words.specs.Views.{LivePin, is_same_dir, pin_count, live_pins, pins_until, weight, without_pin}
 use Rattle.gt_words.specs.declared.view.EntryStep.{EntryStep}
 use Rattle.gt_words.specs.declared.view.EntryRecord.{EntryRecord}
 
@@ -24,7 +24,7 @@ until_most d g (p ∷ ps) = let l = until_most d g ps in by (nat_le p.1.generati
 
 total_until-most : (d : Dir) (g : ℕ) (hs : List (List EntryStep)) → total_until d g hs ≤ total_pins d hs
 total_until-most d g [] = omega arith
-total_until-most d g (h ∷ hs) = let l = total_until-most d g hs in let f = until_most d g (pins h) in omega arith
+total_until-most d g (h ∷ hs) = let l = total_until-most d g hs in let f = until_most d g (live_pins h) in omega arith
 
 -- a pin fewer
 pub until_fewer : (d c : Dir) (g n : ℕ) (ps : List LivePin) → pins_until d g (without_pin c n ps) ≤ pins_until d g ps
@@ -45,16 +45,16 @@ until_later d c g x ps later = by (nat_le x.generation g) (let is : nat_le x.gen
 
 module _ (hs : List (List EntryStep)) (i : ℕ) (h : List EntryStep) (m : EntryStep) (at : get_elem? hs i ≡ some h) where
   -- a step after which no more of them are left
-  pub still_gone : (x : EntryRecord) (e : ℕ) → HasGoneOn x hs e → ((d : Dir) → pins_until d (generation_of e) (pins (m ∷ h)) ≤ pins_until d (generation_of e) (pins h)) → HasGoneOn x (set hs i (m ∷ h)) e
+  pub still_gone : (x : EntryRecord) (e : ℕ) → HasGoneOn x hs e → ((d : Dir) → pins_until d (generation_of e) (live_pins (m ∷ h)) ≤ pins_until d (generation_of e) (live_pins h)) → HasGoneOn x (set hs i (m ∷ h)) e
   still_gone x e k fewer = record {
     not_later = k.not_later;
     earlier = k.earlier;
     left = λ d. let l = k.left d in let s = until_set d (generation_of e) hs i at (fewer d) in omega arith;
   }
     where
-      until_set : (d : Dir) (g : ℕ) (hs : List (List EntryStep)) (i : ℕ) → get_elem? hs i ≡ some h → pins_until d g (pins (m ∷ h)) ≤ pins_until d g (pins h) → total_until d g (set hs i (m ∷ h)) ≤ total_until d g hs
+      until_set : (d : Dir) (g : ℕ) (hs : List (List EntryStep)) (i : ℕ) → get_elem? hs i ≡ some h → pins_until d g (live_pins (m ∷ h)) ≤ pins_until d g (live_pins h) → total_until d g (set hs i (m ∷ h)) ≤ total_until d g hs
       until_set d g [] i e l = absurd (some-ne-none h (sym e))
-      until_set d g (y ∷ ys) zero e l = let p : pins_until d g (pins y) ≡ pins_until d g (pins h) = ap (λ (z : List EntryStep). pins_until d g (pins z)) (some-injective y h e) in omega arith
+      until_set d g (y ∷ ys) zero e l = let p : pins_until d g (live_pins y) ≡ pins_until d g (live_pins h) = ap (λ (z : List EntryStep). pins_until d g (live_pins z)) (some-injective y h e) in omega arith
       until_set d g (y ∷ ys) (suc i) e l = let r = until_set d g ys i e l in omega arith
 
 -- the owner's list goes on from x to y

@@ -13,10 +13,10 @@ use Rattle.gt_words.proofs.Lists.{whose_at, whose_here}
 use Rattle.gt_words.proofs.OneEntry.{same_owner}
 use Rattle.gt_words.specs.Events.{IsByOwner, entry_after}
 use Rattle.gt_words.specs.History.{entry_by}
-use Rattle.gt_words.specs.History.{History}
+use Rattle.gt_words.specs.History.{StepHistory}
 use Rattle.gt_words.specs.Rule.{Layout, header_now, owner_steps}
 use Rattle.gt_words.specs.Steps.{on_entry}
-use Rattle.gt_words.specs.Views.{LivePin, last_record, pins, steps_on, steps_on_header, stored_body, without_pin}
+use Rattle.gt_words.specs.Views.{LivePin, last_record, live_pins, steps_on, steps_on_header, stored_body, without_pin}
 use Rattle.gt_words.specs.declared.view.EntryStep.{EntryStep}
 use Rattle.gt_words.specs.declared.view.EntryStep.TheVariants.{ChangeMissed, Changed, Looked, PinMissed, Pinned}
 use Rattle.gt_words.specs.declared.view.EntryStep.TheVariants.{ReadBody, StoredBody, Unpinned}
@@ -24,21 +24,21 @@ use Rattle.gt_entry.specs.declared.change.Half.TheVariants.{First, Second}
 use Rattle.gt_words.specs.declared.view.View.{View}
 
 module _ (g t : ℕ) (hs : List (List EntryStep)) (i : ℕ) (h : List EntryStep) (at : get_elem? hs i ≡ some h) where
-  live_here : (m : EntryStep) → map pins (set hs i (m ∷ h)) ≡ set (map pins hs) i (pins (m ∷ h))
-  live_here m = map-set pins hs i (m ∷ h)
+  live_here : (m : EntryStep) → map live_pins (set hs i (m ∷ h)) ≡ set (map live_pins hs) i (live_pins (m ∷ h))
+  live_here m = map-set live_pins hs i (m ∷ h)
 
-  live_same : (m : EntryStep) → pins (m ∷ h) ≡ pins h → map pins (set hs i (m ∷ h)) ≡ map pins hs
-  live_same m e = live_here m ∙ (ap (set (map pins hs) i) e ∙ set_again (map pins hs) i (pins h) (at_map pins hs i h at))
+  live_same : (m : EntryStep) → live_pins (m ∷ h) ≡ live_pins h → map live_pins (set hs i (m ∷ h)) ≡ map live_pins hs
+  live_same m e = live_here m ∙ (ap (set (map live_pins hs) i) e ∙ set_again (map live_pins hs) i (live_pins h) (at_map live_pins hs i h at))
 
-  live_is : get_or (map pins hs) i [] ≡ pins h
-  live_is = whose_at (map pins hs) i (pins h) (at_map pins hs i h at)
+  live_is : get_or (map live_pins hs) i [] ≡ live_pins h
+  live_is = whose_at (map live_pins hs) i (live_pins h) (at_map live_pins hs i h at)
 
-  plain : (m : EntryStep) → last_record g (m ∷ h) ≡ last_record g h → stored_body First (m ∷ h) ≡ stored_body First h → stored_body Second (m ∷ h) ≡ stored_body Second h → (l : List (List LivePin)) → map pins (set hs i (m ∷ h)) ≡ l
+  plain : (m : EntryStep) → last_record g (m ∷ h) ≡ last_record g h → stored_body First (m ∷ h) ≡ stored_body First h → stored_body Second (m ∷ h) ≡ stored_body Second h → (l : List (List LivePin)) → map live_pins (set hs i (m ∷ h)) ≡ l
       → entry_by g t (set hs i (m ∷ h)) ≡ record (entry_by g t hs) { live = l }
   plain m a b c l e = λ j. record { current = same_owner g t hs i h at (last_record g) m a j; first = same_owner g t hs i h at (stored_body First) m b j; second = same_owner g t hs i h at (stored_body Second) m c j; live = e j }
 
-  owned : (m : EntryStep) → i ≡ t → pins (m ∷ h) ≡ pins h
-      → entry_by g t (set hs i (m ∷ h)) ≡ record { current = last_record g (m ∷ h); first = stored_body First (m ∷ h); second = stored_body Second (m ∷ h); live = map pins hs }
+  owned : (m : EntryStep) → i ≡ t → live_pins (m ∷ h) ≡ live_pins h
+      → entry_by g t (set hs i (m ∷ h)) ≡ record { current = last_record g (m ∷ h); first = stored_body First (m ∷ h); second = stored_body Second (m ∷ h); live = map live_pins hs }
   owned m e p = let o : owner_steps t (set hs i (m ∷ h)) ≡ m ∷ h = subst (λ (u : ℕ). owner_steps u (set hs i (m ∷ h)) ≡ m ∷ h) e (whose_here hs i h (m ∷ h) at) in
       λ j. record { current = last_record g (o j); first = stored_body First (o j); second = stored_body Second (o j); live = live_same m p j }
 
@@ -47,12 +47,12 @@ module _ (g t : ℕ) (hs : List (List EntryStep)) (i : ℕ) (h : List EntryStep)
 
   -- on the entry itself
   pub happens_here : (m : EntryStep) → IsByOwner i t m → entry_by g t (set hs i (m ∷ h)) ≡ entry_after i m (entry_by g t hs)
-  happens_here (Looked n) may = plain (Looked n) refl refl refl (map pins hs) (live_same (Looked n) refl)
-  happens_here (ReadBody p n) may = plain (ReadBody p n) refl refl refl (map pins hs) (live_same (ReadBody p n) refl)
-  happens_here (PinMissed d e f n) may = plain (PinMissed d e f n) refl refl refl (map pins hs) (live_same (PinMissed d e f n) refl)
-  happens_here (ChangeMissed c e f n) may = plain (ChangeMissed c e f n) refl refl refl (map pins hs) (live_same (ChangeMissed c e f n) refl)
-  happens_here (Pinned d e y) may = plain (Pinned d e y) refl refl refl (set (map pins hs) i ((d, y) ∷ get_or (map pins hs) i [])) (live_here (Pinned d e y) ∙ ap (λ (l : List LivePin). set (map pins hs) i ((d, y) ∷ l)) (sym live_is))
-  happens_here (Unpinned d n) may = plain (Unpinned d n) refl refl refl (set (map pins hs) i (without_pin d n (get_or (map pins hs) i []))) (live_here (Unpinned d n) ∙ ap (λ (l : List LivePin). set (map pins hs) i (without_pin d n l)) (sym live_is))
-  happens_here (StoredBody First n) may = owned (StoredBody First n) may refl ∙ (λ j. record { current = last_record g (mine_is may j); first = n; second = stored_body Second (mine_is may j); live = map pins hs })
-  happens_here (StoredBody Second n) may = owned (StoredBody Second n) may refl ∙ (λ j. record { current = last_record g (mine_is may j); first = stored_body First (mine_is may j); second = n; live = map pins hs })
-  happens_here (Changed c e n y) may = owned (Changed c e n y) may refl ∙ (λ j. record { current = y; first = stored_body First (mine_is may j); second = stored_body Second (mine_is may j); live = map pins hs })
+  happens_here (Looked n) may = plain (Looked n) refl refl refl (map live_pins hs) (live_same (Looked n) refl)
+  happens_here (ReadBody p n) may = plain (ReadBody p n) refl refl refl (map live_pins hs) (live_same (ReadBody p n) refl)
+  happens_here (PinMissed d e f n) may = plain (PinMissed d e f n) refl refl refl (map live_pins hs) (live_same (PinMissed d e f n) refl)
+  happens_here (ChangeMissed c e f n) may = plain (ChangeMissed c e f n) refl refl refl (map live_pins hs) (live_same (ChangeMissed c e f n) refl)
+  happens_here (Pinned d e y) may = plain (Pinned d e y) refl refl refl (set (map live_pins hs) i ((d, y) ∷ get_or (map live_pins hs) i [])) (live_here (Pinned d e y) ∙ ap (λ (l : List LivePin). set (map live_pins hs) i ((d, y) ∷ l)) (sym live_is))
+  happens_here (Unpinned d n) may = plain (Unpinned d n) refl refl refl (set (map live_pins hs) i (without_pin d n (get_or (map live_pins hs) i []))) (live_here (Unpinned d n) ∙ ap (λ (l : List LivePin). set (map live_pins hs) i (without_pin d n l)) (sym live_is))
+  happens_here (StoredBody First n) may = owned (StoredBody First n) may refl ∙ (λ j. record { current = last_record g (mine_is may j); first = n; second = stored_body Second (mine_is may j); live = map live_pins hs })
+  happens_here (StoredBody Second n) may = owned (StoredBody Second n) may refl ∙ (λ j. record { current = last_record g (mine_is may j); first = stored_body First (mine_is may j); second = n; live = map live_pins hs })
+  happens_here (Changed c e n y) may = owned (Changed c e n y) may refl ∙ (λ j. record { current = y; first = stored_body First (mine_is may j); second = stored_body Second (mine_is may j); live = map live_pins hs })

@@ -20,20 +20,20 @@ use Rattle.gt_types.specs.declared.limits.TheConstants.{ENTRIES_V1, ENTRIES_V2, 
 use Rattle.gt_words.specs.Answers.{AddsToHeader, LooksAtHeader, StepsOnHeader, StoresHeader}
 use Rattle.gt_words.specs.Events.{HeaderByOwner, header_after}
 use Rattle.gt_words.proofs.Order.{leads_on}
-use Rattle.gt_words.specs.History.{HasLedTo, History, Says, left_by}
+use Rattle.gt_words.specs.History.{HasLedTo, StepHistory, SaysWord, left_by}
 use Rattle.gt_words.specs.Rule.{IsHeader, IsKeptHeader, Layout, Shows, HasStood, Stands, ShowsEntry, header_now}
 use Rattle.gt_words.specs.Rule.{header_place, place}
 use Rattle.gt_words.specs.Steps.{TakesStep, looking_at_header, on_header, storing_header, tells, tells_stored}
-use Rattle.gt_words.specs.Views.{IsIn, own, own_header, steps_on, steps_on_header, stored_header, with_step}
+use Rattle.gt_words.specs.Views.{IsAmong, own, own_header, steps_on, steps_on_header, stored_header, with_step}
 use Rattle.gt_words.specs.declared.view.EntryStep.{EntryStep}
 use Rattle.gt_words.specs.declared.view.HeaderStep.{HeaderStep}
 use Rattle.gt_words.specs.declared.view.View.{View}
 use Rattle.gt_words.specs.declared.view.HeaderStep.TheVariants as header
 
-header_here : (past : History) (t : ℕ) (m : HeaderStep) (v : View) → steps_on_header t (with_step past (on_header t m) v) ≡ m ∷ steps_on_header t v
+header_here : (past : StepHistory) (t : ℕ) (m : HeaderStep) (v : View) → steps_on_header t (with_step past (on_header t m) v) ≡ m ∷ steps_on_header t v
 header_here past t m v = ap (λ (b : Bool). cond b (m ∷ steps_on_header t v) (steps_on_header t v)) (eq-eqb t t refl)
 
-header_else : (past : History) (t : ℕ) (m : HeaderStep) (v : View) (u : ℕ) → t ≢ u → steps_on_header u (with_step past (on_header t m) v) ≡ steps_on_header u v
+header_else : (past : StepHistory) (t : ℕ) (m : HeaderStep) (v : View) (u : ℕ) → t ≢ u → steps_on_header u (with_step past (on_header t m) v) ≡ steps_on_header u v
 header_else past t m v u n = ap (λ (b : Bool). cond b (m ∷ steps_on_header u v) (steps_on_header u v)) (ne_eqb t u n)
 
 -- the header after a step of the seat i, whose steps on it were h
@@ -49,7 +49,7 @@ abbrev Finds : HeaderStep → ℕ → Type 0
 Finds (header.Looked n) w = n ≡ w
 Finds (header.Stored n) w = Unit {0}
 
-module _ {S : Type 0} (past : History) (k : Layout) (s : State S View) (id : ℕ) (v : View) (t : ℕ) (m : HeaderStep) (at : get_elem? s.views id ≡ some v) where
+module _ {S : Type 0} (past : StepHistory) (k : Layout) (s : State S View) (id : ℕ) (v : View) (t : ℕ) (m : HeaderStep) (at : get_elem? s.views id ≡ some v) where
   abbrev w : View
   w = with_step past (on_header t m) v
 
@@ -66,7 +66,7 @@ module _ {S : Type 0} (past : History) (k : Layout) (s : State S View) (id : ℕ
     shows_header : (y : ℕ) → t < k.domains → v.position ≡ id → HeaderByOwner id t m → Finds m (header_now k t (map (steps_on_header t) s.views)) → y ≡ header_after m (header_now k t (map (steps_on_header t) s.views)) → IsHeader y → Shows k (stepped s (header_place t) y id [] w keeps)
     shows_header y tn seat own finds is ok = record {
       history = (id, on_header t m) ∷ past;
-      stood = ((s, now), subst (λ (h : History). HasStood S k h) led shown.stood);
+      stood = ((s, now), subst (λ (h : StepHistory). HasStood S k h) led shown.stood);
       now = record {
         wide = length-set s.words (header_place t) y ∙ shown.now.wide;
         dealt = still_dealt past k s id v (on_header t m) shown at;
@@ -85,7 +85,7 @@ module _ {S : Type 0} (past : History) (k : Layout) (s : State S View) (id : ℕ
     }
       where
         now : Stands k past s
-        now = subst (λ (h : History). Stands k h s) led shown.now
+        now = subst (λ (h : StepHistory). Stands k h s) led shown.now
 
         left : (x : HeaderStep) → header_now k t (map (steps_on_header t) s.views) ≡ get_or s.words (header_place t) 0 → header_after x (header_now k t (map (steps_on_header t) s.views)) ≡ left_by (on_header t x) (get_or s.words (header_place t) 0)
         left (header.Looked n) e = e
@@ -94,7 +94,7 @@ module _ {S : Type 0} (past : History) (k : Layout) (s : State S View) (id : ℕ
         finds_there : (x : HeaderStep) → Finds x (header_now k t (map (steps_on_header t) s.views)) → header_now k t (map (steps_on_header t) s.views) ≡ get_or s.words (header_place t) 0 → Finds x (get_or s.words (header_place t) 0)
         finds_there x f e = subst (Finds x) e f
 
-        says : (x : HeaderStep) → Finds x (get_or s.words (header_place t) 0) → Says (on_header t x) (get_or s.words (header_place t) 0)
+        says : (x : HeaderStep) → Finds x (get_or s.words (header_place t) 0) → SaysWord (on_header t x) (get_or s.words (header_place t) 0)
         says (header.Looked n) f = f
         says (header.Stored n) f = tt
 
@@ -116,7 +116,7 @@ module _ {S : Type 0} (k : Layout) (slots id : ℕ) (me : Me S View) (t : ℕ) (
       (header_owes (λ n. header.Stored y) (λ n. y) y (λ s shown at. sym (shown.now.seats id me.0 at).0 ∙ own) (λ n. tt) (λ n. refl) (λ n h. ok))
 
 -- one more step on a header
-pub adds_to_header : (past : History) (t : ℕ) (m : HeaderStep) (v w : View) → w ≡ with_step past (on_header t m) v → AddsToHeader past t m v w
+pub adds_to_header : (past : StepHistory) (t : ℕ) (m : HeaderStep) (v w : View) → w ≡ with_step past (on_header t m) v → AddsToHeader past t m v w
 adds_to_header past t m v w e = record {
   view = e;
   here = ap (steps_on_header t) e ∙ header_here past t m v;
@@ -142,7 +142,7 @@ table_fits h k = by (h.version == 2)
     by false = let few = k.few in omega arith
 
 -- a look at a header
-pub looks_at_header : (k : Layout) (t n : ℕ) (v w : View) → t < k.domains → (past : History) → w ≡ with_step past (on_header t (header.Looked n)) v → TakesStep (Unit {0}) k v past (on_header t (header.Looked n)) (header_place t) n n → LooksAtHeader k t n v w
+pub looks_at_header : (k : Layout) (t n : ℕ) (v w : View) → t < k.domains → (past : StepHistory) → w ≡ with_step past (on_header t (header.Looked n)) v → TakesStep (Unit {0}) k v past (on_header t (header.Looked n)) (header_place t) n n → LooksAtHeader k t n v w
 looks_at_header k t n v w tn past view step = let a = adds_to_header past t (header.Looked n) v w view in
     let is : IsHeader n = subst IsHeader (step.stood.1.led_here.words (header_place t) (omega arith) ∙ step.found_is) (step.stood.1.headers t tn).1 in
     let read : header_of n ≡ is.0 = ap header_of is.2 ∙ kept_read is.0 is.1 in record {

@@ -13,7 +13,7 @@ use Rattle.atomic_table.proofs.Lists.{at_set, set_again, at_map}
 use Rattle.gt_words.proofs.Lists.{whose_at}
 use Rattle.gt_words.proofs.Moments.{beyond}
 use Rattle.gt_words.proofs.Order.{leads_on}
-use Rattle.gt_words.specs.History.{HasLedTo, History, IsByOwner, IsOfRecord, SaysFound, left_on_entry, owner_steps}
+use Rattle.gt_words.specs.History.{HasLedTo, StepHistory, IsByOwner, IsOfRecord, SaysFound, left_on_entry, owner_steps}
 use Rattle.gt_words.specs.History.{part_of, parts_on, word_on}
 use Rattle.gt_words.specs.Rule.{IsHeader, Layout, Shows, ShowsEntry, header_now, header_place, place}
 use Rattle.gt_words.specs.Steps.{on_entry}
@@ -24,7 +24,7 @@ use Rattle.gt_words.specs.declared.view.View.{View}
 use Rattle.gt_types.specs.declared.limits.TheConstants.{TABLE_ENTRIES}
 
 -- the view after one more step on an entry
-abbrev pub added : History → ℕ → ℕ → EntryStep → View → View
+abbrev pub added : StepHistory → ℕ → ℕ → EntryStep → View → View
 added past t r m v = with_step past (on_entry t r m) v
 
 pub apart : (t r j t' r' j' : ℕ) → r < TABLE_ENTRIES → r' < TABLE_ENTRIES → j < 3 → j' < 3 → place t r j ≡ place t' r' j' → (t ≡ t') × (r ≡ r')
@@ -33,17 +33,17 @@ apart t r j t' r' j' a b c d e = (omega arith, omega arith)
 pub inside : (n t r j : ℕ) → t < n → r < TABLE_ENTRIES → j < 3 → place t r j < n * DOMAIN_WORDS
 inside n t r j a b c = omega arith
 
-pub steps_on-added : (past : History) (t r : ℕ) (m : EntryStep) (v : View) → steps_on t r (added past t r m v) ≡ m ∷ steps_on t r v
+pub steps_on-added : (past : StepHistory) (t r : ℕ) (m : EntryStep) (v : View) → steps_on t r (added past t r m v) ≡ m ∷ steps_on t r v
 steps_on-added past t r m v = let b : ((t == t) && (r == r)) ≡ true = λ i. eq-eqb t t refl i && eq-eqb r r refl i in ap (λ (z : Bool). cond z (m ∷ steps_on t r v) (steps_on t r v)) b
 
 -- another entry
 pub apart_test : (t r t' r' : ℕ) → (t ≡ t' → r ≡ r' → ⊥) → ((t == t') && (r == r')) ≡ false
 apart_test t r t' r' n = dite (ℕ_discrete t t') (λ e. let f : r ≢ r' = n e in λ i. eq-eqb t t' e i && ne_eqb r r' f i) (λ e. λ i. ne_eqb t t' e i && (r == r'))
 
-pub steps_on-added-else : (past : History) (t r : ℕ) (m : EntryStep) (v : View) (t' r' : ℕ) → (t ≡ t' → r ≡ r' → ⊥) → steps_on t' r' (added past t r m v) ≡ steps_on t' r' v
+pub steps_on-added-else : (past : StepHistory) (t r : ℕ) (m : EntryStep) (v : View) (t' r' : ℕ) → (t ≡ t' → r ≡ r' → ⊥) → steps_on t' r' (added past t r m v) ≡ steps_on t' r' v
 steps_on-added-else past t r m v t' r' n = ap (λ (z : Bool). cond z (m ∷ steps_on t' r' v) (steps_on t' r' v)) (apart_test t r t' r' n)
 
-module _ {S : Type 0} (past : History) (s : State S View) (id : ℕ) (v : View) (t r : ℕ) (m : EntryStep) (at : get_elem? s.views id ≡ some v) where
+module _ {S : Type 0} (past : StepHistory) (s : State S View) (id : ℕ) (v : View) (t r : ℕ) (m : EntryStep) (at : get_elem? s.views id ≡ some v) where
   pub map_here : map (steps_on t r) (set s.views id (added past t r m v)) ≡ set (map (steps_on t r) s.views) id (m ∷ steps_on t r v)
   map_here = map-set (steps_on t r) s.views id (added past t r m v) ∙ ap (set (map (steps_on t r) s.views) id) (steps_on-added past t r m v)
 
@@ -51,13 +51,13 @@ module _ {S : Type 0} (past : History) (s : State S View) (id : ℕ) (v : View) 
   map_else t' r' n = map-set (steps_on t' r') s.views id (added past t r m v) ∙ (ap (set (map (steps_on t' r') s.views) id) (steps_on-added-else past t r m v t' r' n)
       ∙ set_again (map (steps_on t' r') s.views) id (steps_on t' r' v) (at_map (steps_on t' r') s.views id v at))
 
-pub parts_at : (t r : ℕ) (h : History) (q n j i : ℕ) → i ≡ q + j → q < n → get_elem? (parts_on t r h j n) q ≡ some (entry_steps t r (part_of i h))
+pub parts_at : (t r : ℕ) (h : StepHistory) (q n j i : ℕ) → i ≡ q + j → q < n → get_elem? (parts_on t r h j n) q ≡ some (entry_steps t r (part_of i h))
 parts_at t r h q zero j i e l = absurd (omega arith)
 parts_at t r h zero (suc n) j i e l = ap (λ (z : ℕ). some (entry_steps t r (part_of z h))) (let f : j ≡ i = omega arith in f)
 parts_at t r h (suc q) (suc n) j i e l = parts_at t r h q n (suc j) i (omega arith) (omega arith)
 
 -- what each seat has of an entry is its part of the history
-module _ {S : Type 0} (k : Layout) (h : History) (s : State S View) (led : HasLedTo k h s) (t r i : ℕ) where
+module _ {S : Type 0} (k : Layout) (h : StepHistory) (s : State S View) (led : HasLedTo k h s) (t r i : ℕ) where
   none_there : {A B : Type 0} (f : A → List B) (l : List A) (j : ℕ) → get_elem? l j ≡ none → get_or (map f l) j [] ≡ []
   none_there f [] zero e = refl
   none_there f [] (suc j) e = refl
@@ -75,7 +75,7 @@ module _ {S : Type 0} (k : Layout) (h : History) (s : State S View) (led : HasLe
   owner_made inside = whose_at (parts_on t r h 0 k.domains) i (entry_steps t r (part_of i h)) (parts_at t r h i k.domains 0 i (omega arith) inside) ∙ sym part_there_is
 
 -- a seat that takes a step is still dealt by the first one, and stands where it stood
-module _ {S : Type 0} (past : History) (k : Layout) (s : State S View) (id : ℕ) (v : View) (m : SeatStep) (shown : Shows k s) (at : get_elem? s.views id ≡ some v) where
+module _ {S : Type 0} (past : StepHistory) (k : Layout) (s : State S View) (id : ℕ) (v : View) (m : SeatStep) (shown : Shows k s) (at : get_elem? s.views id ≡ some v) where
   pub still_dealt : ((u : View) → get_elem? (set s.views id (with_step past m v)) 0 ≡ some u → u.dealt ≡ length (set s.views id (with_step past m v)))
       × (length (set s.views id (with_step past m v)) ≤ k.domains) × (0 < length (set s.views id (with_step past m v)))
   still_dealt = let w : View = with_step past m v in (
@@ -90,7 +90,7 @@ module _ {S : Type 0} (past : History) (k : Layout) (s : State S View) (id : ℕ
       (λ (q : (i ≢ id) × (get_elem? s.views i ≡ some u)). shown.now.seats i u q.1) (at_set s.views id i w u e)
 
 module _ {S : Type 0} (k : Layout) (s : State S View) (id : ℕ) (v : View) (t r : ℕ) (m : EntryStep) (shown : Shows k s) (at : get_elem? s.views id ≡ some v) where
-  abbrev past : History
+  abbrev past : StepHistory
   past = shown.history
 
   -- the words of another entry stay

@@ -8,7 +8,8 @@ use lib.ListN.{get_elem?}
 use Rattle.atomic_table.specs.Table.{Act, Me, State, keeps, stepped}
 use Rattle.atomic_table.proofs.Lists.{set_else, set_here}
 use Rattle.gt_words.proofs.Order.{nothing_yet, part_else, part_here, up_else, up_here, within}
-use Rattle.gt_words.specs.History.{HasLedTo, History, IsTrue, Layout, Says, part_of, place_of, up_to, word_after}
+use Rattle.gt_words.specs.History.{HasLedTo, StepHistory, IsTrue, Layout, SaysWord, part_of, word_place_of, up_to}
+use Rattle.gt_words.specs.History.{word_after}
 use Rattle.gt_words.specs.Laws.{AllowedStepsSayWhatIsThere, HistoryIsOne, StepsAreTakenThen}
 use Rattle.gt_words.specs.Views.{with_step}
 use Rattle.gt_words.specs.declared.view.SeatStep.{SeatStep}
@@ -16,7 +17,7 @@ use Rattle.gt_words.specs.declared.view.View.{View}
 use Rattle.gt_words.specs.declared.word_table.TheConstants.{DOMAIN_WORDS}
 
 -- up to the last step of a seat there are no more steps of another
-fewer : (m j : ℕ) (h : History) → length (part_of m (up_to j h)) ≤ length (part_of m h)
+fewer : (m j : ℕ) (h : StepHistory) → length (part_of m (up_to j h)) ≤ length (part_of m h)
 fewer m j [] = omega arith
 fewer m j (p ∷ h) = by (p.0 == j) (p.0 == m) (fewer m j h)
   where
@@ -37,7 +38,7 @@ tail_of [] = []
 tail_of (x ∷ xs) = xs
 
 -- two orders in which each seat has the same steps, and each seat but one knows the same, are one
-pub one_order : (i : ℕ) (h g : History) → ((j : ℕ) → part_of j h ≡ part_of j g) → ((j : ℕ) → j ≢ i → up_to j h ≡ up_to j g) → h ≡ g
+pub one_order : (i : ℕ) (h g : StepHistory) → ((j : ℕ) → part_of j h ≡ part_of j g) → ((j : ℕ) → j ≢ i → up_to j h ≡ up_to j g) → h ≡ g
 one_order i [] [] same knows = refl
 one_order i [] (q ∷ g) same knows = absurd (let e : 0 ≡ suc (length (part_of q.0 g)) = ap length (same q.0) ∙ ap length (part_here q.0 q.1 g) in omega arith)
 one_order i (p ∷ h) [] same knows = absurd (let e : suc (length (part_of p.0 h)) ≡ 0 = sym (ap length (part_here p.0 p.1 h)) ∙ ap length (same p.0) in omega arith)
@@ -62,10 +63,10 @@ one_order i (p ∷ h) (q ∷ g) same knows = dite (ℕ_discrete p.0 q.0) (alike 
     apart : p.0 ≢ q.0 → (p ∷ h) ≡ (q ∷ g)
     apart n = dite (ℕ_discrete p.0 i)
         (λ f. let all : (q ∷ g) ≡ up_to q.0 h = sym (up_here q.0 q.1 g) ∙ (sym (knows q.0 (λ z. n (f ∙ sym z))) ∙ up_else p.0 p.1 h q.0 n) in
-        let few = fewer p.0 q.0 h in let one : length (part_of p.0 (q ∷ g)) ≡ length (part_of p.0 (up_to q.0 h)) = ap (λ (z : History). length (part_of p.0 z)) all in
+        let few = fewer p.0 q.0 h in let one : length (part_of p.0 (q ∷ g)) ≡ length (part_of p.0 (up_to q.0 h)) = ap (λ (z : StepHistory). length (part_of p.0 z)) all in
         let two : length (part_of p.0 (q ∷ g)) ≡ suc (length (part_of p.0 h)) = sym (ap length (same p.0)) ∙ ap length (part_here p.0 p.1 h) in absurd (omega arith))
         (λ f. let all : (p ∷ h) ≡ up_to p.0 g = sym (up_here p.0 p.1 h) ∙ (knows p.0 f ∙ up_else q.0 q.1 g p.0 (λ z. n (sym z))) in
-        let few = fewer q.0 p.0 g in let one : length (part_of q.0 (p ∷ h)) ≡ length (part_of q.0 (up_to p.0 g)) = ap (λ (z : History). length (part_of q.0 z)) all in
+        let few = fewer q.0 p.0 g in let one : length (part_of q.0 (p ∷ h)) ≡ length (part_of q.0 (up_to p.0 g)) = ap (λ (z : StepHistory). length (part_of q.0 z)) all in
         let two : length (part_of q.0 (p ∷ h)) ≡ suc (length (part_of q.0 g)) = ap length (same q.0) ∙ ap length (part_here q.0 q.1 g) in absurd (omega arith))
 
 pub beyond : {A : Type 0} (l : List A) (j : ℕ) → get_elem? l j ≡ none → length l ≤ j
@@ -83,7 +84,7 @@ one_history k s z shown also same = one_order 0 shown.history also.history (λ j
     both j (some v) e = let a = shown.now.led_here.parts j v e in let b = also.now.led_here.parts j v (subst (λ (vs : List View). get_elem? vs j ≡ some v) same e) in (sym a.0 ∙ b.0, sym a.1 ∙ b.1)
 
 -- a step is taken when it is
-module _ {S : Type 0} (k : Layout) (s : State S View) (i : ℕ) (v : View) (x : SeatStep) (past h g : History) (at left : ℕ) (slots : List (ℕ × S)) (act : Act S) (led : HasLedTo k h s) (after : HasLedTo k g (stepped s at left i slots (with_step past x v) act)) (here : get_elem? s.views i ≡ some v) where
+module _ {S : Type 0} (k : Layout) (s : State S View) (i : ℕ) (v : View) (x : SeatStep) (past h g : StepHistory) (at left : ℕ) (slots : List (ℕ × S)) (act : Act S) (led : HasLedTo k h s) (after : HasLedTo k g (stepped s at left i slots (with_step past x v) act)) (here : get_elem? s.views i ≡ some v) where
   abbrev w : View
   w = with_step past x v
 
@@ -103,13 +104,13 @@ module _ {S : Type 0} (k : Layout) (s : State S View) (i : ℕ) (v : View) (x : 
   knows_all = ap tail_of (own_part.1 ∙ (ap (up_to i) goes_on ∙ up_here i x h))
 
 pub taken_then : StepsAreTakenThen
-taken_then k s i v x past at left shown after here = let h : History = shown.history in
+taken_then k s i v x past at left shown after here = let h : StepHistory = shown.history in
     let go = goes_on k s i v x past h after.history at left [] keeps shown.now.led_here after.now.led_here here in let is = subst (IsTrue k) go after.now.led_here.true_steps in
-    (knows_all k s i v x past h after.history at left [] keeps shown.now.led_here after.now.led_here here, go, is.1, is.2, λ l. subst (Says x) (sym (shown.now.led_here.words (place_of x) l)) is.0)
+    (knows_all k s i v x past h after.history at left [] keeps shown.now.led_here after.now.led_here here, go, is.1, is.2, λ l. subst (SaysWord x) (sym (shown.now.led_here.words (word_place_of x) l)) is.0)
 
 -- a step that is allowed says what it finds
 pub allowed_says : AllowedStepsSayWhatIsThere
 allowed_says k slots id me at f x s shown allows len here fits inside = let n : ℕ = get_or s.words at 0 in let z = allows s shown len here fits in
     let go = goes_on k s id me.0 (x n) z.4.0 shown.history z.3.history at (f n) me.1 z.1 shown.now.led_here
     (subst (λ (u : View). HasLedTo k z.3.history (stepped s at (f n) id me.1 u z.1)) z.4.1 z.3.now.led_here) here in
-    let is = subst (IsTrue k) go z.3.now.led_here.true_steps in subst (Says (x n)) (sym (shown.now.led_here.words (place_of (x n)) inside)) is.0
+    let is = subst (IsTrue k) go z.3.now.led_here.true_steps in subst (SaysWord (x n)) (sym (shown.now.led_here.words (word_place_of (x n)) inside)) is.0

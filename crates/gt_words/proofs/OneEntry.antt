@@ -21,7 +21,8 @@ use Rattle.gt_words.specs.Controls.{IsValid, generation_of, pins_in}
 use Rattle.gt_words.specs.Rule.{HasGoneOn, IsLawful, IsRecord, MayFollow, ShowsEntry, ShowsRecord, owner_steps}
 use Rattle.gt_words.specs.Rule.{total_pins}
 use Rattle.gt_words.specs.Sight.{IsSeenOf}
-use Rattle.gt_words.specs.Views.{HasBody, IsIn, LivePin, Seen, earlier_records, exchanged, last_record, pin_count, pins}
+use Rattle.gt_words.specs.Views.{HasBody, IsAmong, LivePin, Seen, earlier_records, exchanged, last_record, pin_count}
+use Rattle.gt_words.specs.Views.{live_pins}
 use Rattle.gt_words.specs.Views.{pins_until, record_seen, stored_body, weight}
 use Rattle.gt_entry.specs.declared.change.Change.{Change}
 use Rattle.gt_words.specs.declared.view.EntryStep.{EntryStep}
@@ -32,7 +33,7 @@ use Rattle.gt_entry.specs.declared.change.Half.TheVariants.{First, Second}
 use Rattle.gt_words.specs.declared.view.EntryRecord.{EntryRecord}
 use Rattle.gt_entry.specs.declared.change.Change.TheVariants as change
 
-pub count_in : (d : Dir) (p : LivePin) (ps : List LivePin) → IsIn p ps → p.0 ≡ d → 1 ≤ pin_count d ps
+pub count_in : (d : Dir) (p : LivePin) (ps : List LivePin) → IsAmong p ps → p.0 ≡ d → 1 ≤ pin_count d ps
 count_in d p [] h e = absurd h
 count_in d p (q ∷ qs) (inl same) e = let z : weight d q.0 ≡ 1 = subst (λ (y : LivePin). weight d y.0 ≡ 1) same (subst (λ (y : Dir). weight d y ≡ 1) (sym e) (one d)) in omega arith
   where
@@ -41,15 +42,15 @@ count_in d p (q ∷ qs) (inl same) e = let z : weight d q.0 ≡ 1 = subst (λ (y
     one Write = refl
 count_in d p (q ∷ qs) (inr h) e = let z = count_in d p qs h e in omega arith
 
-pub held_at : (d : Dir) (hs : List (List EntryStep)) (i : ℕ) (h : List EntryStep) → get_elem? hs i ≡ some h → pin_count d (pins h) ≤ total_pins d hs
+pub held_at : (d : Dir) (hs : List (List EntryStep)) (i : ℕ) (h : List EntryStep) → get_elem? hs i ≡ some h → pin_count d (live_pins h) ≤ total_pins d hs
 held_at d [] i h e = absurd (some-ne-none h (sym e))
-held_at d (x ∷ xs) zero h e = let p : pin_count d (pins x) ≡ pin_count d (pins h) = ap (λ (z : List EntryStep). pin_count d (pins z)) (some-injective x h e) in omega arith
+held_at d (x ∷ xs) zero h e = let p : pin_count d (live_pins x) ≡ pin_count d (live_pins h) = ap (λ (z : List EntryStep). pin_count d (live_pins z)) (some-injective x h e) in omega arith
 held_at d (x ∷ xs) (suc i) h e = let z = held_at d xs i h e in omega arith
 
 -- a pin stands in the word
-pub pin_counted : (g t : ℕ) (hs : List (List EntryStep)) (i : ℕ) (h : List EntryStep) → get_elem? hs i ≡ some h → (word a b : ℕ) → ShowsEntry g t word a b hs → (d : Dir) (p : LivePin) → IsIn p (pins h) → p.0 ≡ d → unit_of d ≤ word
-pin_counted g t hs i h at word a b k Read p e q = let c = count_in Read p (pins h) e q in let l = held_at Read hs i h at in let s = k.record_shown.spelled in omega arith
-pin_counted g t hs i h at word a b k Write p e q = let c = count_in Write p (pins h) e q in let l = held_at Write hs i h at in let s = k.record_shown.spelled in omega arith
+pub pin_counted : (g t : ℕ) (hs : List (List EntryStep)) (i : ℕ) (h : List EntryStep) → get_elem? hs i ≡ some h → (word a b : ℕ) → ShowsEntry g t word a b hs → (d : Dir) (p : LivePin) → IsAmong p (live_pins h) → p.0 ≡ d → unit_of d ≤ word
+pin_counted g t hs i h at word a b k Read p e q = let c = count_in Read p (live_pins h) e q in let l = held_at Read hs i h at in let s = k.record_shown.spelled in omega arith
+pin_counted g t hs i h at word a b k Write p e q = let c = count_in Write p (live_pins h) e q in let l = held_at Write hs i h at in let s = k.record_shown.spelled in omega arith
 
 module _ (g t : ℕ) (hs : List (List EntryStep)) (i : ℕ) (h : List EntryStep) (at : get_elem? hs i ≡ some h) where
   pub same_owner : {A : Type 0} (f : List EntryStep → A) (m : EntryStep) → f (m ∷ h) ≡ f h → f (owner_steps t (set hs i (m ∷ h))) ≡ f (owner_steps t hs)
@@ -65,18 +66,18 @@ module _ (g t : ℕ) (hs : List (List EntryStep)) (i : ℕ) (h : List EntryStep)
 
     -- a step that is none of the owner's changes
     plain : (word' : ℕ) (m : EntryStep) → last_record g (m ∷ h) ≡ last_record g h → earlier_records g (m ∷ h) ≡ earlier_records g h → stored_body First (m ∷ h) ≡ stored_body First h → stored_body Second (m ∷ h) ≡ stored_body Second h → exchanged (m ∷ h) ≡ exchanged h
-        → ((e : ℕ) (d : Dir) → HasGoneOn x hs e → pins_until d (generation_of e) (pins (m ∷ h)) ≤ pins_until d (generation_of e) (pins h))
+        → ((e : ℕ) (d : Dir) → HasGoneOn x hs e → pins_until d (generation_of e) (live_pins (m ∷ h)) ≤ pins_until d (generation_of e) (live_pins h))
         → ShowsRecord x xs word' a b (set hs i (m ∷ h)) → ShowsEntry g t word' a b (set hs i (m ∷ h))
     plain word' m p q r s u fewer z = record {
       record_shown = subst (λ (u : EntryRecord × List EntryRecord). ShowsRecord u.0 u.1 word' a b (set hs i (m ∷ h))) (λ j. (sym (same_owner (last_record g) m p) j, sym (same_owner (earlier_records g) m q) j)) z;
       first = k.first ∙ sym (same_owner (stored_body First) m r);
       second = k.second ∙ sym (same_owner (stored_body Second) m s);
-      gone_on = λ e is. let gone = k.gone_on e (subst (IsIn e) (same_owner exchanged m u) is) in
+      gone_on = λ e is. let gone = k.gone_on e (subst (IsAmong e) (same_owner exchanged m u) is) in
           subst (λ (y : EntryRecord). HasGoneOn y (set hs i (m ∷ h)) e) (sym (same_owner (last_record g) m p)) (still_gone hs i h m at x e gone (λ d. fewer e d gone));
     }
 
     -- no pin is taken
-    none_taken : (e : ℕ) (d : Dir) → HasGoneOn x hs e → pins_until d (generation_of e) (pins h) ≤ pins_until d (generation_of e) (pins h)
+    none_taken : (e : ℕ) (d : Dir) → HasGoneOn x hs e → pins_until d (generation_of e) (live_pins h) ≤ pins_until d (generation_of e) (live_pins h)
     none_taken e d gone = omega arith
 
     pub entry_looks : ShowsEntry g t word a b (set hs i (Looked word ∷ h))
@@ -97,7 +98,7 @@ module _ (g t : ℕ) (hs : List (List EntryStep)) (i : ℕ) (h : List EntryStep)
         let r : d ≡ Read → total_pins Read hs < MAX_PINS = λ q. let f = subst (λ (c : Dir). pins_in c word < MAX_PINS) q in_range in let u = z.2 in omega arith in
         let w : d ≡ Write → total_pins Write hs < MAX_PINS = λ q. let f = subst (λ (c : Dir). pins_in c word < MAX_PINS) q in_range in let u = z.3 in omega arith in
         plain (word + unit_of d) (Pinned d expected (record_seen s)) refl refl refl refl refl
-        (λ e c gone. until_later c d (generation_of e) (record_seen s) (pins h) (let l = gone.earlier z.1 in let same_record = ap (λ (u : EntryRecord). u.generation) z.0 in omega arith))
+        (λ e c gone. until_later c d (generation_of e) (record_seen s) (live_pins h) (let l = gone.earlier z.1 in let same_record = ap (λ (u : EntryRecord). u.generation) z.0 in omega arith))
         (subst (λ (y : EntryRecord). ShowsRecord x xs (word + unit_of d) a b (set hs i (Pinned d expected y ∷ h))) (sym z.0) (pins_shown x xs a b hs i h word expected d k.record_shown at z.1 (λ q. ap (λ (u : EntryRecord). is_read_only u.entry) (sym z.0) ∙ writable q) r w))
 
     -- a pin from the word that was seen is of the last record
@@ -106,8 +107,8 @@ module _ (g t : ℕ) (hs : List (List EntryStep)) (i : ℕ) (h : List EntryStep)
         let z = seen_is_last x xs s word (total_pins Read hs) (total_pins Write hs) k.record_shown.lawful saw k.record_shown.in_range k.record_shown.spelled same some_kind body in
         (z.0, subst (λ (y : EntryRecord). y.entry ≢ Invalid) (sym z.0) z.1)
 
-    pub entry_unpins : (d : Dir) (p : LivePin) → IsIn p (pins h) → p.0 ≡ d → ShowsEntry g t (word - unit_of d) a b (set hs i (Unpinned d p.1.generation ∷ h))
-    entry_unpins d p e q = plain (word - unit_of d) (Unpinned d p.1.generation) refl refl refl refl refl (λ u c gone. until_fewer c d (generation_of u) p.1.generation (pins h)) (unpins_shown x xs a b hs i h word d p k.record_shown at e q)
+    pub entry_unpins : (d : Dir) (p : LivePin) → IsAmong p (live_pins h) → p.0 ≡ d → ShowsEntry g t (word - unit_of d) a b (set hs i (Unpinned d p.1.generation ∷ h))
+    entry_unpins d p e q = plain (word - unit_of d) (Unpinned d p.1.generation) refl refl refl refl refl (λ u c gone. until_fewer c d (generation_of u) p.1.generation (live_pins h)) (unpins_shown x xs a b hs i h word d p k.record_shown at e q)
 
 -- the owner's own steps
 
@@ -122,15 +123,15 @@ module _ (g t : ℕ) (hs : List (List EntryStep)) (h : List EntryStep) (at : get
   pub mine : ShowsRecord (last_record g h) (earlier_records g h) word a b hs
   mine = subst (λ (z : List EntryStep). ShowsRecord (last_record g z) (earlier_records g z) word a b hs) owner k.record_shown
 
-  gone : (e : ℕ) → IsIn e (exchanged h) → HasGoneOn (last_record g h) hs e
-  gone = subst (λ (z : List EntryStep). (e : ℕ) → IsIn e (exchanged z) → HasGoneOn (last_record g z) hs e) owner k.gone_on
+  gone : (e : ℕ) → IsAmong e (exchanged h) → HasGoneOn (last_record g h) hs e
+  gone = subst (λ (z : List EntryStep). (e : ℕ) → IsAmong e (exchanged z) → HasGoneOn (last_record g z) hs e) owner k.gone_on
 
   pub entry_stores_first : (v : ℕ) → (last_record g h).entry ≡ Invalid → ShowsEntry g t word v b (set hs t (StoredBody First v ∷ h))
   entry_stores_first v n = let m : EntryStep = StoredBody First v in let here : (m ∷ h) ≡ owner_steps t (set hs t (m ∷ h)) = sym (whose_here hs t h (m ∷ h) at) in record {
     record_shown = subst (λ (z : List EntryStep). ShowsRecord (last_record g z) (earlier_records g z) word v b (set hs t (m ∷ h))) here (stores_shown (last_record g h) (earlier_records g h) a b hs t h word First v v b mine at n);
     first = ap (stored_body First) here;
     second = k.second ∙ (ap (stored_body Second) owner ∙ ap (stored_body Second) here);
-    gone_on = subst (λ (z : List EntryStep). (e : ℕ) → IsIn e (exchanged z) → HasGoneOn (last_record g z) (set hs t (m ∷ h)) e) here (λ e is. still_gone hs t h m at (last_record g h) e (gone e is) (λ d. omega arith));
+    gone_on = subst (λ (z : List EntryStep). (e : ℕ) → IsAmong e (exchanged z) → HasGoneOn (last_record g z) (set hs t (m ∷ h)) e) here (λ e is. still_gone hs t h m at (last_record g h) e (gone e is) (λ d. omega arith));
   }
 
   pub entry_stores_second : (v : ℕ) → (last_record g h).entry ≡ Invalid → ShowsEntry g t word a v (set hs t (StoredBody Second v ∷ h))
@@ -138,7 +139,7 @@ module _ (g t : ℕ) (hs : List (List EntryStep)) (h : List EntryStep) (at : get
     record_shown = subst (λ (z : List EntryStep). ShowsRecord (last_record g z) (earlier_records g z) word a v (set hs t (m ∷ h))) here (stores_shown (last_record g h) (earlier_records g h) a b hs t h word Second v a v mine at n);
     first = k.first ∙ (ap (stored_body First) owner ∙ ap (stored_body First) here);
     second = ap (stored_body Second) here;
-    gone_on = subst (λ (z : List EntryStep). (e : ℕ) → IsIn e (exchanged z) → HasGoneOn (last_record g z) (set hs t (m ∷ h)) e) here (λ e is. still_gone hs t h m at (last_record g h) e (gone e is) (λ d. omega arith));
+    gone_on = subst (λ (z : List EntryStep). (e : ℕ) → IsAmong e (exchanged z) → HasGoneOn (last_record g z) (set hs t (m ∷ h)) e) here (λ e is. still_gone hs t h m at (last_record g h) e (gone e is) (λ d. omega arith));
   }
 
   pub entry_changes : (word' expected stored : ℕ) (c : Change) (y : EntryRecord) → IsRecord y → MayFollow y (last_record g h) → IsSpelled y.entry a b → word' ≡ word_of y.entry y.generation (total_pins Read hs) (total_pins Write hs)
@@ -147,10 +148,10 @@ module _ (g t : ℕ) (hs : List (List EntryStep)) (h : List EntryStep) (at : get
     record_shown = subst (λ (z : List EntryStep). ShowsRecord (last_record g z) (earlier_records g z) word' a b (set hs t (m ∷ h))) here (changes_shown (last_record g h) (earlier_records g h) a b hs t h word word' expected stored c y mine at ok may body is unwritten);
     first = k.first ∙ (ap (stored_body First) owner ∙ ap (stored_body First) here);
     second = k.second ∙ (ap (stored_body Second) owner ∙ ap (stored_body Second) here);
-    gone_on = subst (λ (z : List EntryStep). (e : ℕ) → IsIn e (exchanged z) → HasGoneOn (last_record g z) (set hs t (m ∷ h)) e) here (λ e is. still_gone hs t h m at y e (each e is) (λ d. omega arith));
+    gone_on = subst (λ (z : List EntryStep). (e : ℕ) → IsAmong e (exchanged z) → HasGoneOn (last_record g z) (set hs t (m ∷ h)) e) here (λ e is. still_gone hs t h m at y e (each e is) (λ d. omega arith));
   }
     where
-      each : (e : ℕ) → (e ≡ expected) ⊎ IsIn e (exchanged h) → HasGoneOn y hs e
+      each : (e : ℕ) → (e ≡ expected) ⊎ IsAmong e (exchanged h) → HasGoneOn y hs e
       each e (inl same) = subst (HasGoneOn y hs) (from ∙ sym same) (goes_on_here (last_record g h) (earlier_records g h) y word a b hs may mine)
       each e (inr past) = goes_on (last_record g h) y hs e may (gone e past)
 

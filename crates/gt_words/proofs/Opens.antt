@@ -22,7 +22,8 @@ use Rattle.gt_words.specs.Controls.{generation_of}
 use Rattle.gt_words.specs.Places.{dealer_after, dealt_to, new_view}
 use Rattle.gt_words.specs.Rule.{HasGoneOn, IsHeader, Layout, Shows, ShowsEntry, ShowsRecord, first_header, header_now}
 use Rattle.gt_words.specs.Rule.{header_place, owner_steps, place, total_pins, total_until}
-use Rattle.gt_words.specs.Views.{IsIn, earlier_records, exchanged, last_record, own, pin_count, pins, pins_until}
+use Rattle.gt_words.specs.Views.{IsAmong, earlier_records, exchanged, last_record, own, pin_count, live_pins}
+use Rattle.gt_words.specs.Views.{pins_until}
 use Rattle.gt_words.specs.Views.{steps_on, steps_on_header, stored_body, stored_header}
 use Rattle.gt_words.specs.declared.view.EntryStep.{EntryStep}
 use Rattle.gt_entry.specs.declared.change.Half.TheVariants.{First, Second}
@@ -40,13 +41,13 @@ alone_at (suc i) h e = absurd (some-ne-none h (sym e))
 
 -- an entry at the start
 entry_opens : (g t : ℕ) → g < 1048576 → (word a b : ℕ) → word ≡ 17592186044416 * g → a ≡ 0 → b ≡ 0 → ShowsEntry g t word a b ([] ∷ [])
-entry_opens g t small word a b w p q = subst (λ (ms : List EntryStep). ShowsRecord (last_record g ms) (earlier_records g ms) word a b ([] ∷ []) → a ≡ stored_body First ms → b ≡ stored_body Second ms → ((e : ℕ) → IsIn e (exchanged ms) → HasGoneOn (last_record g ms) ([] ∷ []) e) → ShowsEntry g t word a b ([] ∷ [])) (nothing_at t) (λ k f s u. record { record_shown = k; first = f; second = s; gone_on = u }) record {
+entry_opens g t small word a b w p q = subst (λ (ms : List EntryStep). ShowsRecord (last_record g ms) (earlier_records g ms) word a b ([] ∷ []) → a ≡ stored_body First ms → b ≡ stored_body Second ms → ((e : ℕ) → IsAmong e (exchanged ms) → HasGoneOn (last_record g ms) ([] ∷ []) e) → ShowsEntry g t word a b ([] ∷ [])) (nothing_at t) (λ k f s u. record { record_shown = k; first = f; second = s; gone_on = u }) record {
   spelled = omega arith;
   in_range = (omega arith, omega arith);
   body = tt;
   lawful = ((tt, small), refl);
   unwritten = λ _. refl;
-  pinned = λ i h at z y. absurd (subst (λ (ms : List EntryStep). IsIn z (pins ms)) (alone_at i h at) y);
+  pinned = λ i h at z y. absurd (subst (λ (ms : List EntryStep). IsAmong z (live_pins ms)) (alone_at i h at) y);
 } p q (λ e is. absurd is)
 
 initial_here : (k : Layout) (t r j : ℕ) → r < TABLE_ENTRIES → j < 3 → initial k (place t r j) ≡ cond (j == 0) (17592186044416 * k.first) 0
@@ -93,11 +94,11 @@ nothing_more (x ∷ xs) (suc t) = nothing_more xs t
 
 held_more : (d : Dir) (hs : List (List EntryStep)) → total_pins d (hs ++ [] ∷ []) ≡ total_pins d hs
 held_more d [] = refl
-held_more d (h ∷ hs) = ap (λ (n : ℕ). pin_count d (pins h) + n) (held_more d hs)
+held_more d (h ∷ hs) = ap (λ (n : ℕ). pin_count d (live_pins h) + n) (held_more d hs)
 
 until_more : (d : Dir) (g : ℕ) (hs : List (List EntryStep)) → total_until d g (hs ++ [] ∷ []) ≡ total_until d g hs
 until_more d g [] = refl
-until_more d g (h ∷ hs) = ap (λ (n : ℕ). pins_until d g (pins h) + n) (until_more d g hs)
+until_more d g (h ∷ hs) = ap (λ (n : ℕ). pins_until d g (live_pins h) + n) (until_more d g hs)
 
 gone_more : (x : EntryRecord) (hs : List (List EntryStep)) (e : ℕ) → HasGoneOn x hs e → HasGoneOn x (hs ++ [] ∷ []) e
 gone_more x hs e k = record {
@@ -108,14 +109,14 @@ gone_more x hs e k = record {
 
 entry_more : (g t word a b : ℕ) (hs : List (List EntryStep)) → ShowsEntry g t word a b hs → ShowsEntry g t word a b (hs ++ [] ∷ [])
 entry_more g t word a b hs k = let same = nothing_more hs t in
-    subst (λ (ms : List EntryStep). ShowsRecord (last_record g ms) (earlier_records g ms) word a b (hs ++ [] ∷ []) → a ≡ stored_body First ms → b ≡ stored_body Second ms → ((e : ℕ) → IsIn e (exchanged ms) → HasGoneOn (last_record g ms) (hs ++ [] ∷ []) e) → ShowsEntry g t word a b (hs ++ [] ∷ [])) same (λ x f s u. record { record_shown = x; first = f; second = s; gone_on = u })
+    subst (λ (ms : List EntryStep). ShowsRecord (last_record g ms) (earlier_records g ms) word a b (hs ++ [] ∷ []) → a ≡ stored_body First ms → b ≡ stored_body Second ms → ((e : ℕ) → IsAmong e (exchanged ms) → HasGoneOn (last_record g ms) (hs ++ [] ∷ []) e) → ShowsEntry g t word a b (hs ++ [] ∷ [])) same (λ x f s u. record { record_shown = x; first = f; second = s; gone_on = u })
     record {
       spelled = k.record_shown.spelled ∙ sym (λ i. word_of (last_record g (owner_steps t hs)).entry (last_record g (owner_steps t hs)).generation (held_more Read hs i) (held_more Write hs i));
       in_range = (let r = held_more Read hs in let f = k.record_shown.in_range.0 in omega arith, let w = held_more Write hs in let f = k.record_shown.in_range.1 in omega arith);
       body = k.record_shown.body;
       lawful = k.record_shown.lawful;
       unwritten = λ n. held_more Write hs ∙ k.record_shown.unwritten n;
-      pinned = λ i h at p y. ⊎_elim (λ (e : get_elem? hs i ≡ some h). k.record_shown.pinned i h e p y) (λ (e : [] ≡ h). absurd (subst (λ (ms : List EntryStep). IsIn p (pins ms)) (sym e) y)) (at_snoc hs [] h i at);
+      pinned = λ i h at p y. ⊎_elim (λ (e : get_elem? hs i ≡ some h). k.record_shown.pinned i h e p y) (λ (e : [] ≡ h). absurd (subst (λ (ms : List EntryStep). IsAmong p (live_pins ms)) (sym e) y)) (at_snoc hs [] h i at);
     } k.first k.second (λ e is. gone_more (last_record g (owner_steps t hs)) hs e (k.gone_on e is))
 
 in_front : {A : Type 0} (l m : List A) (b : A) → 0 < length l → get_elem? (l ++ m) 0 ≡ some b → get_elem? l 0 ≡ some b

@@ -32,12 +32,13 @@ use Rattle.std.proofs.lemmas.Bool.{and_parts}
 use Rattle.gt_words.specs.Controls.{ForwardsPin, IsValid, PermitsPin, demoted_word, generation_of, invalid_word}
 use Rattle.gt_words.specs.Controls.{pins_in, promoted_word, withdrawn_word}
 use Rattle.gt_words.specs.Events.{IsByOwner}
-use Rattle.gt_words.specs.History.{IsOfRecord, SaysFound, owner_steps, left_on_entry, place_of, word_on}
+use Rattle.gt_words.specs.History.{IsOfRecord, SaysFound, owner_steps, left_on_entry, word_place_of, word_on}
 use Rattle.gt_words.specs.Rule.{id_at, IsRecord, Layout, Shows, ShowsEntry, place, total_pins}
 use Rattle.gt_words.specs.Steps.{StepKind, TakesStep, changed, entry_kind, exchanging, half_index, half_of, looking}
 use Rattle.gt_words.specs.Steps.{missed, on_entry, reading, storing, taken, tells, tells_stored, unpinning}
 use Rattle.gt_words.specs.Sight.{SawRecord}
-use Rattle.gt_words.specs.Views.{earlier_records, invalid_at, last_of, last_record, last_seen, pins, record_seen, seen}
+use Rattle.gt_words.specs.Views.{earlier_records, invalid_at, last_of, last_record, last_seen, live_pins, record_seen}
+use Rattle.gt_words.specs.Views.{seen}
 use Rattle.gt_words.specs.Views.{steps_on, stored_body, with_step}
 use Rattle.gt_entry.specs.declared.change.Change.{Change}
 use Rattle.gt_words.specs.declared.view.EntryStep.{EntryStep}
@@ -54,7 +55,7 @@ use Rattle.gt_types.specs.declared.limits.TheConstants.{LAST_GENERATION, MAX_PIN
 
 -- a step is allowed that leaves words and views which show the state that its event makes
 module _ {S : Type 0} (d : StepKind) (slots id : ℕ) (me : Me S View) (i : ℕ) (f : ℕ → ℕ) (st : TableStep S) where
-  pub kind_owes : st.word ≡ i → ((n : ℕ) → f n ≡ d.leaves n) → i < d.layout.domains * DOMAIN_WORDS → ((n : ℕ) → place_of (d.step n) ≡ i)
+  pub kind_owes : st.word ≡ i → ((n : ℕ) → f n ≡ d.leaves n) → i < d.layout.domains * DOMAIN_WORDS → ((n : ℕ) → word_place_of (d.step n) ≡ i)
       → ((s : State S View) (shown : Shows d.layout s) → get_elem? s.views id ≡ some me.0 → let n : ℕ = get_or s.words i 0 in let x = d.step n in
       n < 18446744073709551616
       → (me.0.position ≡ id) × Shows d.layout (stepped s i (f n) id [] (with_step shown.history x me.0) keeps))
@@ -234,7 +235,7 @@ module _ {S : Type 0} (k : Layout) (slots id : ℕ) (me : Me S View) (t r : ℕ)
   pub unpin_owes : (d : Dir) (g one : ℕ) → one ≡ unit_of d → Holds t r d g me.0
       → Allows (Shows k) slots id me (place t r 0) (λ n. (n + (2 ^ 64 - one)) % 2 ^ 64) (tells (unpinning k t r d g) (step slots (place t r 0) one 0 none) me)
   unpin_owes d g one is holds = control_owes k t r (λ n. Unpinned d g) (λ n. (n + (2 ^ 64 - unit_of d)) % 2 ^ 64) slots id me (λ n. (n + (2 ^ 64 - one)) % 2 ^ 64) (step slots (place t r 0) one 0 none) tn rn refl (λ n. ap (λ (u : ℕ). (n + (2 ^ 64 - u)) % 2 ^ 64) is) (λ n. (refl, refl, tt))
-      (λ w a b hs z fits. let p = there_is d g (pins (steps_on t r me.0)) holds in (
+      (λ w a b hs z fits. let p = there_is d g (live_pins (steps_on t r me.0)) holds in (
         subst (λ (u : ℕ × ℕ). ShowsEntry k.first t u.0 a b (set hs id (Unpinned d u.1 ∷ steps_on t r me.0)))
             (λ i. (lowered d w (pin_counted k.first t hs id (steps_on t r me.0) z.1 w a b z.0 d p.0 p.1 p.2) fits i, p.3 i))
             (entry_unpins k.first t hs id (steps_on t r me.0) z.1 w a b z.0 d p.0 p.1 p.2),

@@ -15,7 +15,8 @@ use Rattle.gt_words.specs.Steps.{on_entry}
 use Rattle.gt_words.specs.Controls.{generation_of, pins_in}
 use Rattle.gt_words.specs.Laws.{PastPinsAreRefused, PinsLeftAreCounted, WordsFollowViews}
 use Rattle.gt_words.specs.Rule.{ShowsEntry, header_now, owner_steps, place, total_until}
-use Rattle.gt_words.specs.Views.{IsIn, LivePin, exchanged, last_record, pins, pins_until, steps_on, steps_on_header}
+use Rattle.gt_words.specs.Views.{IsAmong, LivePin, exchanged, last_record, live_pins, pins_until, steps_on}
+use Rattle.gt_words.specs.Views.{steps_on_header}
 use Rattle.gt_words.specs.Views.{weight}
 use Rattle.gt_words.specs.declared.view.EntryRecord.{EntryRecord}
 use Rattle.gt_words.specs.declared.view.EntryStep.{EntryStep}
@@ -34,20 +35,20 @@ until_here d g y ps old = by (nat_le y.generation g) (let is : nat_le y.generati
     by true e w = omega arith
     by false e w = cc
 
-until_in : (g : ℕ) (p : LivePin) (ps : List LivePin) → IsIn p ps → p.1.generation ≤ g → 1 ≤ pins_until p.0 g ps
+until_in : (g : ℕ) (p : LivePin) (ps : List LivePin) → IsAmong p ps → p.1.generation ≤ g → 1 ≤ pins_until p.0 g ps
 until_in g p [] is old = absurd is
 until_in g p (q ∷ qs) (inl same) old = let e = until_here p.0 g p.1 qs old in subst (λ (z : LivePin). 1 ≤ pins_until p.0 g (z ∷ qs)) same (omega arith)
 until_in g p (q ∷ qs) (inr is) old = let l = until_in g p qs is old in omega arith
 
-until_at : (d : Dir) (g : ℕ) (hs : List (List EntryStep)) (i : ℕ) (h : List EntryStep) → get_elem? hs i ≡ some h → pins_until d g (pins h) ≤ total_until d g hs
+until_at : (d : Dir) (g : ℕ) (hs : List (List EntryStep)) (i : ℕ) (h : List EntryStep) → get_elem? hs i ≡ some h → pins_until d g (live_pins h) ≤ total_until d g hs
 until_at d g [] i h e = absurd (some-ne-none h (sym e))
-until_at d g (x ∷ xs) zero h e = let p : pins_until d g (pins x) ≡ pins_until d g (pins h) = ap (λ (z : List EntryStep). pins_until d g (pins z)) (some-injective x h e) in omega arith
+until_at d g (x ∷ xs) zero h e = let p : pins_until d g (live_pins x) ≡ pins_until d g (live_pins h) = ap (λ (z : List EntryStep). pins_until d g (live_pins z)) (some-injective x h e) in omega arith
 until_at d g (x ∷ xs) (suc i) h e = let l = until_at d g xs i h e in omega arith
 
 -- a pin that is left of a record is counted by each word that the owner exchanged from
 pub pins_left : PinsLeftAreCounted
 pins_left k s i v t r e p shown at tn rn held past old = let hs : List (List EntryStep) = map (steps_on t r) s.views in let l = ((shown.now.entries t r tn rn).gone_on e past).left p.0 in
-    let a = until_at p.0 (generation_of e) hs i (steps_on t r v) (at_map (steps_on t r) s.views i v at) in let b = until_in (generation_of e) p (pins (steps_on t r v)) held old in omega arith
+    let a = until_at p.0 (generation_of e) hs i (steps_on t r v) (at_map (steps_on t r) s.views i v at) in let b = until_in (generation_of e) p (live_pins (steps_on t r v)) held old in omega arith
 
 -- no pin is taken of a record that the owner's list has gone on from
 pub past_pins : PastPinsAreRefused

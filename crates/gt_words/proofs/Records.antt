@@ -16,7 +16,7 @@ use Rattle.gt_types.specs.declared.Dir.{Dir}
 use Rattle.gt_types.specs.declared.Dir.TheVariants.{Read, Write}
 use Rattle.gt_words.specs.Laws.{bounded}
 use Rattle.gt_words.specs.Rule.{IsLawful, IsNextEntry, IsRecord, IsRevocation, MayFollow, ShowsRecord, total_pins}
-use Rattle.gt_words.specs.Views.{IsIn, LivePin, is_same_dir, pin_count, pins, weight, without_pin}
+use Rattle.gt_words.specs.Views.{IsAmong, LivePin, is_same_dir, pin_count, live_pins, weight, without_pin}
 use Rattle.gt_entry.specs.declared.change.Change.{Change}
 use Rattle.gt_words.specs.declared.view.EntryStep.{EntryStep}
 use Rattle.gt_words.specs.declared.view.EntryStep.TheVariants.{Changed, Pinned, StoredBody, Unpinned}
@@ -24,9 +24,9 @@ use Rattle.gt_entry.specs.declared.change.Half.{Half}
 use Rattle.gt_words.specs.declared.view.EntryRecord.{EntryRecord}
 use Rattle.gt_entry.specs.declared.control.Kind.TheVariants as kind
 
-pub total_pins-set : (d : Dir) (hs : List (List EntryStep)) (i : ℕ) (h h' : List EntryStep) → get_elem? hs i ≡ some h → total_pins d (set hs i h') + pin_count d (pins h) ≡ total_pins d hs + pin_count d (pins h')
+pub total_pins-set : (d : Dir) (hs : List (List EntryStep)) (i : ℕ) (h h' : List EntryStep) → get_elem? hs i ≡ some h → total_pins d (set hs i h') + pin_count d (live_pins h) ≡ total_pins d hs + pin_count d (live_pins h')
 total_pins-set d [] i h h' e = absurd (some-ne-none h (sym e))
-total_pins-set d (x ∷ xs) zero h h' e = let p : pin_count d (pins x) ≡ pin_count d (pins h) = ap (λ (z : List EntryStep). pin_count d (pins z)) (some-injective x h e) in omega arith
+total_pins-set d (x ∷ xs) zero h h' e = let p : pin_count d (live_pins x) ≡ pin_count d (live_pins h) = ap (λ (z : List EntryStep). pin_count d (live_pins z)) (some-injective x h e) in omega arith
 total_pins-set d (x ∷ xs) (suc i) h h' e = let r = total_pins-set d xs i h h' e in omega arith
 
 same_weight : (d c e : Dir) → is_same_dir c e ≡ true → weight d c ≡ weight d e
@@ -39,29 +39,29 @@ is_same : (c : Dir) → is_same_dir c c ≡ true
 is_same Read = refl
 is_same Write = refl
 
-pub pin_count-without_pin : (d c : Dir) (g : ℕ) (p : LivePin) (ps : List LivePin) → IsIn p ps → p.0 ≡ c → p.1.generation ≡ g → pin_count d (without_pin c g ps) + weight d c ≡ pin_count d ps
+pub pin_count-without_pin : (d c : Dir) (g : ℕ) (p : LivePin) (ps : List LivePin) → IsAmong p ps → p.0 ≡ c → p.1.generation ≡ g → pin_count d (without_pin c g ps) + weight d c ≡ pin_count d ps
 pin_count-without_pin d c g p [] h e f = absurd h
 pin_count-without_pin d c g p (q ∷ qs) h e f = go (λ r. pin_count-without_pin d c g p qs r e f) (is_same_dir c q.0 && (g == q.1.generation)) refl
   where
-    go : (IsIn p qs → pin_count d (without_pin c g qs) + weight d c ≡ pin_count d qs) → (b : Bool) → (is_same_dir c q.0 && (g == q.1.generation)) ≡ b
+    go : (IsAmong p qs → pin_count d (without_pin c g qs) + weight d c ≡ pin_count d qs) → (b : Bool) → (is_same_dir c q.0 && (g == q.1.generation)) ≡ b
         → pin_count d (cond b qs (q ∷ without_pin c g qs)) + weight d c ≡ weight d q.0 + pin_count d qs
     go more true is = let s : is_same_dir c q.0 ≡ true = grind arith in let w = same_weight d c q.0 s in omega arith
     go more false is = ⊎_elim (λ (same : p ≡ q). absurd (let k : is_same_dir c q.0 ≡ true = subst (λ (z : LivePin). is_same_dir c z.0 ≡ true) same (subst (λ (z : Dir). is_same_dir c z ≡ true) (sym e) (is_same c)) in
         let n : g ≡ q.1.generation = sym f ∙ ap (λ (z : LivePin). z.1.generation) same in grind (arith, common_steps)))
-        (λ (rest : IsIn p qs). let r = more rest in omega arith) h
+        (λ (rest : IsAmong p qs). let r = more rest in omega arith) h
 
-pub IsIn-without_pin : (c : Dir) (g : ℕ) (p : LivePin) (ps : List LivePin) → IsIn p (without_pin c g ps) → IsIn p ps
+pub IsIn-without_pin : (c : Dir) (g : ℕ) (p : LivePin) (ps : List LivePin) → IsAmong p (without_pin c g ps) → IsAmong p ps
 IsIn-without_pin c g p [] h = h
 IsIn-without_pin c g p (q ∷ qs) h = go (IsIn-without_pin c g p qs) (is_same_dir c q.0 && (g == q.1.generation)) h
   where
-    go : (IsIn p (without_pin c g qs) → IsIn p qs) → (b : Bool) → IsIn p (cond b qs (q ∷ without_pin c g qs)) → (p ≡ q) ⊎ IsIn p qs
+    go : (IsAmong p (without_pin c g qs) → IsAmong p qs) → (b : Bool) → IsAmong p (cond b qs (q ∷ without_pin c g qs)) → (p ≡ q) ⊎ IsAmong p qs
     go more true k = inr k
-    go more false k = ⊎_elim (λ (e : p ≡ q). inl e) (λ (r : IsIn p (without_pin c g qs)). inr (more r)) k
+    go more false k = ⊎_elim (λ (e : p ≡ q). inl e) (λ (r : IsAmong p (without_pin c g qs)). inr (more r)) k
 
 -- the list of records
 
 -- a record that comes after a list is none of it, if it is an entry
-pub fresh : (x : EntryRecord) (xs : List EntryRecord) (w y : EntryRecord) → IsLawful x xs → MayFollow w x → IsIn y (x ∷ xs) → w ≡ y → w.entry ≡ Invalid
+pub fresh : (x : EntryRecord) (xs : List EntryRecord) (w y : EntryRecord) → IsLawful x xs → MayFollow w x → IsAmong y (x ∷ xs) → w ≡ y → w.entry ≡ Invalid
 fresh x xs w y l f h e = let r = bounded x xs y l h in ⊎_elim (λ (t : IsRevocation w x). t.0)
     (λ (t : IsNextEntry w x). let a = t.0 in let g : w.generation ≡ y.generation = ap (λ (z : EntryRecord). z.generation) e in absurd (omega arith)) f
 
@@ -69,7 +69,7 @@ pub legal_record : (x : EntryRecord) (xs : List EntryRecord) → IsLawful x xs �
 legal_record x [] l = l.0
 legal_record x (z ∷ zs) l = l.0
 
-pub listed_record : (x : EntryRecord) (xs : List EntryRecord) (y : EntryRecord) → IsLawful x xs → IsIn y (x ∷ xs) → IsRecord y
+pub listed_record : (x : EntryRecord) (xs : List EntryRecord) (y : EntryRecord) → IsLawful x xs → IsAmong y (x ∷ xs) → IsRecord y
 listed_record x xs y l (inl e) = subst IsRecord (sym e) (legal_record x xs l)
 listed_record x [] y l (inr h) = absurd h
 listed_record x (z ∷ zs) y l (inr h) = listed_record z zs y l.2 h
@@ -113,23 +113,23 @@ spelled_control e g r w ok in_range small = ap control_of (sym (entry-word e g r
 -- one step of the seat i, whose moves on the entry were h
 
 module _ (x : EntryRecord) (xs : List EntryRecord) (a b : ℕ) (hs : List (List EntryStep)) (i : ℕ) (h : List EntryStep) (m : EntryStep) where
-  all_pinned : ((p : LivePin) → IsIn p (pins (m ∷ h)) → IsIn p.1 (x ∷ xs) × (p.1.entry ≢ Invalid)) → ((j : ℕ) (y : List EntryStep) → get_elem? hs j ≡ some y → (p : LivePin) → IsIn p (pins y) → IsIn p.1 (x ∷ xs) × (p.1.entry ≢ Invalid))
-      → (j : ℕ) (y : List EntryStep) → get_elem? (set hs i (m ∷ h)) j ≡ some y → (p : LivePin) → IsIn p (pins y) → IsIn p.1 (x ∷ xs) × (p.1.entry ≢ Invalid)
-  all_pinned f pinned j y e = ⊎_elim (λ (t : (j ≡ i) × ((m ∷ h) ≡ y)). subst (λ (z : List EntryStep). (p : LivePin) → IsIn p (pins z) → IsIn p.1 (x ∷ xs) × (p.1.entry ≢ Invalid)) t.1 f)
+  all_pinned : ((p : LivePin) → IsAmong p (live_pins (m ∷ h)) → IsAmong p.1 (x ∷ xs) × (p.1.entry ≢ Invalid)) → ((j : ℕ) (y : List EntryStep) → get_elem? hs j ≡ some y → (p : LivePin) → IsAmong p (live_pins y) → IsAmong p.1 (x ∷ xs) × (p.1.entry ≢ Invalid))
+      → (j : ℕ) (y : List EntryStep) → get_elem? (set hs i (m ∷ h)) j ≡ some y → (p : LivePin) → IsAmong p (live_pins y) → IsAmong p.1 (x ∷ xs) × (p.1.entry ≢ Invalid)
+  all_pinned f pinned j y e = ⊎_elim (λ (t : (j ≡ i) × ((m ∷ h) ≡ y)). subst (λ (z : List EntryStep). (p : LivePin) → IsAmong p (live_pins z) → IsAmong p.1 (x ∷ xs) × (p.1.entry ≢ Invalid)) t.1 f)
       (λ (t : (j ≢ i) × (get_elem? hs j ≡ some y)). pinned j y t.1) (at_set hs i j (m ∷ h) y e)
 
-  same_held : (d : Dir) → get_elem? hs i ≡ some h → pins (m ∷ h) ≡ pins h → total_pins d (set hs i (m ∷ h)) ≡ total_pins d hs
-  same_held d e p = let r = total_pins-set d hs i h (m ∷ h) e in let q : pin_count d (pins (m ∷ h)) ≡ pin_count d (pins h) = ap (pin_count d) p in omega arith
+  same_held : (d : Dir) → get_elem? hs i ≡ some h → live_pins (m ∷ h) ≡ live_pins h → total_pins d (set hs i (m ∷ h)) ≡ total_pins d hs
+  same_held d e p = let r = total_pins-set d hs i h (m ∷ h) e in let q : pin_count d (live_pins (m ∷ h)) ≡ pin_count d (live_pins h) = ap (pin_count d) p in omega arith
 
   -- a step that changes neither the word nor a pin
-  pub sees_shown : (word : ℕ) → ShowsRecord x xs word a b hs → get_elem? hs i ≡ some h → pins (m ∷ h) ≡ pins h → ShowsRecord x xs word a b (set hs i (m ∷ h))
+  pub sees_shown : (word : ℕ) → ShowsRecord x xs word a b hs → get_elem? hs i ≡ some h → live_pins (m ∷ h) ≡ live_pins h → ShowsRecord x xs word a b (set hs i (m ∷ h))
   sees_shown word k e p = let r = same_held Read e p in let w = same_held Write e p in record {
     spelled = k.spelled ∙ ap (λ (z : ℕ × ℕ). word_of x.entry x.generation z.0 z.1) (λ j. (sym r j, sym w j));
     in_range = (let t = k.in_range.0 in omega arith, let t = k.in_range.1 in omega arith);
     body = k.body;
     lawful = k.lawful;
     unwritten = λ n. w ∙ k.unwritten n;
-    pinned = all_pinned (λ q t. k.pinned i h e q (subst (IsIn q) p t)) k.pinned;
+    pinned = all_pinned (λ q t. k.pinned i h e q (subst (IsAmong q) p t)) k.pinned;
   }
 
 -- the word with one pin more of the kind d
@@ -157,21 +157,21 @@ module _ (x : EntryRecord) (xs : List EntryRecord) (a b : ℕ) (hs : List (List 
         body = k.body;
         lawful = k.lawful;
         unwritten = λ z. read_pin d x writable (total_pins Write hs) (total_pins Write hs') w z (k.unwritten z);
-        pinned = all_pinned x xs a b hs i h (Pinned d expected x) (λ p t. ⊎_elim (λ (s : p ≡ (d, x)). let one = ap (λ (z : LivePin). z.1) s in (inl one, subst (λ (u : EntryRecord). u.entry ≢ Invalid) (sym one) n)) (λ (s : IsIn p (pins h)). k.pinned i h e p s) t) k.pinned;
+        pinned = all_pinned x xs a b hs i h (Pinned d expected x) (λ p t. ⊎_elim (λ (s : p ≡ (d, x)). let one = ap (λ (z : LivePin). z.1) s in (inl one, subst (λ (u : EntryRecord). u.entry ≢ Invalid) (sym one) n)) (λ (s : IsAmong p (live_pins h)). k.pinned i h e p s) t) k.pinned;
       }
 
-  pub unpins_shown : (word : ℕ) (d : Dir) (p : LivePin) → ShowsRecord x xs word a b hs → get_elem? hs i ≡ some h → IsIn p (pins h) → p.0 ≡ d
+  pub unpins_shown : (word : ℕ) (d : Dir) (p : LivePin) → ShowsRecord x xs word a b hs → get_elem? hs i ≡ some h → IsAmong p (live_pins h) → p.0 ≡ d
       → ShowsRecord x xs (word - unit_of d) a b (set hs i (Unpinned d p.1.generation ∷ h))
   unpins_shown word d p k e is_in same = let g : ℕ = p.1.generation in let m : EntryStep = Unpinned d g in let hs' : List (List EntryStep) = set hs i (m ∷ h) in
-      let r : total_pins Read hs ≡ total_pins Read hs' + weight Read d = let t = total_pins-set Read hs i h (m ∷ h) e in let c = pin_count-without_pin Read d g p (pins h) is_in same refl in omega arith in
-      let w : total_pins Write hs ≡ total_pins Write hs' + weight Write d = let t = total_pins-set Write hs i h (m ∷ h) e in let c = pin_count-without_pin Write d g p (pins h) is_in same refl in omega arith in
+      let r : total_pins Read hs ≡ total_pins Read hs' + weight Read d = let t = total_pins-set Read hs i h (m ∷ h) e in let c = pin_count-without_pin Read d g p (live_pins h) is_in same refl in omega arith in
+      let w : total_pins Write hs ≡ total_pins Write hs' + weight Write d = let t = total_pins-set Write hs i h (m ∷ h) e in let c = pin_count-without_pin Write d g p (live_pins h) is_in same refl in omega arith in
       let f = k.in_range in let f0 = f.0 in let f1 = f.1 in record {
         spelled = let t = more d x.entry x.generation (total_pins Read hs') (total_pins Write hs') (total_pins Read hs) (total_pins Write hs) r w in let s = k.spelled in omega arith;
         in_range = (omega arith, omega arith);
         body = k.body;
         lawful = k.lawful;
         unwritten = λ z. let q = k.unwritten z in omega arith;
-        pinned = all_pinned x xs a b hs i h m (λ q t. k.pinned i h e q (IsIn-without_pin d g q (pins h) t)) k.pinned;
+        pinned = all_pinned x xs a b hs i h m (λ q t. k.pinned i h e q (IsIn-without_pin d g q (live_pins h) t)) k.pinned;
       }
 
   -- the owner stores a body word of an invalid entry

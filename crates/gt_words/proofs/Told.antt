@@ -37,13 +37,13 @@ use Rattle.gt_words.specs.Conditions.{MayPin}
 use Rattle.gt_words.specs.Answers.{MissesBusy, MissesChange, MissesPin, Pins, Publishes, Revokes}
 use Rattle.gt_words.specs.Answers.{StepsOnControl, StoresBody, Unpins}
 use Rattle.gt_words.specs.Controls.{IsTurnable, IsValid, generation_of, pins_in}
-use Rattle.gt_words.specs.History.{History, part_of}
+use Rattle.gt_words.specs.History.{StepHistory, part_of}
 use Rattle.gt_words.specs.Rule.{IsRecord, Layout, ShowsEntry, ShowsRecord, Stands, owner_steps, place, total_pins}
 use Rattle.gt_words.specs.Sight.{SawRecord}
 use Rattle.gt_words.specs.Steps.{TakesStep, changed, changed_word, exchanging, half_index, half_of, missed, on_entry}
 use Rattle.gt_words.specs.Steps.{taken}
-use Rattle.gt_words.specs.Views.{IsIn, LivePin, Seen, earlier_records, entry_steps, is_half, last_of, last_record}
-use Rattle.gt_words.specs.Views.{last_seen, own, own_body, pin_count, pins, record_seen, seen, steps_on}
+use Rattle.gt_words.specs.Views.{IsAmong, LivePin, Seen, earlier_records, entry_steps, is_half, last_of, last_record}
+use Rattle.gt_words.specs.Views.{last_seen, own, own_body, pin_count, live_pins, record_seen, seen, steps_on}
 use Rattle.gt_words.specs.Views.{steps_on_header, stored_body, with_step}
 use Rattle.gt_entry.specs.declared.change.Change.{Change}
 use Rattle.gt_words.specs.declared.view.EntryStep.{EntryStep}
@@ -58,7 +58,7 @@ use Rattle.gt_entry.specs.declared.change.Change.TheVariants.{Demote, Publish, R
 use Rattle.gt_types.specs.declared.limits.TheConstants.{TABLE_ENTRIES}
 
 -- one more step on an entry
-pub adds_to_entry : (past : History) (t r : ℕ) (m : EntryStep) (v w : View) → w ≡ with_step past (on_entry t r m) v → AddsToEntry past t r m v w
+pub adds_to_entry : (past : StepHistory) (t r : ℕ) (m : EntryStep) (v w : View) → w ≡ with_step past (on_entry t r m) v → AddsToEntry past t r m v w
 adds_to_entry past t r m v w e = record {
   view = e;
   here = ap (steps_on t r) e ∙ steps_on-added past t r m v;
@@ -68,7 +68,7 @@ adds_to_entry past t r m v w e = record {
 
 -- an exchange that found the word expected was taken
 pub exchange_taken : (k : Layout) (t r : ℕ) (v : View) (p : Purpose) (old new found : ℕ) (w : View) → found ≡ old
-    → (past : History) → w ≡ with_step past ((exchanging k t r v p old new).step found) v → TakesStep (Unit {0}) k v past ((exchanging k t r v p old new).step found) (place t r 0) found ((exchanging k t r v p old new).leaves found)
+    → (past : StepHistory) → w ≡ with_step past ((exchanging k t r v p old new).step found) v → TakesStep (Unit {0}) k v past ((exchanging k t r v p old new).step found) (place t r 0) found ((exchanging k t r v p old new).leaves found)
     → StepsOnControl k t r (taken t r v p old new) old new v w
 exchange_taken k t r v p old new found w e past view step = let b : (found == old) ≡ true = eq-eqb found old e in record {
   past = past;
@@ -79,7 +79,7 @@ exchange_taken k t r v p old new found w e past view step = let b : (found == ol
 
 -- an exchange that found another was missed
 pub exchange_missed : (k : Layout) (t r : ℕ) (v : View) (p : Purpose) (old new found : ℕ) (w : View) → found ≢ old
-    → (past : History) → w ≡ with_step past ((exchanging k t r v p old new).step found) v → TakesStep (Unit {0}) k v past ((exchanging k t r v p old new).step found) (place t r 0) found ((exchanging k t r v p old new).leaves found)
+    → (past : StepHistory) → w ≡ with_step past ((exchanging k t r v p old new).step found) v → TakesStep (Unit {0}) k v past ((exchanging k t r v p old new).step found) (place t r 0) found ((exchanging k t r v p old new).leaves found)
     → StepsOnControl k t r (missed p old new found) found found v w
 exchange_missed k t r v p old new found w n past view step = let b : (found == old) ≡ false = ne_eqb found old n in record {
   past = past;
@@ -128,7 +128,7 @@ module _ (k : Layout) (t r : ℕ) (m : EntryStep) (found left : ℕ) (v w : View
           let g : generation_of found ≡ x.generation = spelled_generation x found (total_pins Read all) (total_pins Write all) (legal_record x xs f.lawful) f.in_range f.spelled in omega arith
 
   -- the view's pins of one generation have one record
-  pub alike : AreAlike (pins (steps_on t r v))
+  pub alike : AreAlike (live_pins (steps_on t r v))
   alike p q a b g = let f = shown_there.record_shown in let pin = f.pinned v.position (steps_on t r v) seat_there p a in let other = f.pinned v.position (steps_on t r v) seat_there q b in
       one_record (last_record k.first (owner_steps t all)) (earlier_records k.first (owner_steps t all)) p.1 q.1 f.lawful pin.0 other.0 pin.1 other.1 g
 
@@ -169,7 +169,7 @@ module _ (k : Layout) (t r : ℕ) (m : EntryStep) (found left : ℕ) (v w : View
     -- the idle word was found in a state without pins
     pub idle_unpinned : IsIdleOf (last_of r v) found → HasNoPins t r z.past
     idle_unpinned idle i = let e = idle_held (last_of r v) (earlier_records v.first (steps_on v.position r v)) found (total_pins Read all) (total_pins Write all) owners_entry.lawful owners_entry.in_range owners_entry.spelled idle in
-        let e0 = e.0 in let e1 = e.1 in let a = held_there k z.past there stands.led_here t r i Read in let b = held_there k z.past there stands.led_here t r i Write in no_pins (pins (entry_steps t r (part_of i z.past))) (omega arith) (omega arith)
+        let e0 = e.0 in let e1 = e.1 in let a = held_there k z.past there stands.led_here t r i Read in let b = held_there k z.past there stands.led_here t r i Write in no_pins (live_pins (entry_steps t r (part_of i z.past))) (omega arith) (omega arith)
 
     -- a word without write pins was found in a state without them
     pub write_unpinned : pins_in Write found ≡ 0 → HasNoWritePins t r z.past
@@ -179,11 +179,11 @@ module _ (k : Layout) (t r : ℕ) (m : EntryStep) (found left : ℕ) (v w : View
         omega arith
 
 -- the view of the owner after a step on its own entry
-own_steps : (past : History) (t r : ℕ) (m : EntryStep) (v : View) → v.position ≡ t → steps_on v.position r (with_step past (on_entry t r m) v) ≡ m ∷ steps_on v.position r v
+own_steps : (past : StepHistory) (t r : ℕ) (m : EntryStep) (v : View) → v.position ≡ t → steps_on v.position r (with_step past (on_entry t r m) v) ≡ m ∷ steps_on v.position r v
 own_steps past t r m v own_is = subst (λ (u : ℕ). steps_on u r (with_step past (on_entry t r m) v) ≡ m ∷ steps_on u r v) (sym own_is) (steps_on-added past t r m v)
 
 -- a step that is no change of the owner's
-pub keeps_last : (past : History) (t r : ℕ) (m : EntryStep) (v w : View) → v.position ≡ t → AddsToEntry past t r m v w → last_record v.first (m ∷ steps_on v.position r v) ≡ last_record v.first (steps_on v.position r v) → last_of r w ≡ last_of r v
+pub keeps_last : (past : StepHistory) (t r : ℕ) (m : EntryStep) (v w : View) → v.position ≡ t → AddsToEntry past t r m v w → last_record v.first (m ∷ steps_on v.position r v) ≡ last_record v.first (steps_on v.position r v) → last_of r w ≡ last_of r v
 keeps_last past t r m v w own_is z same = ap (last_of r) z.view ∙ (ap (last_record v.first) (own_steps past t r m v own_is) ∙ same)
 
 module _ (k : Layout) (r : ℕ) (c : Change) (word : ℕ) (v w : View) (vn : v.position < k.domains) (rn : r < TABLE_ENTRIES) where
@@ -216,7 +216,7 @@ module _ (k : Layout) (r : ℕ) (c : Change) (word : ℕ) (v w : View) (vn : v.p
   }
 
 -- a look at a control word
-pub looks : (k : Layout) (t r n : ℕ) (v w : View) → t < k.domains → r < TABLE_ENTRIES → (past : History) → w ≡ with_step past (on_entry t r (Looked n)) v → TakesStep (Unit {0}) k v past (on_entry t r (Looked n)) (place t r 0) n n → LooksAtControl k t r n v w
+pub looks : (k : Layout) (t r n : ℕ) (v w : View) → t < k.domains → r < TABLE_ENTRIES → (past : StepHistory) → w ≡ with_step past (on_entry t r (Looked n)) v → TakesStep (Unit {0}) k v past (on_entry t r (Looked n)) (place t r 0) n n → LooksAtControl k t r n v w
 looks k t r n v w tn rn past view step = let z : StepsOnControl k t r (Looked n) n n v w = record { past = past; adds = adds_to_entry past t r (Looked n) v w view; step = step } in let later = not_earlier k t r (Looked n) n n v w tn rn z in record {
   steps = z;
   not_earlier = later;
@@ -232,7 +232,7 @@ module _ (k : Layout) (t r : ℕ) (d : Dir) (word : ℕ) (v w : View) (tn : t < 
   pub pins_entry : IsValid word → MayPin k t r v d (record_seen (last_seen t r v)) → StepsOnControl k t r (Pinned d word (record_seen (last_seen t r v))) word (word + unit_of d) v w → Pins k t r d word v w
   pins_entry valid may z = let y : EntryRecord = record_seen (last_seen t r v) in let m : EntryStep = Pinned d word y in let all : List (List EntryStep) = map (steps_on t r) z.step.stood.0.views in let f = (shown_there k t r m word (word + unit_of d) v w tn rn z).record_shown in
       let x : EntryRecord = last_record k.first (owner_steps t all) in let xs : List EntryRecord = earlier_records k.first (owner_steps t all) in
-      let pin : IsIn (d, y) (pins (steps_on t r w)) = subst (λ (ms : List EntryStep). IsIn (d, y) (pins ms)) (sym z.adds.here) (inl refl) in
+      let pin : IsAmong (d, y) (live_pins (steps_on t r w)) = subst (λ (ms : List EntryStep). IsAmong (d, y) (live_pins ms)) (sym z.adds.here) (inl refl) in
       let more : HoldsOneMore t r d (generation_of word) v w = subst (λ (g : ℕ). HoldsOneMore t r d g v w) (ap generation_of looked.1) (taken_more t r d word y v w z.adds) in record {
         steps = z;
         current = ap (last_record k.first) (owner_made k z.past z.step.stood.0 z.step.stood.1.led_here t r t tn) ∙ sym (seen_is_last x xs (last_seen t r v) word (total_pins Read all) (total_pins Write all) f.lawful (subst (SawRecord x xs) looked.0 (saw_before k t r m word (word + unit_of d) v w tn rn z)) f.in_range f.spelled looked.1 valid looked.2).0;
@@ -256,7 +256,7 @@ pins_in-spelled Read x word reads writes ok in_range is hs a b = ap (pins_in Rea
 pins_in-spelled Write x word reads writes ok in_range is hs a b = ap (pins_in Write) is ∙ ((spelled_parts x.entry x.generation reads writes ok.0 in_range).writes ∙ b)
 
 -- while a view has a pin of an entry, its control word counts it
-counted_there : (k : Layout) (t r : ℕ) (d : Dir) → t < k.domains → r < TABLE_ENTRIES → (h : History) (s : State (Unit {0}) View) (i : ℕ) (v : View) → Stands k h s → get_elem? s.views i ≡ some v → pin_count d (pins (steps_on t r v)) ≤ pins_in d (get_or s.words (place t r 0) 0)
+counted_there : (k : Layout) (t r : ℕ) (d : Dir) → t < k.domains → r < TABLE_ENTRIES → (h : StepHistory) (s : State (Unit {0}) View) (i : ℕ) (v : View) → Stands k h s → get_elem? s.views i ≡ some v → pin_count d (live_pins (steps_on t r v)) ≤ pins_in d (get_or s.words (place t r 0) 0)
 counted_there k t r d tn rn h s i v stands at = let hs : List (List EntryStep) = map (steps_on t r) s.views in let f = (stands.entries t r tn rn).record_shown in
     let x : EntryRecord = last_record k.first (owner_steps t hs) in let xs : List EntryRecord = earlier_records k.first (owner_steps t hs) in
     let e = pins_in-spelled d x (get_or s.words (place t r 0) 0) (total_pins Read hs) (total_pins Write hs) (legal_record x xs f.lawful) f.in_range f.spelled hs refl refl in
@@ -271,10 +271,10 @@ lowered Write w a b = omega arith
 
 -- a pin was given back
 pub unpins : (k : Layout) (t r : ℕ) (d : Dir) (g : ℕ) (v : View) (found : ℕ) (w : View) → t < k.domains → r < TABLE_ENTRIES → Holds t r d g v → found < 18446744073709551616
-    → (past : History) → w ≡ with_step past (on_entry t r (Unpinned d g)) v → TakesStep (Unit {0}) k v past (on_entry t r (Unpinned d g)) (place t r 0) found ((found + (2 ^ 64 - unit_of d)) % 2 ^ 64) → Unpins k t r d g v w
-unpins k t r d g v found w tn rn holds fits past view step = let p = there_is d g (pins (steps_on t r v)) holds in let c = count_in d p.0 (pins (steps_on t r v)) p.1 p.2 in
+    → (past : StepHistory) → w ≡ with_step past (on_entry t r (Unpinned d g)) v → TakesStep (Unit {0}) k v past (on_entry t r (Unpinned d g)) (place t r 0) found ((found + (2 ^ 64 - unit_of d)) % 2 ^ 64) → Unpins k t r d g v w
+unpins k t r d g v found w tn rn holds fits past view step = let p = there_is d g (live_pins (steps_on t r v)) holds in let c = count_in d p.0 (live_pins (steps_on t r v)) p.1 p.2 in
     let l = counted_there k t r d tn rn past step.stood.0 v.position v step.stood.1 step.stood.2 in let e : get_or step.stood.0.words (place t r 0) 0 ≡ found = step.stood.1.led_here.words (place t r 0) (inside k.domains t r 0 tn rn (omega arith)) ∙ step.found_is in
-    let l' : pin_count d (pins (steps_on t r v)) ≤ pins_in d found = subst (λ (n : ℕ). pin_count d (pins (steps_on t r v)) ≤ pins_in d n) e l in let some_pin : 0 < pins_in d found = omega arith in
+    let l' : pin_count d (live_pins (steps_on t r v)) ≤ pins_in d found = subst (λ (n : ℕ). pin_count d (live_pins (steps_on t r v)) ≤ pins_in d n) e l in let some_pin : 0 < pins_in d found = omega arith in
     let m : EntryStep = Unpinned d g in let a = adds_to_entry past t r m v w view in
     let z : StepsOnControl k t r m found (found - unit_of d) v w = record { past = past; adds = a; step = subst (λ (n : ℕ). TakesStep (Unit {0}) k v past (on_entry t r m) (place t r 0) found n) (lowered d found some_pin fits) step } in record {
       found = found;
@@ -334,7 +334,7 @@ half_is First = refl
 half_is Second = refl
 
 -- a body word was read
-pub reads_body : (k : Layout) (t r i : ℕ) (h : Half) (n : ℕ) (v w : View) → i ≡ half_index h → (past : History) → w ≡ with_step past (on_entry t r (ReadBody (half_of i) n)) v
+pub reads_body : (k : Layout) (t r i : ℕ) (h : Half) (n : ℕ) (v w : View) → i ≡ half_index h → (past : StepHistory) → w ≡ with_step past (on_entry t r (ReadBody (half_of i) n)) v
     → TakesStep (Unit {0}) k v past (on_entry t r (ReadBody (half_of i) n)) (place t r i) n n → LooksAtBody k t r h n v w
 reads_body k t r i h n v w e past view step = let f : half_of i ≡ h = ap half_of e ∙ half_is h in let a = adds_to_entry past t r (ReadBody h n) v w (view ∙ ap (λ (u : Half). with_step past (on_entry t r (ReadBody u n)) v) f) in
     let same = body_generation h n (seen (steps_on t r v)) in record {
@@ -343,7 +343,7 @@ reads_body k t r i h n v w e past view step = let f : half_of i ≡ h = ap half_
     }
 
 -- the owner stored a body word
-pub stores_body : (k : Layout) (t r i : ℕ) (h : Half) (value found : ℕ) (v w : View) → v.position ≡ t → i ≡ half_index h → (past : History) → w ≡ with_step past (on_entry t r (StoredBody (half_of i) value)) v
+pub stores_body : (k : Layout) (t r i : ℕ) (h : Half) (value found : ℕ) (v w : View) → v.position ≡ t → i ≡ half_index h → (past : StepHistory) → w ≡ with_step past (on_entry t r (StoredBody (half_of i) value)) v
     → TakesStep (Unit {0}) k v past (on_entry t r (StoredBody (half_of i) value)) (place t r i) found value → StoresBody k r h value v w
 stores_body k t r i h value found v w own_is e past view step = let m : EntryStep = StoredBody h value in let f : half_of i ≡ h = ap half_of e ∙ half_is h in
     let a : AddsToEntry past v.position r m v w = subst (λ (u : ℕ × Half). AddsToEntry past u.0 r (StoredBody u.1 value) v w) (λ j. (sym own_is j, f j)) (adds_to_entry past t r (StoredBody (half_of i) value) v w view) in

@@ -1,25 +1,26 @@
 -- What the answers of calls say: which step was made, what it saw and what it left.
 use Rattle.std.specs.Prelude.{◌≡◌, ◌≢◌, ℕ, ◌+◌, ◌-◌, ◌<◌, ◌≤◌, [], ◌∷◌}
-use Rattle.gt_words.specs.Prelude.{header_of, header_word, size_of, unit_of, Entry, Header, IsFirstFault}
-use Rattle.gt_words.specs.Prelude.{IsWithinLimits, Dir, Config, StartFault, TABLE_ENTRIES, Change, EntryStep}
+use Rattle.gt_words.specs.Prelude.{header_of, header_word, size_of, unit_of, Entry, Header, Dir}
+use Rattle.gt_words.specs.Prelude.{TABLE_ENTRIES, Change, EntryStep}
 use Rattle.gt_words.specs.Prelude.{ChangeMissed, Changed, Looked, PinMissed, Pinned, ReadBody, StoredBody, Unpinned}
 use Rattle.gt_words.specs.Prelude.{Half, HeaderStep, View, Pin, Demote, Publish, Revoke}
 use Rattle.gt_words.specs.Controls.{generation_of, pins_in}
 use Rattle.gt_words.specs.Keeping.{Holds, HoldsOneMore, Keeps, KeepsOtherRows, KeepsPins, KeepsRecords, KeepsRows}
 use Rattle.gt_words.specs.Keeping.{SeesNoEarlier}
-use Rattle.gt_words.specs.History.{History, entry_made}
+use Rattle.gt_words.specs.History.{StepHistory, entry_made}
 use Rattle.gt_words.specs.Rule.{IsKeptHeader, Layout, header_place, place}
 use Rattle.gt_words.specs.Steps.{TakesStep, changed, changed_word, half_index, on_entry, on_header}
-use Rattle.gt_words.specs.Views.{IsIn, last_of, last_seen, own_body, own_header, own_list, pins, record_seen, seen}
+use Rattle.gt_words.specs.Views.{IsAmong, last_of, last_seen, own_body, own_header, own_list, live_pins, record_seen}
+use Rattle.gt_words.specs.Views.{seen}
 use Rattle.gt_words.specs.Views.{steps_on, steps_on_header, with_step}
-use Rattle.gt_types.specs.declared.config.StartFault.TheVariants as fault
 use Rattle.gt_words.specs.declared.view.HeaderStep.TheVariants as header
 use Rattle.gt_words.specs.Conditions.{Board, SeatOf, IsSeatOf, position_at, IsWordOf, IsBusyOf, MayPin, HasNoPins}
 use Rattle.gt_words.specs.Conditions.{HasNoWritePins, IsNotEarlier}
+pub use Rattle.gt_positions.specs.Starting.{IsStartFault}
 
 -- the seat added the step m on the entry r of the domain t to its view, which was taken
 -- after the steps past of all seats, and nothing else
-pub record AddsToEntry (past : History) (t r : ℕ) (m : EntryStep) (v w : View) : Type 0 where
+pub record AddsToEntry (past : StepHistory) (t r : ℕ) (m : EntryStep) (v w : View) : Type 0 where
   pub view : w ≡ with_step past (on_entry t r m) v
   pub here : steps_on t r w ≡ m ∷ steps_on t r v
   pub others : (t' r' : ℕ) → (t ≡ t' → r ≡ r' → ⊥) → steps_on t' r' w ≡ steps_on t' r' v
@@ -27,7 +28,7 @@ pub record AddsToEntry (past : History) (t r : ℕ) (m : EntryStep) (v w : View)
 
 -- the seat added the step m on the header of the domain t to its view, which was taken
 -- after the steps past of all seats, and nothing else
-pub record AddsToHeader (past : History) (t : ℕ) (m : HeaderStep) (v w : View) : Type 0 where
+pub record AddsToHeader (past : StepHistory) (t : ℕ) (m : HeaderStep) (v w : View) : Type 0 where
   pub view : w ≡ with_step past (on_header t m) v
   pub here : steps_on_header t w ≡ m ∷ steps_on_header t v
   pub others : (t' : ℕ) → t ≢ t' → steps_on_header t' w ≡ steps_on_header t' v
@@ -35,19 +36,19 @@ pub record AddsToHeader (past : History) (t : ℕ) (m : HeaderStep) (v w : View)
 
 -- the step m was taken on the control word of the entry r of the domain t, if it found and left these numbers
 pub record StepsOnControl (k : Layout) (t r : ℕ) (m : EntryStep) (found left : ℕ) (v w : View) : Type 0 where
-  pub past : History
+  pub past : StepHistory
   pub adds : AddsToEntry past t r m v w
   pub step : TakesStep (Unit {0}) k v past (on_entry t r m) (place t r 0) found left
 
 -- the step m was taken on the body word h of the entry r of the domain t, if it found and left these numbers
 pub record StepsOnBody (k : Layout) (t r : ℕ) (h : Half) (m : EntryStep) (found left : ℕ) (v w : View) : Type 0 where
-  pub past : History
+  pub past : StepHistory
   pub adds : AddsToEntry past t r m v w
   pub step : TakesStep (Unit {0}) k v past (on_entry t r m) (place t r (half_index h)) found left
 
 -- the step m was taken on the header word of the domain t, if it found and left these numbers
 pub record StepsOnHeader (k : Layout) (t : ℕ) (m : HeaderStep) (found left : ℕ) (v w : View) : Type 0 where
-  pub past : History
+  pub past : StepHistory
   pub adds : AddsToHeader past t m v w
   pub step : TakesStep (Unit {0}) k v past (on_header t m) (header_place t) found left
 
@@ -115,7 +116,7 @@ pub record Pins (k : Layout) (t r : ℕ) (d : Dir) (word : ℕ) (v w : View) : T
   pub current : (entry_made k t r steps.past).current ≡ record_seen (last_seen t r v)
   pub permitted : MayPin k t r v d (record_seen (last_seen t r v))
   pub held : Holds t r d (generation_of word) w
-  pub pin : IsIn (d, record_seen (last_seen t r v)) (pins (steps_on t r w))
+  pub pin : IsAmong (d, record_seen (last_seen t r v)) (live_pins (steps_on t r w))
   pub one_more : HoldsOneMore t r d (generation_of word) v w
   pub records : KeepsRecords v w
   pub rows : KeepsRows v w
@@ -169,11 +170,6 @@ pub record Revokes (k : Layout) (r : ℕ) (word : ℕ) (v w : View) : Type 0 whe
 pub record Demotes (k : Layout) (r : ℕ) (word : ℕ) (v w : View) : Type 0 where
   pub changes : Changes k r Demote word v w
   pub no_write_pins : HasNoWritePins v.position r changes.steps.past
-
--- why words are not made: the first fault of the configuration, or no memory if it has none
-abbrev pub IsStartFault : Config → StartFault → Type 0
-IsStartFault c (fault.Config f) = (¬ IsWithinLimits c) × IsFirstFault c f
-IsStartFault c fault.Memory = IsWithinLimits c
 
 -- the seat at the position i, which has done nothing
 pub record IsNewSeat (b : Board) (i : ℕ) (s : SeatOf) : Type 0 where

@@ -7,10 +7,11 @@ use Rattle.gt_words.specs.Prelude.{Second, EntryRecord, View, Demote, Promote, P
 use Rattle.gt_words.specs.Controls.{ForwardsPin, IsValid, LeadsTo, PermitsPin, generation_of, pins_in}
 pub use Rattle.gt_words.specs.Keeping.{Holds, HoldsOneMore, Keeps, KeepsOtherRows, KeepsPins, KeepsRecords, KeepsRows}
 pub use Rattle.gt_words.specs.Keeping.{SeesNoEarlier, seen_generation}
-use Rattle.gt_words.specs.History.{History, part_of}
+use Rattle.gt_words.specs.History.{StepHistory, part_of}
 use Rattle.gt_words.specs.Rule.{Layout, Shows, id_at, place, position_in}
 pub use Rattle.gt_words.specs.Rule.{initial}
-use Rattle.gt_words.specs.Views.{HasBody, IsIn, entry_steps, LivePin, last_of, last_seen, own_body, pin_count, pins}
+use Rattle.gt_words.specs.Views.{HasBody, IsAmong, entry_steps, LivePin, last_of, last_seen, own_body, pin_count}
+use Rattle.gt_words.specs.Views.{live_pins}
 use Rattle.gt_words.specs.Views.{record_seen, seen, steps_on}
 
 -- what clauses see of the words: which table of words it is, and the run that it serves
@@ -93,7 +94,7 @@ pub record PermitsOwnerOfVia (k : Layout) (t r : ℕ) (v : View) (d : Dir) (x : 
   pub owner : ℕ
   pub reference : ℕ
   pub via : LivePin
-  pub held : IsIn via (pins (steps_on owner reference v))
+  pub held : IsAmong via (live_pins (steps_on owner reference v))
   pub same_kind : via.0 ≡ d
   pub forwarded : ForwardsPin via.1.entry (id_at k.ids v.position) d
   pub leads : LeadsTo via.1.entry (id_at k.ids t) r
@@ -154,19 +155,19 @@ CanChange Demote r word v = CanDemote r word v
 CanChange Promote r word v = CanTurn true r word v
 
 -- after these steps of all seats none has a pin of the entry r of the domain t
-abbrev pub HasNoPins : ℕ → ℕ → History → Type 0
-HasNoPins t r past = (i : ℕ) → pins (entry_steps t r (part_of i past)) ≡ []
+abbrev pub HasNoPins : ℕ → ℕ → StepHistory → Type 0
+HasNoPins t r past = (i : ℕ) → live_pins (entry_steps t r (part_of i past)) ≡ []
 
 -- after these steps of all seats none has a write pin of the entry r of the domain t
-abbrev pub HasNoWritePins : ℕ → ℕ → History → Type 0
-HasNoWritePins t r past = (i : ℕ) → pin_count Write (pins (entry_steps t r (part_of i past))) ≡ 0
+abbrev pub HasNoWritePins : ℕ → ℕ → StepHistory → Type 0
+HasNoWritePins t r past = (i : ℕ) → pin_count Write (live_pins (entry_steps t r (part_of i past))) ≡ 0
 
 -- in each state that words and views show, the control word of the entry
 -- counts the pins of that kind that a view has of it
 abbrev pub CountsPins : Layout → ℕ → ℕ → Dir → Type 0
 CountsPins k t r d =
     (s : State (Unit {0}) View) (i : ℕ) (v : View) → Shows k s → get_elem? s.views i ≡ some v
-    → pin_count d (pins (steps_on t r v)) ≤ pins_in d (slice_index s.words (place t r 0))
+    → pin_count d (live_pins (steps_on t r v)) ≤ pins_in d (slice_index s.words (place t r 0))
 
 -- the word is of no earlier generation than the one that the view saw last of the entry, if it saw one
 abbrev pub IsNotEarlier : ℕ → ℕ → View → ℕ → Type 0

@@ -12,9 +12,10 @@ use Rattle.gt_words.specs.declared.view.HeaderStep.TheVariants as header
 use Rattle.gt_words.specs.declared.view.SeatStep.{SeatStep}
 use Rattle.gt_words.specs.declared.view.SeatStep.TheVariants.{Entry, Header}
 use Rattle.gt_words.specs.declared.view.View.{View}
-use Rattle.gt_words.specs.Views.{LivePin, pins, without_pin, last_record, stored_body, steps_on, steps_on_header}
+use Rattle.gt_words.specs.Views.{LivePin, live_pins, without_pin, last_record, stored_body, steps_on, steps_on_header}
 use Rattle.gt_words.specs.Views.{entry_steps, header_steps, stored_header}
-use Rattle.gt_words.specs.History.{EntryState, History, Moment, PinsLast, Says, entry_made, header_made, place_of}
+use Rattle.gt_words.specs.History.{EntryState, StepHistory, Moment, PinsLast, SaysWord, entry_made, header_made}
+use Rattle.gt_words.specs.History.{word_place_of}
 use Rattle.gt_words.specs.History.{word_after}
 pub use Rattle.gt_words.specs.History.{HeaderByOwner, IsByOwner}
 use Rattle.gt_words.specs.Rule.{Layout, Stands}
@@ -53,7 +54,7 @@ event_on_header (Entry d q m) t w = w
 
 -- the step x of the domain i takes each entry and header that the steps before it make
 -- to what the event of the core gives
-pub record Happens (k : Layout) (i : ℕ) (x : SeatStep) (past : History) : Type 0 where
+pub record Happens (k : Layout) (i : ℕ) (x : SeatStep) (past : StepHistory) : Type 0 where
   pub entries : (t r : ℕ) → entry_made k t r ((i, x) ∷ past) ≡ event_on_entry i x t r (entry_made k t r past)
   pub headers : (t : ℕ) → header_made k t ((i, x) ∷ past) ≡ event_on_header x t (header_made k t past)
 
@@ -61,6 +62,6 @@ pub record Happens (k : Layout) (i : ℕ) (x : SeatStep) (past : History) : Type
 -- there, takes a pin only of the last record, and takes each entry and header to what the event of the core gives
 pub record TookPlace (k : Layout) (i : ℕ) (m : Moment) : Type 0 where
   pub stood : (z : State (Unit {0}) View) × Stands k m.0 z
-  pub says : Says m.1 (word_after k m.0 (place_of m.1))
+  pub says : SaysWord m.1 (word_after k m.0 (word_place_of m.1))
   pub of_last : PinsLast k m.0 m.1
   pub happens : Happens k i m.1 m.0

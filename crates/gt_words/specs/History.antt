@@ -7,7 +7,7 @@ use Rattle.gt_words.specs.Prelude.{ReadBody, Pinned, PinMissed, Unpinned, Stored
 use Rattle.gt_words.specs.Prelude.{SeatStep, View, EntryRecord, Invalid, DOMAIN_WORDS, ENTRY_WORDS}
 use Rattle.gt_words.specs.declared.view.HeaderStep.TheVariants as header
 use Rattle.gt_words.specs.declared.view.SeatStep.TheVariants.{Entry, Header}
-use Rattle.gt_words.specs.Views.{LivePin, entry_steps, header_steps, last_record, pins, stored_body, stored_header}
+use Rattle.gt_words.specs.Views.{LivePin, entry_steps, header_steps, last_record, live_pins, stored_body, stored_header}
 
 -- the run as the words need it: the domains in order, their number, the first
 -- generation of all entries, and the first header of each domain
@@ -39,20 +39,20 @@ half_index First = 1
 half_index Second = 2
 
 -- the steps of all seats in their one order, each with the position of its seat
-abbrev pub History : Type 0
-History = List (ℕ × SeatStep)
+abbrev pub StepHistory : Type 0
+StepHistory = List (ℕ × SeatStep)
 
 -- a step, after the steps of all seats before it: its moment
 abbrev pub Moment : Type 0
-Moment = History × SeatStep
+Moment = StepHistory × SeatStep
 
 -- out of a history, the steps of the seat at a position
-abbrev pub part_of : ℕ → History → List SeatStep
+abbrev pub part_of : ℕ → StepHistory → List SeatStep
 part_of i [] = []
 part_of i (p ∷ h) = cond (p.0 == i) (p.1 ∷ part_of i h) (part_of i h)
 
 -- a history up to the last step of the seat at a position
-abbrev pub up_to : ℕ → History → History
+abbrev pub up_to : ℕ → StepHistory → StepHistory
 up_to i [] = []
 up_to i (p ∷ h) = cond (p.0 == i) (p ∷ h) (up_to i h)
 
@@ -63,9 +63,9 @@ word_on (StoredBody h n) = half_index h
 word_on _ = 0
 
 -- the place of the word that a step is on
-abbrev pub place_of : SeatStep → ℕ
-place_of (Entry t r m) = place t r (word_on m)
-place_of (Header t m) = header_place t
+abbrev pub word_place_of : SeatStep → ℕ
+word_place_of (Entry t r m) = place t r (word_on m)
+word_place_of (Header t m) = header_place t
 
 -- what a step on an entry leaves of the number that it finds: a pin adds one, an unpin takes one away, a store
 -- and a taken exchange set it, and all else leaves it (C11 atomics)
@@ -86,9 +86,9 @@ left_by (Header t (header.Looked w)) n = n
 left_by (Header t (header.Stored w)) n = w
 
 -- the word at a place that a history makes
-abbrev pub word_after : Layout → History → ℕ → ℕ
+abbrev pub word_after : Layout → StepHistory → ℕ → ℕ
 word_after k [] i = initial k i
-word_after k (p ∷ h) i = cond (place_of p.1 == i) (left_by p.1 (word_after k h i)) (word_after k h i)
+word_after k (p ∷ h) i = cond (word_place_of p.1 == i) (left_by p.1 (word_after k h i)) (word_after k h i)
 
 -- the step on an entry says that it found this number: a taken exchange the one expected, a missed one another
 abbrev pub SaysFound : EntryStep → ℕ → Type 0
@@ -102,10 +102,10 @@ SaysFound (Unpinned d g) n = Unit {0}
 SaysFound (StoredBody h w) n = Unit {0}
 
 -- the step says that it found this number
-abbrev pub Says : SeatStep → ℕ → Type 0
-Says (Entry t r m) n = SaysFound m n
-Says (Header t (header.Looked w)) n = w ≡ n
-Says (Header t (header.Stored w)) n = Unit {0}
+abbrev pub SaysWord : SeatStep → ℕ → Type 0
+SaysWord (Entry t r m) n = SaysFound m n
+SaysWord (Header t (header.Looked w)) n = w ≡ n
+SaysWord (Header t (header.Stored w)) n = Unit {0}
 
 -- a step of the domain i on an entry of the domain t stores or changes only if i is t
 abbrev pub IsByOwner : ℕ → ℕ → EntryStep → Type 0
@@ -141,20 +141,20 @@ entry_by g t hs =
       current = last_record g (owner_steps t hs);
       first = stored_body First (owner_steps t hs);
       second = stored_body Second (owner_steps t hs);
-      live = map pins hs;
+      live = map live_pins hs;
     }
 
 -- out of a history, the steps of each seat on the entry r of the domain t, at n positions from i on
-abbrev pub parts_on : ℕ → ℕ → History → ℕ → ℕ → List (List EntryStep)
+abbrev pub parts_on : ℕ → ℕ → StepHistory → ℕ → ℕ → List (List EntryStep)
 parts_on t r h i zero = []
 parts_on t r h i (suc n) = entry_steps t r (part_of i h) ∷ parts_on t r h (suc i) n
 
 -- the entry r of the domain t that a history makes
-abbrev pub entry_made : Layout → ℕ → ℕ → History → EntryState
+abbrev pub entry_made : Layout → ℕ → ℕ → StepHistory → EntryState
 entry_made k t r h = entry_by k.first t (parts_on t r h 0 k.domains)
 
 -- the header of the domain t that a history makes
-abbrev pub header_made : Layout → ℕ → History → ℕ
+abbrev pub header_made : Layout → ℕ → StepHistory → ℕ
 header_made k t h = stored_header (slice_index k.headers t) (header_steps t (part_of t h))
 
 -- a step that takes a pin takes it of this record, which is an entry
@@ -163,20 +163,20 @@ IsOfRecord x (Pinned d e y) = (y ≡ x) × (y.entry ≢ Invalid)
 IsOfRecord x _ = Unit {0}
 
 -- a step that takes a pin takes it of the last record of its entry, as these steps before it make it
-abbrev pub PinsLast : Layout → History → SeatStep → Type 0
+abbrev pub PinsLast : Layout → StepHistory → SeatStep → Type 0
 PinsLast k h (Entry t r m) = IsOfRecord (entry_made k t r h).current m
 PinsLast k h (Header t m) = Unit {0}
 
 -- each step of the history found the word that the steps before it make, stored or changed only
 -- what is its seat's own, and took a pin only of the last record
-abbrev pub IsTrue : Layout → History → Type 0
+abbrev pub IsTrue : Layout → StepHistory → Type 0
 IsTrue k [] = Unit {0}
 IsTrue k (p ∷ h) =
-    Says p.1 (word_after k h (place_of p.1)) × IsOwners p.0 p.1 × PinsLast k h p.1 × IsTrue k h
+    SaysWord p.1 (word_after k h (word_place_of p.1)) × IsOwners p.0 p.1 × PinsLast k h p.1 × IsTrue k h
 
 -- the history h has led to words and views: each seat has its part of it and knows it up to its
 -- own last step, no other has one, and the words are those that it makes
-pub record HasLedTo {S : Type 0} (k : Layout) (h : History) (s : State S View) : Type 0 where
+pub record HasLedTo {S : Type 0} (k : Layout) (h : StepHistory) (s : State S View) : Type 0 where
   pub parts : (j : ℕ) (v : View) → get_elem? s.views j ≡ some v → (v.steps ≡ part_of j h) × (v.past ≡ up_to j h)
   pub no_other : (j : ℕ) → length s.views ≤ j → part_of j h ≡ []
   pub words : (i : ℕ) → i < k.domains * DOMAIN_WORDS → slice_index s.words i ≡ word_after k h i

@@ -3,13 +3,14 @@ use Rattle.std.specs.Prelude.{◌≡◌, ◌≢◌, ℕ, ◌+◌, ◌≤◌, ◌
 use Rattle.gt_entry.specs.declared.change.Half.{Half}
 use Rattle.gt_types.specs.declared.Dir.{Dir}
 use Rattle.gt_words.specs.Controls.{generation_of}
-use Rattle.gt_words.specs.Views.{IsIn, LivePin, Seen, is_same_dir, last_of, own_body, own_header, own_list, pins}
+use Rattle.gt_words.specs.Views.{IsAmong, LivePin, Seen, is_same_dir, last_of, own_body, own_header, own_list}
+use Rattle.gt_words.specs.Views.{live_pins}
 use Rattle.gt_words.specs.Views.{pins_like, seen, steps_on}
 use Rattle.gt_words.specs.declared.view.View.{View}
 
 -- how many pins of this kind and generation the view has of the entry r of the domain t
 abbrev pub held : ℕ → ℕ → Dir → ℕ → View → ℕ
-held t r d g v = pins_like d g (pins (steps_on t r v))
+held t r d g v = pins_like d g (live_pins (steps_on t r v))
 
 -- the seat holds a pin of this kind and generation of the entry r of the domain t
 abbrev pub Holds : ℕ → ℕ → Dir → ℕ → View → Type 0
@@ -28,12 +29,12 @@ HoldsOneMore t r d g v w =
 -- that still has a pin of its kind and generation
 abbrev pub KeepsRecords : View → View → Type 0
 KeepsRecords v w =
-    (t r : ℕ) (p : LivePin) → IsIn p (pins (steps_on t r v)) → Holds t r p.0 p.1.generation w
-    → IsIn p (pins (steps_on t r w))
+    (t r : ℕ) (p : LivePin) → IsAmong p (live_pins (steps_on t r v)) → Holds t r p.0 p.1.generation w
+    → IsAmong p (live_pins (steps_on t r w))
 
 -- the seat has the pins that it had
 abbrev pub KeepsPins : View → View → Type 0
-KeepsPins v w = (t r : ℕ) → pins (steps_on t r w) ≡ pins (steps_on t r v)
+KeepsPins v w = (t r : ℕ) → live_pins (steps_on t r w) ≡ live_pins (steps_on t r v)
 
 -- the generation in what was seen of an entry, 0 if nothing was
 abbrev pub generation_in : Option Seen → ℕ

@@ -11,12 +11,13 @@ use Rattle.gt_words.specs.Conditions.{Board, HasDomain, IsSeatOf, SeatOf, positi
 use Rattle.gt_words.specs.Answers.{Publishes, Revokes}
 use Rattle.gt_words.specs.Controls.{generation_of, pins_in}
 use Rattle.gt_words.specs.Events.{TookPlace}
-use Rattle.gt_words.specs.History.{History, IsOwners, PinsLast, Says, place_of}
+use Rattle.gt_words.specs.History.{StepHistory, IsOwners, PinsLast, SaysWord, word_place_of}
 use Rattle.gt_words.specs.Rule.{IsLawful, IsNextEntry, IsRevocation, Layout, Shows, Stands, header_place, id_at}
 use Rattle.gt_words.specs.Rule.{layout_of, owner_steps, place, position_in, total_until}
 use Rattle.gt_words.specs.Sight.{SawRecord}
 use Rattle.gt_words.specs.Steps.{on_entry}
-use Rattle.gt_words.specs.Views.{IsIn, LivePin, earlier_records, exchanged, last_of, last_record, pins, seen, steps_on}
+use Rattle.gt_words.specs.Views.{IsAmong, LivePin, earlier_records, exchanged, last_of, last_record, live_pins, seen}
+use Rattle.gt_words.specs.Views.{steps_on}
 use Rattle.gt_words.specs.Views.{with_step}
 
 -- a domain is one of the run exactly if the configuration has it
@@ -40,13 +41,14 @@ abbrev pub PinsHaveOneRecord : Type 0
 PinsHaveOneRecord =
     (k : Layout) (s : State (Unit {0}) View) (i j : ℕ) (v w : View) (t r : ℕ) (p q : LivePin) → Shows k s
     → get_elem? s.views i ≡ some v → get_elem? s.views j ≡ some w → t < k.domains → r < TABLE_ENTRIES
-    → IsIn p (pins (steps_on t r v)) → IsIn q (pins (steps_on t r w)) → p.1.generation ≡ q.1.generation → p.1 ≡ q.1
+    → IsAmong p (live_pins (steps_on t r v)) → IsAmong q (live_pins (steps_on t r w))
+    → p.1.generation ≡ q.1.generation → p.1 ≡ q.1
 
 -- in each state that words and views show, each pin is of an entry, and not of an invalid record
 abbrev pub PinsAreOfEntries : Type 0
 PinsAreOfEntries =
     (k : Layout) (s : State (Unit {0}) View) (i : ℕ) (v : View) (t r : ℕ) (p : LivePin) → Shows k s
-    → get_elem? s.views i ≡ some v → t < k.domains → r < TABLE_ENTRIES → IsIn p (pins (steps_on t r v))
+    → get_elem? s.views i ≡ some v → t < k.domains → r < TABLE_ENTRIES → IsAmong p (live_pins (steps_on t r v))
     → p.1.entry ≢ Invalid
 
 -- in each state that words and views show, a pin that is left of a record is counted by each word of that record or
@@ -55,7 +57,7 @@ abbrev pub PinsLeftAreCounted : Type 0
 PinsLeftAreCounted =
     (k : Layout) (s : State (Unit {0}) View) (i : ℕ) (v : View) (t r e : ℕ) (p : LivePin) → Shows k s
     → get_elem? s.views i ≡ some v → t < k.domains → r < TABLE_ENTRIES
-    → IsIn p (pins (steps_on t r v)) → IsIn e (exchanged (owner_steps t (map (steps_on t r) s.views)))
+    → IsAmong p (live_pins (steps_on t r v)) → IsAmong e (exchanged (owner_steps t (map (steps_on t r) s.views)))
     → p.1.generation ≤ generation_of e → 0 < pins_in p.0 e
 
 -- in each state that words and views show, what a seat saw last of an entry is of the owner's list: the word that it saw
@@ -78,7 +80,7 @@ NoPinOutlivesItsRecord =
     (k : Layout) (s : State (Unit {0}) View) (r word i : ℕ) (v w u x : View) (later : List SeatStep) (p : LivePin)
     → EndsPins k r word v w → v.position < k.domains → r < TABLE_ENTRIES
     → Shows k s → get_elem? s.views v.position ≡ some u → u.steps ≡ later ++ w.steps
-    → get_elem? s.views i ≡ some x → IsIn p (pins (steps_on v.position r x))
+    → get_elem? s.views i ≡ some x → IsAmong p (live_pins (steps_on v.position r x))
     → (last_of r v).generation < p.1.generation
 
 -- if the owner exchanged from the word e, no step that takes a pin of the record of that word or of an earlier one
@@ -86,8 +88,8 @@ NoPinOutlivesItsRecord =
 abbrev pub PastPinsAreRefused : Type 0
 PastPinsAreRefused =
     (k : Layout) (s : State (Unit {0}) View) (i : ℕ) (v : View) (t r e at expected left : ℕ) (d : Dir) (y : EntryRecord)
-    (past : History) → Shows k s → get_elem? s.views i ≡ some v → t < k.domains → r < TABLE_ENTRIES
-    → IsIn e (exchanged (owner_steps t (map (steps_on t r) s.views))) → y.generation ≤ generation_of e
+    (past : StepHistory) → Shows k s → get_elem? s.views i ≡ some v → t < k.domains → r < TABLE_ENTRIES
+    → IsAmong e (exchanged (owner_steps t (map (steps_on t r) s.views))) → y.generation ≤ generation_of e
     → ¬ Shows k (stepped s at left i [] (with_step past (on_entry t r (Pinned d expected y)) v) keeps)
 
 -- two states that words and views show, with the same views, have the same words: so no
@@ -103,11 +105,12 @@ WordsFollowViews = (k : Layout) (s z : State (Unit {0}) View) → Shows k s → 
 -- and it takes a pin only of the last record
 abbrev pub StepsAreTakenThen : Type 0
 StepsAreTakenThen =
-    (k : Layout) (s : State (Unit {0}) View) (i : ℕ) (v : View) (x : SeatStep) (past : History) (at left : ℕ)
+    (k : Layout) (s : State (Unit {0}) View) (i : ℕ) (v : View) (x : SeatStep) (past : StepHistory) (at left : ℕ)
     (shown : Shows k s) (after : Shows k (stepped s at left i [] (with_step past x v) keeps))
     → get_elem? s.views i ≡ some v
     → (past ≡ shown.history) × (after.history ≡ (i, x) ∷ shown.history) × IsOwners i x
-    × PinsLast k shown.history x × (place_of x < k.domains * DOMAIN_WORDS → Says x (slice_index s.words (place_of x)))
+    × PinsLast k shown.history x × (word_place_of x < k.domains * DOMAIN_WORDS
+      → SaysWord x (slice_index s.words (word_place_of x)))
 
 -- if a raw step of the table is allowed that adds the step x to its seat's view, by the number found, x says the word
 -- that is there, in every state that words and views show: so no body tells a step of a word that it did not find
@@ -115,15 +118,15 @@ abbrev pub AllowedStepsSayWhatIsThere : Type 0
 AllowedStepsSayWhatIsThere =
     (k : Layout) (slots id : ℕ) (me : Me (Unit {0}) View) (at : ℕ) (f : ℕ → ℕ) (x : ℕ → SeatStep)
     (s : State (Unit {0}) View) → Shows k s
-    → Allows (Shows k) slots id me at f (λ n m. (past : History) × (m.0 ≡ with_step past (x n) me.0))
+    → Allows (Shows k) slots id me at f (λ n m. (past : StepHistory) × (m.0 ≡ with_step past (x n) me.0))
     → length s.homes ≡ slots → get_elem? s.views id ≡ some me.0 → slice_index s.words at < 18446744073709551616
     → let step : SeatStep = x (slice_index s.words at) in
-    place_of step < k.domains * DOMAIN_WORDS → Says step (slice_index s.words (place_of step))
+    word_place_of step < k.domains * DOMAIN_WORDS → SaysWord step (slice_index s.words (word_place_of step))
 
 -- each step x of the history, by the seat i after the steps h, was taken at that moment
 abbrev pub EachStepHappened : Type 0
 EachStepHappened =
-    (k : Layout) (s : State (Unit {0}) View) (later h : History) (i : ℕ) (x : SeatStep) (shown : Shows k s)
+    (k : Layout) (s : State (Unit {0}) View) (later h : StepHistory) (i : ℕ) (x : SeatStep) (shown : Shows k s)
     → shown.history ≡ later ++ (i, x) ∷ h
     → TookPlace k i (h, x)
 
@@ -135,7 +138,7 @@ HistoryIsOne =
 
 -- the list of records
 
-pub bounded : (x : EntryRecord) (xs : List EntryRecord) (y : EntryRecord) → IsLawful x xs → IsIn y (x ∷ xs)
+pub bounded : (x : EntryRecord) (xs : List EntryRecord) (y : EntryRecord) → IsLawful x xs → IsAmong y (x ∷ xs)
     → y.generation ≤ x.generation
 bounded x [] y l (inl e) = let g : y.generation ≡ x.generation = ap (λ (z : EntryRecord). z.generation) e in omega arith
 bounded x [] y l (inr h) = absurd h
@@ -147,7 +150,7 @@ bounded x (z ∷ zs) y l (inr h) = let r = bounded z zs y l.2 h in
 
 -- if the last record is an entry, no other has its generation
 pub alone : (x : EntryRecord) (xs : List EntryRecord) (y : EntryRecord) → IsLawful x xs → x.entry ≢ Invalid
-    → IsIn y (x ∷ xs) → y.generation ≡ x.generation → y ≡ x
+    → IsAmong y (x ∷ xs) → y.generation ≡ x.generation → y ≡ x
 alone x [] y l n (inl e) g = e
 alone x [] y l n (inr h) g = absurd h
 alone x (z ∷ zs) y l n (inl e) g = e
@@ -155,8 +158,8 @@ alone x (z ∷ zs) y l n (inr h) g = let r = bounded z zs y l.2 h in absurd (⊎
     (λ (t : IsNextEntry x z). let e = t.0 in omega arith) l.1)
 
 -- entries of one generation are one record
-pub one_record : (x : EntryRecord) (xs : List EntryRecord) (y z : EntryRecord) → IsLawful x xs → IsIn y (x ∷ xs)
-    → IsIn z (x ∷ xs) → y.entry ≢ Invalid → z.entry ≢ Invalid → y.generation ≡ z.generation → y ≡ z
+pub one_record : (x : EntryRecord) (xs : List EntryRecord) (y z : EntryRecord) → IsLawful x xs → IsAmong y (x ∷ xs)
+    → IsAmong z (x ∷ xs) → y.entry ≢ Invalid → z.entry ≢ Invalid → y.generation ≡ z.generation → y ≡ z
 one_record x xs y z l (inl e) (inl f) a b g = e ∙ sym f
 one_record x xs y z l (inl e) (inr h) a b g =
     e ∙ sym (alone x xs z l (subst (λ (u : EntryRecord). u.entry ≢ Invalid) e a) (inr h)

@@ -6,9 +6,10 @@ use Rattle.gt_words.specs.Prelude.{header_word, Header, Entry, Invalid, Page, Su
 use Rattle.gt_words.specs.Prelude.{DomainConfig, MAX_TABLE_FRAMES, TABLE_ENTRIES, DOMAIN_WORDS, EntryStep, First}
 use Rattle.gt_words.specs.Prelude.{Second, HeaderStep, EntryRecord, View}
 use Rattle.gt_words.specs.Controls.{generation_of, pins_in}
-use Rattle.gt_words.specs.History.{HasLedTo, History}
+use Rattle.gt_words.specs.History.{HasLedTo, StepHistory}
 pub use Rattle.gt_words.specs.History.{Layout, header_place, initial, owner_steps, place}
-use Rattle.gt_words.specs.Views.{IsIn, LivePin, earlier_records, exchanged, last_record, pin_count, pins, pins_until}
+use Rattle.gt_words.specs.Views.{IsAmong, LivePin, earlier_records, exchanged, last_record, pin_count, live_pins}
+use Rattle.gt_words.specs.Views.{pins_until}
 use Rattle.gt_words.specs.Views.{steps_on, steps_on_header, stored_body, stored_header}
 
 -- the header of a domain at the start
@@ -61,12 +62,12 @@ IsLawful x (y ∷ ys) = IsRecord x × MayFollow x y × IsLawful y ys
 -- the pins of a kind on an entry, added up seat by seat
 abbrev pub total_pins : Dir → List (List EntryStep) → ℕ
 total_pins d [] = 0
-total_pins d (h ∷ hs) = pin_count d (pins h) + total_pins d hs
+total_pins d (h ∷ hs) = pin_count d (live_pins h) + total_pins d hs
 
 -- the pins of a kind on an entry that are of the generation g or of an earlier one, added up seat by seat
 abbrev pub total_until : Dir → ℕ → List (List EntryStep) → ℕ
 total_until d g [] = 0
-total_until d g (h ∷ hs) = pins_until d g (pins h) + total_until d g hs
+total_until d g (h ∷ hs) = pins_until d g (live_pins h) + total_until d g hs
 
 -- the words of one entry and the steps of each seat on it show the last record x, after the records xs
 pub record ShowsRecord (x : EntryRecord) (xs : List EntryRecord) (word a b : ℕ)
@@ -79,8 +80,8 @@ pub record ShowsRecord (x : EntryRecord) (xs : List EntryRecord) (word a b : ℕ
   -- a read-only last record has no write pins in any view
   pub unwritten : is_read_only x.entry ≡ true → total_pins Write hs ≡ 0
   -- each pin is of a record of the owner's list, which is an entry
-  pub pinned : (i : ℕ) (h : List EntryStep) → get_elem? hs i ≡ some h → (p : LivePin) → IsIn p (pins h)
-      → IsIn p.1 (x ∷ xs) × (p.1.entry ≢ Invalid)
+  pub pinned : (i : ℕ) (h : List EntryStep) → get_elem? hs i ≡ some h → (p : LivePin) → IsAmong p (live_pins h)
+      → IsAmong p.1 (x ∷ xs) × (p.1.entry ≢ Invalid)
 
 -- the owner's list has gone on from the word e to the last record x: no pin is taken any more of the record
 -- of that word or of an earlier one, so of those no more are left than it counts
@@ -96,7 +97,7 @@ pub record ShowsEntry (g t word a b : ℕ) (hs : List (List EntryStep)) : Type 0
   pub first : a ≡ stored_body First (owner_steps t hs)
   pub second : b ≡ stored_body Second (owner_steps t hs)
   -- each word that the owner exchanged from counts the pins that are left of its record and of earlier ones
-  pub gone_on : (e : ℕ) → IsIn e (exchanged (owner_steps t hs)) → HasGoneOn (last_record g (owner_steps t hs)) hs e
+  pub gone_on : (e : ℕ) → IsAmong e (exchanged (owner_steps t hs)) → HasGoneOn (last_record g (owner_steps t hs)) hs e
 
 -- the header has version 1 or 2, and a number of table frames within
 -- the limit (versions: grant_table.h; the limit: own)
@@ -115,7 +116,7 @@ header_now k t hs = stored_header (slice_index k.headers t) (slice_index_or hs t
 
 module _ {S : Type 0} where
   -- words and views show a state of the core, to which the history h has led
-  pub record Stands (k : Layout) (h : History) (s : State S View) : Type 0 where
+  pub record Stands (k : Layout) (h : StepHistory) (s : State S View) : Type 0 where
     pub wide : length s.words ≡ k.domains * DOMAIN_WORDS
     -- the first seat deals the others, and counts them
     pub dealt : ((v : View) → get_elem? s.views 0 ≡ some v → v.dealt ≡ length s.views) × (length s.views ≤ k.domains)
@@ -133,13 +134,13 @@ module _ {S : Type 0} where
     pub led_here : HasLedTo k h s
 
 -- before each step of the history words and views showed a state, to which the steps before it had led
-abbrev pub HasStood : Type 0 → Layout → History → Type 0
+abbrev pub HasStood : Type 0 → Layout → StepHistory → Type 0
 HasStood S k [] = Unit {0}
 HasStood S k (p ∷ h) = ((z : State S View) × Stands k h z) × HasStood S k h
 
 module _ {S : Type 0} where
   -- words and views show a state of the core, and did before each step of their history
   pub record Shows (k : Layout) (s : State S View) : Type 0 where
-    pub history : History
+    pub history : StepHistory
     pub now : Stands k history s
     pub stood : HasStood S k history

@@ -3,7 +3,7 @@ use Rattle.std.specs.Prelude.{◌≡◌, ℕ, ◌+◌, ◌*◌, ◌<◌, List, �
 use Rattle.gt_entry.specs.Spelling.{word_of}
 use Rattle.gt_entry.specs.declared.entry.Entry.{Entry}
 use Rattle.gt_entry.specs.declared.entry.Entry.TheVariants.{Invalid, Page, Sub, Via}
-use Rattle.gt_words.specs.Views.{IsIn, Seen}
+use Rattle.gt_words.specs.Views.{IsAmong, Seen}
 use Rattle.gt_words.specs.declared.view.EntryRecord.{EntryRecord}
 
 -- the body values read are those of the entry
@@ -19,7 +19,7 @@ pub record IsSeenOf (x : EntryRecord) (xs : List EntryRecord) (s : Seen) : Type 
   pub at : EntryRecord
   pub reads : ℕ
   pub writes : ℕ
-  pub listed : IsIn at (x ∷ xs)
+  pub listed : IsAmong at (x ∷ xs)
   pub in_range : (reads < 4096) × (writes < 4096)
   pub spelled : s.word ≡ word_of at.entry at.generation reads writes
   pub agrees : x ≡ at → Agrees at.entry s.first s.second

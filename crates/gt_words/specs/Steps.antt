@@ -6,7 +6,7 @@ use Rattle.gt_words.specs.Prelude.{ReadBody, StoredBody, Unpinned, Half, First, 
 use Rattle.gt_words.specs.Prelude.{EntryRecord, SeatStep, View}
 use Rattle.gt_words.specs.Controls.{demoted_word, invalid_word, promoted_word, withdrawn_word}
 use Rattle.gt_words.specs.Events.{Happens}
-use Rattle.gt_words.specs.History.{History, PinsLast, Says, word_after}
+use Rattle.gt_words.specs.History.{StepHistory, PinsLast, SaysWord, word_after}
 pub use Rattle.gt_words.specs.History.{half_index}
 use Rattle.gt_words.specs.Rule.{HasStood, Layout, Stands}
 use Rattle.gt_words.specs.Views.{last_of, last_seen, record_seen, with_step}
@@ -16,20 +16,20 @@ use Rattle.gt_words.specs.declared.view.HeaderStep.TheVariants as header
 use Rattle.gt_words.specs.declared.view.SeatStep.TheVariants as step_of
 
 -- words and views, the view v among them, stood so after these steps of all seats
-abbrev pub StoodWith : Type 0 → Layout → History → View → Type 0
+abbrev pub StoodWith : Type 0 → Layout → StepHistory → View → Type 0
 StoodWith S k past v = (z : State S View) × Stands k past z × (get_elem? z.views v.position ≡ some v)
 
 -- The seat with the view v takes the step x on this word, after the steps past of all seats. Words and views
 -- showed a state before each of those, before it and after it. It finds the number that those steps make of the word, says so, and leaves
 -- the other. A pin is of the last record then. It takes the state that they make to what the core's event gives
-pub record TakesStep (S : Type 0) (k : Layout) (v : View) (past : History) (x : SeatStep)
+pub record TakesStep (S : Type 0) (k : Layout) (v : View) (past : StepHistory) (x : SeatStep)
     (word found left : ℕ) : Type 0 where
   pub stood : StoodWith S k past v
   pub still_stands : StoodWith S k ((v.position, x) ∷ past) (with_step past x v)
   pub stood_before : HasStood S k past
   pub found_is : word_after k past word ≡ found
   pub left_is : word_after k ((v.position, x) ∷ past) word ≡ left
-  pub says : Says x found
+  pub says : SaysWord x found
   pub of_last : PinsLast k past x
   pub happens : Happens k v.position x past
 
@@ -51,7 +51,7 @@ pub record StepKind : Type 0 where
 -- which was taken on words and views that show a state
 abbrev pub tells : {S : Type 0} → StepKind → TableStep S → Me S View → ℕ → Me S View → Type 0
 tells {S} d st m n m' =
-    (m'.1 ≡ m.1) × ((past : History) × (m'.0 ≡ with_step past (d.step n) m.0)
+    (m'.1 ≡ m.1) × ((past : StepHistory) × (m'.0 ≡ with_step past (d.step n) m.0)
     × TakesStep S d.layout m.0 past (d.step n) st.word n (d.leaves n))
 
 -- the same of a store, which does not say what it found

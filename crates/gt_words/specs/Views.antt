@@ -10,9 +10,9 @@ use Rattle.gt_words.specs.declared.view.SeatStep.TheVariants.{Entry, Header}
 use Rattle.gt_words.specs.Controls.{generation_of}
 
 -- a is in the list
-abbrev pub IsIn : {A : Type 0} → A → List A → Type 0
-IsIn a [] = ⊥
-IsIn a (x ∷ xs) = (a ≡ x) ⊎ IsIn a xs
+abbrev pub IsAmong : {A : Type 0} → A → List A → Type 0
+IsAmong a [] = ⊥
+IsAmong a (x ∷ xs) = (a ≡ x) ⊎ IsAmong a xs
 
 -- out of a list of steps, those on the entry r of the domain t
 abbrev pub entry_steps : ℕ → ℕ → List SeatStep → List EntryStep
@@ -62,11 +62,11 @@ abbrev pub pins_like : Dir → ℕ → List LivePin → ℕ
 pins_like d g ps = count_by (is_pin d g) ps
 
 -- the pins that a seat has of an entry: those taken and not given back
-abbrev pub pins : List EntryStep → List LivePin
-pins [] = []
-pins (Pinned d _ x ∷ ms) = (d, x) ∷ pins ms
-pins (Unpinned d g ∷ ms) = without_pin d g (pins ms)
-pins (_ ∷ ms) = pins ms
+abbrev pub live_pins : List EntryStep → List LivePin
+live_pins [] = []
+live_pins (Pinned d _ x ∷ ms) = (d, x) ∷ live_pins ms
+live_pins (Unpinned d g ∷ ms) = without_pin d g (live_pins ms)
+live_pins (_ ∷ ms) = live_pins ms
 
 -- 1 if both kinds are one, else 0
 abbrev pub weight : Dir → Dir → ℕ

@@ -4,11 +4,11 @@ use Rattle.gt_core.proofs.Words.{None, sym, ap, ◌∙◌, arith, subst, reverse
 use Rattle.gt_core.proofs.Words.{resolved, DomId, Dir, Read, Write, ForMap, ForCopy, FRAME_SIZE, Entry, frame_of}
 use Rattle.gt_core.proofs.Words.{permits, forwards, Handle, Held, Route, Direct, Through, Pins, End, Asked, Load, Store}
 use Rattle.gt_core.proofs.Words.{Peek, Poke, Copy, Holder, ByMapping, Place, ReadBytes, WriteBytes, last_first}
-use Rattle.gt_core.proofs.Words.{CallerKnowledge, begun, frames_of, via_judged, rights_to_copy, is_source_granted}
+use Rattle.gt_core.proofs.Words.{CallerKnowledge, begun, frame_count_of, via_judged, rights_to_copy, is_source_granted}
 use Rattle.gt_core.proofs.Words.{is_dest_granted, source_pair, dest_pair, opens, RestsOnRequest, RestsOnWays, IsReached}
-use Rattle.gt_core.proofs.Words.{LeadsTo, State, History, Setting, Pin, live, known_at, legs_at, mappings_at}
-use Rattle.gt_core.proofs.Words.{mapping_of, gather, by_mapping, by_leg, same_handle, IsInFrame, CopyIsJustified}
-use Rattle.gt_core.proofs.Words.{Justified, IsLawful, IsLawfullyHeld, DomainsStand, numbered, owner_by, IsAllowed}
+use Rattle.gt_core.proofs.Words.{GivesHeld, State, History, Setting, Pin, live, known_at, legs_at, mappings_at}
+use Rattle.gt_core.proofs.Words.{mapping_of, gather, mapping_named, by_leg, same_handle, IsInFrame, CopyIsJustified}
+use Rattle.gt_core.proofs.Words.{Justified, IsLawfulPin, IsLawfullyHeld, DomainsStand, numbered, owner_by, IsAllowed}
 use Rattle.gt_core.proofs.Words.{IsMapped, IsPermitted, Reaches, Forwards, MayCopy, MayUseMapping, MayAsk}
 use Rattle.gt_core.proofs.Words.{EndIsJustified, cond_both}
 use Rattle.gt_core.proofs.{Phases.none-of, Steps.Observers.IsKeyed, Steps.Observers.mapping-keyed}
@@ -60,9 +60,9 @@ mapping-holder x some = grind arith
 
 -- the pin of a mapping is live
 pub mapping-pin : (s : Setting) (h : History) (xs : List State) (d : DomId) (handle : Handle) (m : Held) → DomainsStand s h xs → mapping_of (mappings_at h d.0) handle ≡ Some m → Any (IsRightful s d m) (live h)
-mapping-pin s h xs d handle m st found = let a = gathered-any by_mapping mapping-keyed d.0 m (live h) (found-in (mappings_at h d.0) handle m found) in
+mapping-pin s h xs d handle m st found = let a = gathered-any mapping_named mapping-keyed d.0 m (live h) (found-in (mappings_at h d.0) handle m found) in
     let p = a.1 in let by = a.4 in let held = mapping-holder p.holder by.2 in
-    let w : IsLawfullyHeld s p (ByMapping held.0) = subst (IsLawfullyHeld s p) held.1 (subst (IsLawful s) a.3 (st.lawful a.0 p a.2)) in
+    let w : IsLawfullyHeld s p (ByMapping held.0) = subst (IsLawfullyHeld s p) held.1 (subst (IsLawfulPin s) a.3 (st.lawful a.0 p a.2)) in
     let own : record { 0 = p.actor } ≡ d = ap (λ (n : ℕ). record { 0 = n }) by.0 in (
       a.0,
       p,
@@ -94,7 +94,7 @@ access-mapped s h xs d r dir handle dom frame off len st a writes inside ask = l
       ask (subst (MayUseMapping s d) (sym a.found) pin.4.lets.1),
     ))
 
-access-own : (s : Setting) (h : History) (d : DomId) (r : Asked) (dir : Dir) (dom : DomId) (frame off len : ℕ) → dom ≡ d → frame < frames_of s.domains d → off + len ≤ FRAME_SIZE → MayAsk s h d r
+access-own : (s : Setting) (h : History) (d : DomId) (r : Asked) (dir : Dir) (dom : DomId) (frame off len : ℕ) → dom ≡ d → frame < frame_count_of s.domains d → off + len ≤ FRAME_SIZE → MayAsk s h d r
     → AccessIsJustified s h d r dir (record { owner = dom; frame = frame; off = off }) len
 access-own s h d r dir dom frame off len own framed range ask = grind arith
 
@@ -159,15 +159,15 @@ end-justified s h d granted end dir len pair owners (Through via p) has a same =
       (leg-pin h d p has.1),
   subst (MayCopy s) (same p via refl) (via-may (known_at s h d) (pair p.dom) p.dom a.4),
 )) where
-  leads : (e : Entry) (m q : Held) → m ≡ q → LeadsTo e m → LeadsTo e q
-  leads e m q is b = subst (LeadsTo e) is b
+  leads : (e : Entry) (m q : Held) → m ≡ q → GivesHeld e m → GivesHeld e q
+  leads e m q is b = subst (GivesHeld e) is b
 
   forwards-by : (q : Pin) → IsOwnPin d p q → (v : Pin) → IsOwnPin d via v → Forwards d dir (resolved d end.domid) q v
   forwards-by q own v of_via = record {
     of_actor = of_via.0;
     of_named = ap (λ (x : Held). x.dom) of_via.1 ∙ a.1.named;
     forwarded = ap (λ (x : Held). forwards x.entry d dir) of_via.1 ∙ a.1.forwarded;
-    leads = subst (λ (x : Held). LeadsTo x.entry q.held) (sym of_via.1) (leads via.entry p q.held (sym own.1) a.2);
+    leads = subst (λ (x : Held). GivesHeld x.entry q.held) (sym of_via.1) (leads via.entry p q.held (sym own.1) a.2);
     writes = λ w. ap (λ (x : Held). x.dir) of_via.1 ∙ a.1.taken_for ∙ w;
   }
 

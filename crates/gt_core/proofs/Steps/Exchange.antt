@@ -4,11 +4,14 @@ use Rattle.gt_core.proofs.Words.{◌≡◌, ◌≢◌, ◌<◌, ◌≤◌, ◌+�
 use Rattle.gt_core.proofs.Words.{cond, sym, ap, ◌∙◌, arith, subst, get_or, eqb-true, none-some, slice_get-get_or}
 use Rattle.gt_core.proofs.Words.{option_map, ◌==◌, All, slice_get, fun_ext, DomId, GrantRef, TABLE_ENTRIES}
 use Rattle.gt_core.proofs.Words.{LAST_GENERATION, Entry, Invalid, Change, Publish, IsEntry, Own, Open, Item, Answer}
-use Rattle.gt_core.proofs.Words.{entry_in, generation_in, row_entry, row_generation, changed_at, State, state_of}
+use Rattle.gt_core.proofs.Words.{entry_in, own_generation, row_entry, row_generation, changed_at, State, state_of}
 use Rattle.gt_core.proofs.Words.{changed_in, with_own, own_after, History, Setting, Pin, live, entry_at, raises_at}
-use Rattle.gt_core.proofs.Words.{raise_of, generation_at, open_call, change_of, entry_after, raise_after, one_if_mapped}
-use Rattle.gt_core.proofs.Words.{IsSafeChange, IsLawful, FitsTable, Agrees, DomainsStand, CallAgrees, GivenAgrees}
-use Rattle.gt_core.proofs.Words.{gather, by_mapping, first, false, inl, suc, zero, ◌-◌, cond_both, eq-eqb, false≢true}
+use Rattle.gt_core.proofs.Words.{raise_of, generation_at, open_call, change_of, changed_entry_of, raise_after}
+use Rattle.gt_core.proofs.Words.{one_if_mapped}
+use Rattle.gt_core.proofs.Words.{IsSafeChange, IsLawfulPin, FitsTable, StateStands, DomainsStand, CallAgrees}
+use Rattle.gt_core.proofs.Words.{GivenAgrees}
+use Rattle.gt_core.proofs.Words.{gather, mapping_named, first, false, inl, suc, zero, ◌-◌, cond_both, eq-eqb}
+use Rattle.gt_core.proofs.Words.{false≢true}
 use Rattle.gt_core.proofs.Words.{lt-leb, lt-ltb, ltb-false, ltb-true, nat_le, nat_lt, Read, Write, N18, N19, MAX_TRIES}
 use Rattle.gt_core.proofs.Words.{is_invalid, control_of, control_word, ToReadOnly, ToWritable, ToInvalid, ToWithdrawn}
 use Rattle.gt_core.proofs.Words.{FirstHalf, SecondHalf, last_first, no_pins, action_at, phase_after, refused_as, opens}
@@ -36,7 +39,7 @@ FitsChange change = Unit {0}
 -- the owner's rows
 
 row-changed : (b : Bool) (o : Option Own) (change : Change) (first raises : ℕ) → (b ≡ true → (o ≢ None) × (first + raises + raise_of change ≤ LAST_GENERATION)) → row_generation first o ≡ first + raises
-    → (row_entry (cond b (option_map (own_after change) o) o) ≡ entry_after (cond b (Some change) None) (row_entry o))
+    → (row_entry (cond b (option_map (own_after change) o) o) ≡ changed_entry_of (cond b (Some change) None) (row_entry o))
     × (row_generation first (cond b (option_map (own_after change) o) o) ≡ first + (raises + raise_after (cond b (Some change) None)))
 row-changed b o change first raises room e = grind arith
 
@@ -47,9 +50,9 @@ row-some xs r q own within e none =
 abbrev no_row : Own
 no_row = record { entry = Invalid; generation = 0 }
 
-own-changed-at : (s : Setting) (h : History) (x : State) (gref : GrantRef) (looked : ℕ) (change : Change) (answer : Option Answer) (r : ℕ) → gref.0 < TABLE_ENTRIES → generation_at s h x.id.0 gref.0 + raise_of change ≤ LAST_GENERATION → Agrees s h x
+own-changed-at : (s : Setting) (h : History) (x : State) (gref : GrantRef) (looked : ℕ) (change : Change) (answer : Option Answer) (r : ℕ) → gref.0 < TABLE_ENTRIES → generation_at s h x.id.0 gref.0 + raise_of change ≤ LAST_GENERATION → StateStands s h x
     → (entry_in (changed_at gref.0 (own_after change) x.own) r ≡ entry_at (exchanged x.id gref looked change answer ∷ h) x.id.0 r)
-    × (generation_in s.first_generation (changed_at gref.0 (own_after change) x.own) r ≡ generation_at s (exchanged x.id gref looked change answer ∷ h) x.id.0 r)
+    × (own_generation s.first_generation (changed_at gref.0 (own_after change) x.own) r ≡ generation_at s (exchanged x.id gref looked change answer ∷ h) x.id.0 r)
 own-changed-at s h x gref looked change answer r within room a = let rows = a.rows in let inside : gref.0 < length x.own = omega arith in
     let i = exchanged x.id gref looked change answer in let e = ap (λ (f : ℕ → Entry). f r) a.entries in let g = ap (λ (f : ℕ → ℕ). f r) a.generations in
     grind (arith, get-changed x.own gref.0 r (own_after change), row-some x.own gref.0 r no_row inside, eqb-true gref.0 r, exchanged-entry h i x.id.0 r, exchanged-raises h i x.id.0 r, same-number x.id.0, row-changed)
@@ -58,7 +61,7 @@ own-changed-at s h x gref looked change answer r within room a = let rows = a.ro
 
 -- the facts of an entry after a change
 abbrev facts_after : Setting → History → ℕ → ℕ → Option Change → Facts
-facts_after s h t r c = record (facts_at s h t r) { entry = entry_after c (entry_at h t r); generation = s.first_generation + (raises_at h t r + raise_after c) }
+facts_after s h t r c = record (facts_at s h t r) { entry = changed_entry_of c (entry_at h t r); generation = s.first_generation + (raises_at h t r + raise_after c) }
 
 exchanged-facts : (s : Setting) (h : History) (d : DomId) (gref : GrantRef) (looked : ℕ) (change : Change) (answer : Option Answer) (t r : ℕ)
     → facts_at s (exchanged d gref looked change answer ∷ h) t r ≡ facts_after s h t r (change_of (exchanged d gref looked change answer) t r)
@@ -70,13 +73,13 @@ facts-fit-after s h xs d t g r change st within safe fits room = grind (arith, f
 
 -- an owner's change that is safe, and has room, keeps what the core stands for
 pub exchange-stands : (s : Setting) (h : History) (xs ys : List State) (x : State) (gref : GrantRef) (looked : ℕ) (change : Change) (answer : Option Answer) (o : Option Open) → DomainsStand s h xs
-    → state_of xs x.id.0 ≡ Some x → Agrees s h x → ((q : ℕ) → state_of ys q ≡ cond (x.id.0 == q) (Some (record x { underway = o })) (state_of xs q))
+    → state_of xs x.id.0 ≡ Some x → StateStands s h x → ((q : ℕ) → state_of ys q ≡ cond (x.id.0 == q) (Some (record x { underway = o })) (state_of xs q))
     → gref.0 < TABLE_ENTRIES → IsSafeChange h x.id.0 gref.0 change → FitsChange change → generation_at s h x.id.0 gref.0 + raise_of change ≤ LAST_GENERATION → one_if_mapped answer ≡ 0
     → CallAgrees s (exchanged x.id gref looked change answer ∷ h) x.id o (open_call (exchanged x.id gref looked change answer ∷ h) x.id.0) → GivenAgrees (exchanged x.id gref looked change answer ∷ h) x.id.0 x.given
     → DomainsStand s (exchanged x.id gref looked change answer ∷ h) (changed_in x.id.0 (with_own gref.0 change) ys)
 exchange-stands s h xs ys x gref looked change answer o st here a becomes within safe fits room m call given = all-stand s (i ∷ h) _
     (each-stays s i h xs _ x (with_own gref.0 change (record x { underway = o })) st here refl (own-changed xs ys x (record x { underway = o }) (with_own gref.0 change) (λ y. refl) becomes) refl mine (λ y apart b. slots y b))
-    (λ dom. subst FitsTable (sym (kept-table s i h dom refl)) (st.tables dom)) (subst (All (IsLawful s)) (sym same) st.lawful)
+    (λ dom. subst FitsTable (sym (kept-table s i h dom refl)) (st.tables dom)) (subst (All (IsLawfulPin s)) (sym same) st.lawful)
     (λ t r. subst (Fits r) (sym (exchanged-facts s h x.id gref looked change answer t r)) (facts-fit-after s h xs x.id.0 t gref.0 r change st within safe fits room))
   where
     i : Item
@@ -88,7 +91,7 @@ exchange-stands s h xs ys x gref looked change answer o st here a becomes within
     slots : (y : State) → SlotsAgree h y.id.0 y.slots → SlotsAgree (i ∷ h) y.id.0 y.slots
     slots y b = slots-kept i h y.id.0 y.slots same (λ r which. unstored i h y.id.0 r which refl) b
 
-    mine : Agrees s (i ∷ h) (with_own gref.0 change (record x { underway = o }))
+    mine : StateStands s (i ∷ h) (with_own gref.0 change (record x { underway = o }))
     mine = record {
       header = a.header ∙ sym (kept-table s i h x.id refl);
       rows = length-changed x.own gref.0 (own_after change) ∙ a.rows;
@@ -96,7 +99,7 @@ exchange-stands s h xs ys x gref looked change answer o st here a becomes within
       generations = fun_ext (λ r. (own-changed-at s h x gref looked change answer r within room a).1);
       room = a.room;
       slots = slots x a.slots;
-      mappings = mappings-same x.mappings _ _ _ _ (ap (λ (ps : List Pin). gather by_mapping x.id.0 ps) (sym same)) (sym (answered-stays h i x.id.0 m)) a.mappings;
+      mappings = mappings-same x.mappings _ _ _ _ (ap (λ (ps : List Pin). gather mapping_named x.id.0 ps) (sym same)) (sym (answered-stays h i x.id.0 m)) a.mappings;
       call = call;
       given = given;
     }

@@ -13,8 +13,9 @@ use Rattle.gt_core.proofs.Words.{Looking, Question, AsksSize, AsksVersion, Leg, 
 use Rattle.gt_core.proofs.Words.{AtHeader, Look, Pinning, Relook, Second, MORE_TRIES, Asked, GetVersion, QuerySize}
 use Rattle.gt_core.proofs.Words.{History, Setting, control_at, generation_at, known_at, reads_at, seen_by, word_at}
 use Rattle.gt_core.proofs.Words.{writes_at, IsSpelled, LegNow, StepsSoFar, at_entry, first_at, is_demote, is_in_body}
-use Rattle.gt_core.proofs.Words.{is_other, leg_at, rule_at_header, rule_at_look, rule_before_pin, Asks, HasLooked}
-use Rattle.gt_core.proofs.Words.{HasRead, IsShown, LegStands, PhaseStands, WhileSame, phase_refusal, State, state_of}
+use Rattle.gt_core.proofs.Words.{is_other, leg_at, rule_at_header, rule_at_look, rule_before_pin, AsksTable}
+use Rattle.gt_core.proofs.Words.{LegHasLooked}
+use Rattle.gt_core.proofs.Words.{LegHasRead, IsShown, LegStands, PhaseStands, WhileSame, phase_refusal, State, state_of}
 use Rattle.gt_core.proofs.Words.{body_at, entry_at, table_at, looked_at, misses}
 use Rattle.gt_core.proofs.{Phases.none-of, Phases.of-run, Phases.Judged, Legs.misses-look, Legs.misses-relook, Legs.few}
 use Rattle.gt_core.proofs.{Legs.first-alone, Legs.alone, Legs.control-parts, Legs.Words, Legs.as-tried}
@@ -81,16 +82,16 @@ module _ (s : Setting) (h : History) (l : Leg) (ws : Words s h l) where
 
   -- at body words
 
-  body-looked : (more word : ℕ) (so_far : StepsSoFar) (half : Half) (v : Seen) → HasLooked s h l so_far more word → HasLooked s h l ((LookBody l.dom l.gref half, v) ∷ so_far) more word
+  body-looked : (more word : ℕ) (so_far : StepsSoFar) (half : Half) (v : Seen) → LegHasLooked s h l so_far more word → LegHasLooked s h l ((LookBody l.dom l.gref half, v) ∷ so_far) more word
   unfolding misses looked_at
   body-looked more word so_far half v a = let t = a.turn in record { within = a.within; turn = (omega arith); looked = a.looked; passed = a.passed; reached = a.reached; shown = a.shown }
 
-  words-come : (more word body second : ℕ) (half : Half) (v : Seen) (so_far : StepsSoFar) (o : Option Rule) → rule_of_try l word body second ≡ o → HasLooked s h l so_far more word
+  words-come : (more word body second : ℕ) (half : Half) (v : Seen) (so_far : StepsSoFar) (o : Option Rule) → rule_of_try l word body second ≡ o → LegHasLooked s h l so_far more word
       → WhileSame s h l word (λ (e : Entry). entry_of (control_of word) body second ≡ e) → ComesTo s h l ((LookBody l.dom l.gref half, v) ∷ so_far) None (after_words more word body second o)
   words-come more word body second half v so_far None e a same = (refl, (body-looked more word so_far half v a, record { in_body = refl; judged = e; spelled = same }))
   words-come more word body second half v so_far (Some rule) e a same = (refl, (body-looked more word so_far half v a, (body, second, record { in_body = refl; judged = e; spelled = same })))
 
-  body-comes : (more word : ℕ) (so_far : StepsSoFar) (b : Bool) → is_kind (control_of word).kind KindSub ≡ b → HasLooked s h l so_far more word → let body = body_at h l.dom.0 l.gref.0 FirstHalf in
+  body-comes : (more word : ℕ) (so_far : StepsSoFar) (b : Bool) → is_kind (control_of word).kind KindSub ≡ b → LegHasLooked s h l so_far more word → let body = body_at h l.dom.0 l.gref.0 FirstHalf in
       ComesTo s h l ((LookBody l.dom l.gref FirstHalf, Word body) ∷ so_far) None (cond b (Going (Second more word body)) (after_words more word body 0 (rule_of_try l word body 0)))
   body-comes more word so_far true sub a = let body = body_at h l.dom.0 l.gref.0 FirstHalf in
       (refl, (body-looked more word so_far FirstHalf (Word body) a, λ same valid. spelled-first (entry_at h l.dom.0 l.gref.0) body (body_at h l.dom.0 l.gref.0 SecondHalf) valid ws.spelled, sub))
@@ -99,7 +100,7 @@ module _ (s : Setting) (h : History) (l : Leg) (ws : Words s h l) where
       (λ same valid. read-entry (control_of word) (entry_at h l.dom.0 l.gref.0) body 0 (a.shown same valid) ws.is_entry
       (spelled-plain (control_of word) (entry_at h l.dom.0 l.gref.0) body (body_at h l.dom.0 l.gref.0 SecondHalf) (a.shown same valid) plain ws.spelled))
 
-  relook-comes : (more word w : ℕ) (rule : Rule) (so_far : StepsSoFar) (refusal : Option Denial) (b : Bool) → (w == word) ≡ b → HasLooked s h l so_far more word → is_in_body so_far ≡ true
+  relook-comes : (more word w : ℕ) (rule : Rule) (so_far : StepsSoFar) (refusal : Option Denial) (b : Bool) → (w == word) ≡ b → LegHasLooked s h l so_far more word → is_in_body so_far ≡ true
       → at_entry l.dom l.gref w (first (cond b (Some rule) None ∷ stands (nat_le MAX_TRIES (cond b 0 1 + misses so_far)) N18 ∷ [])) ≡ refusal
       → ComesTo s h l ((LookControl l.dom l.gref, Word w) ∷ so_far) refusal (cond b (LegRefused (entry_refusal l.dom l.gref rule word)) (after_miss l more w))
   relook-comes more word w rule so_far refusal true e a inside f = ap (λ (n : ℕ). Some (entry_refusal l.dom l.gref rule n)) (sym (eqb-true w word e)) ∙ f
@@ -115,7 +116,7 @@ module _ (s : Setting) (h : History) (l : Leg) (ws : Words s h l) where
     looked-rule so_far inside e = ap (λ (o : Option LegNow). rule_at_look s h o l.dom l.gref so_far) is
         ∙ ap (λ (b : Bool). cond b (cond (is_other (word_at s h l.dom.0 l.gref.0) (looked_at so_far)) None (rule_before_pin s h l l.dom l.gref)) (first_look l (control_at s h l.dom.0 l.gref.0))) e
 
-    second-look : (more word body second : ℕ) (rule : Rule) (so_far : StepsSoFar) (b : Bool) → HasLooked s h l so_far more word → HasRead s h l so_far word body second (Some rule) → (word_at s h l.dom.0 l.gref.0 == word) ≡ b
+    second-look : (more word body second : ℕ) (rule : Rule) (so_far : StepsSoFar) (b : Bool) → LegHasLooked s h l so_far more word → LegHasRead s h l so_far word body second (Some rule) → (word_at s h l.dom.0 l.gref.0 == word) ≡ b
         → at_entry l.dom l.gref (word_at s h l.dom.0 l.gref.0) (first (cond b (Some rule) None ∷ stands (nat_le MAX_TRIES (cond b 0 1 + misses so_far)) N18 ∷ [])) ≡ first_at s h d r so_far (LookControl l.dom l.gref)
     second-look more word body second rule so_far b looked read e = let w = word_at s h l.dom.0 l.gref.0 in
         let late : nat_le MAX_TRIES (misses ((LookControl l.dom l.gref, Word w) ∷ so_far)) ≡ nat_le MAX_TRIES (cond b 0 1 + misses so_far) =
@@ -186,11 +187,11 @@ look-placed s h d r gref change more w so_far false a = (ap (λ (n : ℕ). n + m
 
 -- a question
 
-pub asks-run : (s : Setting) (h : History) (d : DomId) (r : Asked) (dom : DomId) (question : Question) → begun (known_at s h d) d r ≡ None → Asks d r dom question → domain_of s.domains dom ≢ None
+pub asks-run : (s : Setting) (h : History) (d : DomId) (r : Asked) (dom : DomId) (question : Question) → begun (known_at s h d) d r ≡ None → AsksTable d r dom question → domain_of s.domains dom ≢ None
 asks-run s h d r dom AsksSize none a = rw a.2 (of-run _ (opens (known_at s h d) d (QuerySize a.0) (none-of (known_at s h d) d r (QuerySize a.0) a.1 none)).of_run)
 asks-run s h d r dom AsksVersion none a = rw a.2 (of-run _ (opens (known_at s h d) d (GetVersion a.0) (none-of (known_at s h d) d r (GetVersion a.0) a.1 none)).of_run)
 
-pub asked-judged : (s : Setting) (h : History) (d : DomId) (r : Asked) (so_far : StepsSoFar) (dom : DomId) (question : Question) → Asks d r dom question → Judged s h d r so_far (Asking dom question) (LookHeader dom)
+pub asked-judged : (s : Setting) (h : History) (d : DomId) (r : Asked) (so_far : StepsSoFar) (dom : DomId) (question : Question) → AsksTable d r dom question → Judged s h d r so_far (Asking dom question) (LookHeader dom)
 asked-judged s h d r so_far dom AsksSize a = subst (λ (z : Asked). Judged s h d z so_far (Asking dom AsksSize) (LookHeader dom)) (sym a.1) refl
 asked-judged s h d r so_far dom AsksVersion a = subst (λ (z : Asked). Judged s h d z so_far (Asking dom AsksVersion) (LookHeader dom)) (sym a.1) refl
 

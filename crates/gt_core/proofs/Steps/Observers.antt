@@ -1,8 +1,8 @@
 -- What an item leaves of the entries, words, pins and mappings, and of the other domains.
 use Rattle.gt_core.proofs.Words.{◌≡◌, ◌+◌, ℕ, refl, Bool, true, false, List, [], ◌∷◌, ◌++◌, Option, None, cond, ap, ◌∙◌}
-use Rattle.gt_core.proofs.Words.{arith, ◌==◌, DomId, Header, Change, Item, History, Setting, entry_at, entry_after}
+use Rattle.gt_core.proofs.Words.{arith, ◌==◌, DomId, Header, Change, Item, History, Setting, entry_at, changed_entry_of}
 use Rattle.gt_core.proofs.Words.{raises_at, raise_after, live, Pin, pinned_by, unpinned_by, change_at, change_of}
-use Rattle.gt_core.proofs.Words.{maps_answered_at, one_if_mapped, known_at, mappings_at, gather, by_mapping, legs_at}
+use Rattle.gt_core.proofs.Words.{maps_answered_at, one_if_mapped, known_at, mappings_at, gather, mapping_named, legs_at}
 use Rattle.gt_core.proofs.Words.{by_leg, header_stored, header_or, table_at, append-nil, Half, or_else, stored_at}
 use Rattle.gt_core.proofs.Words.{body_at, ◌&&◌, Holder, Held, without, is_holder, cond_both, Some, Handle, ByMapping}
 use Rattle.gt_core.proofs.Words.{ByLeg, append_assoc, All-cons, All-head, All-tail, All, length, sum_by_push, count_by}
@@ -31,7 +31,7 @@ no-change i t r q = ap (λ (c : Option Change). cond (i.actor.0 == t) c None) (q
 
 pub kept-entry : (i : Item) (h : History) (t r : ℕ) → KeepsAll i → entry_at (i ∷ h) t r ≡ entry_at h t r
 unfolding entry_at
-kept-entry i h t r q = ap (λ (c : Option Change). entry_after c (entry_at h t r)) (no-change i t r q)
+kept-entry i h t r q = ap (λ (c : Option Change). changed_entry_of c (entry_at h t r)) (no-change i t r q)
 
 pub kept-raises : (i : Item) (h : History) (t r : ℕ) → KeepsAll i → raises_at (i ∷ h) t r ≡ raises_at h t r
 unfolding raises_at
@@ -67,7 +67,7 @@ kept-legs i h d q = ap (λ (ps : List Pin). gather by_leg d ps) (kept-live i h q
 
 pub other-entry : (i : Item) (h : History) (t r : ℕ) → (i.actor.0 == t) ≡ false → entry_at (i ∷ h) t r ≡ entry_at h t r
 unfolding entry_at
-other-entry i h t r apart = ap (λ (b : Bool). entry_after (cond b (change_at i.happened r) None) (entry_at h t r)) apart
+other-entry i h t r apart = ap (λ (b : Bool). changed_entry_of (cond b (change_at i.happened r) None) (entry_at h t r)) apart
 
 pub other-raises : (i : Item) (h : History) (t r : ℕ) → (i.actor.0 == t) ≡ false → raises_at (i ∷ h) t r ≡ raises_at h t r
 unfolding raises_at
@@ -126,13 +126,13 @@ pub record IsKeyed {K : Type 0} (give : Holder → Held → List (K × Held)) : 
   pub key : Holder → Option K
   pub gives : (x : Holder) (p : Held) → give x p ≡ listed (key x) p
 
-abbrev pub mapping-keyed : IsKeyed by_mapping
+abbrev pub mapping-keyed : IsKeyed mapping_named
 mapping-keyed = record { key = key; gives = gives } where
   key : Holder → Option Handle
   key (ByMapping k) = Some k
   key (ByLeg n) = None
 
-  gives : (x : Holder) (p : Held) → by_mapping x p ≡ listed (key x) p
+  gives : (x : Holder) (p : Held) → mapping_named x p ≡ listed (key x) p
   gives (ByMapping k) p = refl
   gives (ByLeg n) p = refl
 
@@ -179,7 +179,7 @@ unpinned-live h d p holder seen answer = append-nil (without d.0 holder (live h)
 abbrev pub exchanged : DomId → GrantRef → ℕ → Change → Option Answer → Item
 exchanged d gref looked change answer = stepped d (Exchange gref looked change) Taken answer
 
-pub exchanged-entry : (h : History) (i : Item) (t r : ℕ) → entry_at (i ∷ h) t r ≡ entry_after (change_of i t r) (entry_at h t r)
+pub exchanged-entry : (h : History) (i : Item) (t r : ℕ) → entry_at (i ∷ h) t r ≡ changed_entry_of (change_of i t r) (entry_at h t r)
 unfolding entry_at
 exchanged-entry h i t r = refl
 

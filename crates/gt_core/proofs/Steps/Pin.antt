@@ -5,7 +5,8 @@ use Rattle.gt_core.proofs.Words.{Write, MAX_PINS, Half, FirstHalf, SecondHalf, H
 use Rattle.gt_core.proofs.Words.{PinCounts, Open, Item, Answer, Mapped, State, state_of, changed_in, with_slot}
 use Rattle.gt_core.proofs.Words.{slot_after, Adds, History, Setting, Pin, live, entry_at, body_at, mappings_at}
 use Rattle.gt_core.proofs.Words.{maps_answered_at, legs_at, open_call, is_pin_on, same_dir, FitsWord, control_at}
-use Rattle.gt_core.proofs.Words.{gather, by_mapping, by_leg, holder_after, one_if_mapped, IsLawful, SlotAgrees, Agrees}
+use Rattle.gt_core.proofs.Words.{gather, mapping_named, by_leg, holder_after, one_if_mapped, IsLawfulPin, SlotAgrees}
+use Rattle.gt_core.proofs.Words.{StateStands}
 use Rattle.gt_core.proofs.Words.{DomainsStand, CallAgrees, GivenAgrees, MappingsAgree, None, false, inl, inr, reverse}
 use Rattle.gt_core.proofs.Words.{◌≢◌, cond_both, eqb-false, false≢true, leb-false, true≢false, same_Some, is_none, not}
 use Rattle.gt_core.proofs.Words.{◌||◌, denial_of, domain_of, resolved, GrantRef, TypeId, ForMap, Policy, N1, N11, N12}
@@ -13,15 +14,15 @@ use Rattle.gt_core.proofs.Words.{N13, N14, N15, N16, N17, N5, Perms, Triple, fra
 use Rattle.gt_core.proofs.Words.{permits, control_of, Entry, Invalid, Page, Sub, Via, last_first, pins_so_far}
 use Rattle.gt_core.proofs.Words.{action_at, after_dest_pin, after_pin_of, after_source_pin, at_dest, leg_after}
 use Rattle.gt_core.proofs.Words.{phase_after, where_via, holds-first, opens, dest_pair, end_leg, held_of, map_leg, path}
-use Rattle.gt_core.proofs.Words.{second_leg, source_pair, IsFor, IsOnFrom, Lets, RestsOnTry, CallerKnowledge, begun}
-use Rattle.gt_core.proofs.Words.{control_with, copy_denied, denied, first, first_look, frames_of, is_dest_granted}
-use Rattle.gt_core.proofs.Words.{is_outside, is_past_owner, map_dir, pins_of, refused_when, rights_to_copy, stands}
+use Rattle.gt_core.proofs.Words.{second_leg, source_pair, IsLegFor, IsOnFrom, Lets, RestsOnTry, CallerKnowledge, begun}
+use Rattle.gt_core.proofs.Words.{control_with, copy_denied, denied, first, first_look, frame_count_of, is_dest_granted}
+use Rattle.gt_core.proofs.Words.{is_outside_sub, is_past_owner, map_dir, pins_of, refused_when, rights_to_copy, stands}
 use Rattle.gt_core.proofs.Words.{via_judged, HasShown, IsQuiet, Makes, Seen, Missed, Taken, Step, PinStep, Verdict}
 use Rattle.gt_core.proofs.Words.{Refused, Phase, Accessing, Ending, Last, Walking, Aim, Dest, Mapping, Source, Pins}
 use Rattle.gt_core.proofs.Words.{Route, Direct, Through, Leg, AtHeader, Pinning, Asked, Copy, Map, CopyArgs}
 use Rattle.gt_core.proofs.Words.{generation_at, known_at, reads_at, word_at, writes_at, LegNow, MayUse, NoneStands}
 use Rattle.gt_core.proofs.Words.{StepsSoFar, leg_at, refusal_in, rule_at_pin, rule_at_via, rule_before_pin, EndsCopy}
-use Rattle.gt_core.proofs.Words.{HasLooked, PhaseStands, numbered, misses, IsLegalHistory}
+use Rattle.gt_core.proofs.Words.{LegHasLooked, PhaseStands, numbered, misses, IsLegalHistory}
 use Rattle.gt_core.proofs.{Steps.Observers.answered-stays, Steps.Observers.gather-append, Keeping.KeepsEntries}
 use Rattle.gt_core.proofs.{Keeping.same-body, Keeping.becomes-changed, Keeping.slots-stand, Keeping.keeps-stands}
 use Rattle.gt_core.proofs.{Keeping.same-number, Mappings.mappings-added, Mappings.mappings-same}
@@ -75,9 +76,9 @@ answered-up h d p handle = rw (same-number d.0) (omega arith)
 
 -- a lawful pin keeps what the core stands for, where the domain's mappings are those that it
 -- then has
-pub pin-stands : (s : Setting) (h : History) (xs ys : List State) (x : State) (p : Held) (answer : Option Answer) (kept : HandleMap Held) (o : Option Open) → DomainsStand s h xs → state_of xs x.id.0 ≡ Some x → Agrees s h x
+pub pin-stands : (s : Setting) (h : History) (xs ys : List State) (x : State) (p : Held) (answer : Option Answer) (kept : HandleMap Held) (o : Option Open) → DomainsStand s h xs → state_of xs x.id.0 ≡ Some x → StateStands s h x
     → ((q : ℕ) → state_of ys q ≡ cond (x.id.0 == q) (Some (record x { mappings = kept; underway = o })) (state_of xs q))
-    → IsFew h (new_pin h x.id p answer) → IsLawful s (new_pin h x.id p answer)
+    → IsFew h (new_pin h x.id p answer) → IsLawfulPin s (new_pin h x.id p answer)
     → MappingsAgree kept (mappings_at (pins x.id p answer ∷ h) x.id.0) (maps_answered_at (pins x.id p answer ∷ h) x.id.0)
     → CallAgrees s (pins x.id p answer ∷ h) x.id o (open_call (pins x.id p answer ∷ h) x.id.0) → GivenAgrees (pins x.id p answer ∷ h) x.id.0 x.given
     → DomainsStand s (pins x.id p answer ∷ h) (changed_in p.dom.0 (with_slot p.gref.0 (Pinned p.dir)) ys)
@@ -88,14 +89,14 @@ pin-stands s h xs ys x p answer kept o st here a becomes few lawful maps call gi
     keeps-stands s i h xs _ keeps st
     (slots-stand s i h xs _ x kept o p.dom.0 p.gref.0 (Pinned p.dir) keeps.changes refl refl st here a (becomes-changed xs ys x (record x { mappings = kept; underway = o }) p.dom.0 (with_slot p.gref.0 (Pinned p.dir)) (λ y. refl) becomes)
     (λ u r old w. counted-up h (i ∷ h) u r p.dir ((p.dom.0 == u) && (p.gref.0 == r)) old w (λ which. same-body i h u r which keeps) (λ k. grown-count h i q u r k grows) (there u r)) maps call given)
-    (subst (All (IsLawful s)) (sym grows) (All-push (IsLawful s) (live h) q st.lawful lawful))
+    (subst (All (IsLawfulPin s)) (sym grows) (All-push (IsLawfulPin s) (live h) q st.lawful lawful))
     (λ u r k within. now-fits (is_pin_on u r k q) (pins_at (i ∷ h) u r k) (pins_at h u r k) (pins-fit s h u r k (st.words u r within)) (there u r k) (grown-count h i q u r k grows))
 
 -- the mappings after the pin of a map
 pub map-agrees : (h : History) (d : DomId) (p : Held) (handle : Handle) (old kept : HandleMap Held) → Adds old kept handle (record p { entry = entry_at h p.dom.0 p.gref.0 }) → MappingsAgree old (mappings_at h d.0) (maps_answered_at h d.0)
     → MappingsAgree kept (mappings_at (pins d p (Some (Mapped handle)) ∷ h) d.0) (maps_answered_at (pins d p (Some (Mapped handle)) ∷ h) d.0)
 map-agrees h d p handle old kept adds a =
-    mappings-same kept _ _ _ _ (sym (gathered by_mapping h d p (Some (Mapped handle)))) (answered-up h d p handle)
+    mappings-same kept _ _ _ _ (sym (gathered mapping_named h d p (Some (Mapped handle)))) (answered-up h d p handle)
     (mappings-added old kept handle (record p { entry = entry_at h p.dom.0 p.gref.0 }) (mappings_at h d.0) (maps_answered_at h d.0) adds a)
 
 -- and after the pin of a leg
@@ -121,7 +122,7 @@ pins-now : (s : Setting) (h : History) (t r : ℕ) (dir : Dir) → (reads_at h t
 pins-now s h t r Read a = ((control-parts (entry_at h t r) (generation_at s h t r) (reads_at h t r) (writes_at h t r)).1, a.0)
 pins-now s h t r Write a = ((control-parts (entry_at h t r) (generation_at s h t r) (reads_at h t r) (writes_at h t r)).2, a.1)
 
-taken-pin : (s : Setting) (h : History) (xs : List State) (d : DomId) (r : Asked) (so_far : StepsSoFar) (aim : Aim) (l : Leg) (more word body second : ℕ) → IsLegalHistory s h → DomainsStand s h xs → IsFor (known_at s h d) d r aim l
+taken-pin : (s : Setting) (h : History) (xs : List State) (d : DomId) (r : Asked) (so_far : StepsSoFar) (aim : Aim) (l : Leg) (more word body second : ℕ) → IsLegalHistory s h → DomainsStand s h xs → IsLegFor (known_at s h d) d r aim l
     → legs_at h d.0 ≡ numbered 0 (reverse (last_first (pins_so_far aim))) → PhaseStands s h d r so_far (Walking aim l (Pinning more word body second)) → word_at s h l.dom.0 l.gref.0 ≡ word
     → CanPin s h d r (held_of l word body second)
 taken-pin s h xs d r so_far aim l more word body second legal st is held place same =
@@ -129,7 +130,7 @@ taken-pin s h xs d r so_far aim l more word body second legal st is held place s
     let p : Held = held_of l word body second in
     let judged : rule_before_pin s h l l.dom l.gref ≡ None = still-judged s h l word body second a ∙ place.1.1.judged in
     let q = pins-now s h l.dom.0 l.gref.0 l.dir (counts-fit s h l.dom.0 l.gref.0 (st.words l.dom.0 l.gref.0 place.1.0.within)) in
-    let full : pins_of l.dir (control_at s h l.dom.0 l.gref.0) ≢ MAX_PINS = eqb-false _ MAX_PINS (pins-left (is_outside l (entry_at h l.dom.0 l.gref.0)) (is_past_owner l (entry_at h l.dom.0 l.gref.0)) _ judged) in
+    let full : pins_of l.dir (control_at s h l.dom.0 l.gref.0) ≢ MAX_PINS = eqb-false _ MAX_PINS (pins-left (is_outside_sub l (entry_at h l.dom.0 l.gref.0)) (is_past_owner l (entry_at h l.dom.0 l.gref.0)) _ judged) in
     let apart : pins_at h l.dom.0 l.gref.0 l.dir ≢ MAX_PINS = λ e. full (q.0 ∙ e) in let lt : pins_at h l.dom.0 l.gref.0 l.dir < MAX_PINS + 1 = q.1 in record {
       is = ap (λ (e : Entry). record p { entry = e }) (sym a.entry);
       valid = a.valid;
@@ -152,23 +153,23 @@ can-pin s h xs d r shown so_far phase p i same = by phase i.at.has_shown i.place
 -- a pin that a map takes is lawful
 
 map-lets : (k : CallerKnowledge) (d dom : DomId) (gref : GrantRef) (flags : ℕ) (e : Entry) → Lets (map_leg k d dom gref flags) e
-    → (permits e d (map_dir flags) ForMap 0 0 ≡ true) × (frame_of e < frames_of k.domains (resolved d dom))
+    → (permits e d (map_dir flags) ForMap 0 0 ≡ true) × (frame_of e < frame_count_of k.domains (resolved d dom))
 map-lets k d dom gref flags Invalid a = absurd a
-map-lets k d dom gref flags (Page to ro frame) a = (a.0, leb-false (frames_of k.domains (resolved d dom)) frame a.1)
-map-lets k d dom gref flags (Sub to ro frame off len) a = (a.0, leb-false (frames_of k.domains (resolved d dom)) frame a.1)
+map-lets k d dom gref flags (Page to ro frame) a = (a.0, leb-false (frame_count_of k.domains (resolved d dom)) frame a.1)
+map-lets k d dom gref flags (Sub to ro frame off len) a = (a.0, leb-false (frame_count_of k.domains (resolved d dom)) frame a.1)
 map-lets k d dom gref flags (Via to ro dom2 r) a = absurd (false≢true a.1)
 
 pub map-lawful : (s : Setting) (h : History) (d : DomId) (r : Asked) (p : Held) (shown : List Seen) (pins : Pins) → begun (known_at s h d) d r ≡ None → RestsOnTry (known_at s h d) d r pins (path (known_at s h d) d r) shown p
     → (dom : DomId) (gref : GrantRef) (flags : ℕ) → r ≡ Map dom gref flags
-    → (permits p.entry d p.dir ForMap 0 0 ≡ true) × MayUse s d p.dom p.dir × (frame_of p.entry < frames_of s.domains p.dom) × (domain_of s.domains p.dom ≢ None)
+    → (permits p.entry d p.dir ForMap 0 0 ≡ true) × MayUse s d p.dom p.dir × (frame_of p.entry < frame_count_of s.domains p.dom) × (domain_of s.domains p.dom ≢ None)
 map-lawful s h d r p shown pins none t dom gref flags is = by t.aim t.aimed where
   k : CallerKnowledge
   k = known_at s h d
 
   Lawful : Held → Type 0
-  Lawful q = (permits p.entry d q.dir ForMap 0 0 ≡ true) × MayUse s d q.dom q.dir × (frame_of p.entry < frames_of s.domains q.dom) × (domain_of s.domains q.dom ≢ None)
+  Lawful q = (permits p.entry d q.dir ForMap 0 0 ≡ true) × MayUse s d q.dom q.dir × (frame_of p.entry < frame_count_of s.domains q.dom) × (domain_of s.domains q.dom ≢ None)
 
-  by : (aim : Aim) → IsFor k d r aim t.leg → Lawful p
+  by : (aim : Aim) → IsLegFor k d r aim t.leg → Lawful p
   by Mapping a = let l = map_leg k d a.dom a.gref a.flags in let lets = map-lets k d a.dom a.gref a.flags p.entry (subst (λ (l : Leg). Lets l p.entry) a.leg_is t.lets) in
       let o = opens k d (Map a.dom a.gref a.flags) (none-of k d r (Map a.dom a.gref a.flags) a.of_map none) in
       let q : held_of l p.word t.body t.second ≡ p = sym (t.pin_is ∙ ap (λ (l : Leg). held_of l p.word t.body t.second) a.leg_is) in
@@ -179,7 +180,7 @@ map-lawful s h d r p shown pins none t dom gref flags is = by t.aim t.aimed wher
 -- where a pin leads, missed or taken
 
 -- a try whose exchange found another word
-pub missed-comes : (s : Setting) (h : History) (l : Leg) (d : DomId) (r : Asked) (more word body second : ℕ) (so_far : StepsSoFar) (b : Bool) → b ≡ false → HasLooked s h l so_far more word → let p = held_of l word body second in let v = cond b Taken (Missed (word_at s h l.dom.0 l.gref.0)) in
+pub missed-comes : (s : Setting) (h : History) (l : Leg) (d : DomId) (r : Asked) (more word body second : ℕ) (so_far : StepsSoFar) (b : Bool) → b ≡ false → LegHasLooked s h l so_far more word → let p = held_of l word body second in let v = cond b Taken (Missed (word_at s h l.dom.0 l.gref.0)) in
     ComesTo s h l ((PinStep p, v) ∷ so_far) (rule_at_pin s h d r so_far p v) (leg_after l (Pinning more word body second) v)
 unfolding misses
 missed-comes s h l d r more word body second so_far true e a = absurd (true≢false e)
@@ -213,13 +214,13 @@ second-beyond : (k : CallerKnowledge) (n : Leg) (e : Entry) (l : Leg) → IsOnFr
 second-beyond k n (Via dom ro dom2 gref) l is = ap (λ (z : Leg). z.beyond_via) is
 second-beyond k n e l is = absurd is
 
-first-leg-of : (k : CallerKnowledge) (d : DomId) (r : Asked) (aim : Aim) (l : Leg) → IsFor k d r aim l → is_copying l.purpose ≡ true → l.beyond_via ≡ false → IsFirstLeg aim
+first-leg-of : (k : CallerKnowledge) (d : DomId) (r : Asked) (aim : Aim) (l : Leg) → IsLegFor k d r aim l → is_copying l.purpose ≡ true → l.beyond_via ≡ false → IsFirstLeg aim
 first-leg-of k d r Mapping l is copying beyond = false≢true (ap (λ (z : Leg). is_copying z.purpose) (sym is.leg_is) ∙ copying)
 first-leg-of k d r (Source c (Some via)) l is copying beyond = true≢false (sym (second-beyond k (end_leg k d c.source Read c.len) via.entry l is.1.2) ∙ beyond)
 first-leg-of k d r (Dest c source (Some via)) l is copying beyond = true≢false (sym (second-beyond k (end_leg k d c.dest Write c.len) via.entry l is.2.2) ∙ beyond)
 first-leg-of k d r aim l is copying beyond = tt
 
-pub met-first : (k : CallerKnowledge) (d : DomId) (r : Asked) (aim : Aim) (l : Leg) (e : Entry) (g n m : ℕ) → IsFor k d r aim l → first_look l (control_with e g n m) ≡ None → IsVia e → IsFirstLeg aim
+pub met-first : (k : CallerKnowledge) (d : DomId) (r : Asked) (aim : Aim) (l : Leg) (e : Entry) (g n m : ℕ) → IsLegFor k d r aim l → first_look l (control_with e g n m) ≡ None → IsVia e → IsFirstLeg aim
 met-first k d r aim l (Via dom ro dom2 gref) g n m is passed v = let f = via-passed l dom ro dom2 gref g n m passed in first-leg-of k d r aim l is f.0 f.1
 met-first k d r aim l e g n m is passed v = absurd v
 
@@ -259,7 +260,7 @@ module _ (s : Setting) (h : History) (d : DomId) (r : Asked) where
       where-leads c now (Dest c source (Some p)) (second_leg (known_at s h d) l dom2 gref) (dest_pair d source dom2) _ is refl
   dest-pin-leads c source l p e now is = (refl, tt)
 
-  pin-leads : (aim : Aim) (l : Leg) (p : Held) (e : Entry) (now : StepsSoFar) → p.entry ≡ e → (IsVia e → IsFirstLeg aim) → IsFor (known_at s h d) d r aim l → begun (known_at s h d) d r ≡ None
+  pin-leads : (aim : Aim) (l : Leg) (p : Held) (e : Entry) (now : StepsSoFar) → p.entry ≡ e → (IsVia e → IsFirstLeg aim) → IsLegFor (known_at s h d) d r aim l → begun (known_at s h d) d r ≡ None
       → Leads s h d r now (rule_at_via (known_at s h d) (Some (record { leg = l; pair = pair_of d aim })) e) (after_pin_of (known_at s h d) d aim l p)
   pin-leads Mapping l p e now same first is none = (no-via (known_at s h d) l (pair_of d Mapping) e (λ v. first v), inl refl)
   pin-leads (Source c None) l p e now same first is none = let k = known_at s h d in
@@ -270,7 +271,7 @@ module _ (s : Setting) (h : History) (d : DomId) (r : Asked) where
       subst (λ (z : Entry). Leads s h d r now (rule_at_via k (Some (record { leg = l; pair = dest_pair d source })) e) (after_dest_pin k d c source l p z)) (sym same) (dest-pin-leads c source l p e now is.0)
   pin-leads (Dest c source (Some via)) l p e now same first is none = (no-via (known_at s h d) l (pair_of d (Dest c source (Some via))) e (λ v. first v), tt)
 
-  pub taken-leads : (so_far now : StepsSoFar) (aim : Aim) (l : Leg) (more word body second : ℕ) (b : Bool) → b ≡ true → IsFor (known_at s h d) d r aim l → IsLegOf s h d r l (pair_of d aim) → begun (known_at s h d) d r ≡ None
+  pub taken-leads : (so_far now : StepsSoFar) (aim : Aim) (l : Leg) (more word body second : ℕ) (b : Bool) → b ≡ true → IsLegFor (known_at s h d) d r aim l → IsLegOf s h d r l (pair_of d aim) → begun (known_at s h d) d r ≡ None
       → first_look l (control_of word) ≡ None → IsAsTried s h l word body second
       → Leads s h d r now (rule_at_pin s h d r so_far (held_of l word body second) (cond b Taken (Missed (word_at s h l.dom.0 l.gref.0))))
       (phase_after (known_at s h d) d (Walking aim l (Pinning more word body second)) (cond b Taken (Missed (word_at s h l.dom.0 l.gref.0))))

@@ -3,7 +3,8 @@
 use Rattle.gt_core.proofs.Words.{◌≡◌, ◌%◌, ℕ, refl, Bool, true, List, ◌∷◌, Option, Some, None, cond, sym, ap, ◌∙◌}
 use Rattle.gt_core.proofs.Words.{arith, subst, ◌==◌, DomId, Header, StoreHeader, Nothing, Open, Item, Answer, State}
 use Rattle.gt_core.proofs.Words.{state_of, changed_in, with_header, History, Setting, header_or, table_at}
-use Rattle.gt_core.proofs.Words.{one_if_mapped, open_call, FitsTable, Agrees, DomainsStand, CallAgrees, GivenAgrees}
+use Rattle.gt_core.proofs.Words.{one_if_mapped, open_call, FitsTable, StateStands, DomainsStand, CallAgrees}
+use Rattle.gt_core.proofs.Words.{GivenAgrees}
 use Rattle.gt_core.proofs.Words.{GrantRef, Half, FirstHalf, SecondHalf, StoreBody, Stored, with_slot, body_at, inl, inr}
 use Rattle.gt_core.proofs.Words.{◌≤◌, ◌⊎◌, LAST_VERSION, MAX_TABLE_FRAMES, first_body, Entry, Invalid, Sub, last_first}
 use Rattle.gt_core.proofs.Words.{action_at, after_store, phase_after, opens, Continuation, path, RestsOnGrant}
@@ -38,7 +39,7 @@ pub room-there : (version frames : ℕ) → FitsTable (record { version = versio
 room-there version frames f = grind arith
 
 -- a header within the limits that its owner stores keeps what the core stands for
-pub header-stands : (s : Setting) (h : History) (xs ys : List State) (x : State) (version frames : ℕ) (answer : Option Answer) (o : Option Open) → DomainsStand s h xs → state_of xs x.id.0 ≡ Some x → Agrees s h x
+pub header-stands : (s : Setting) (h : History) (xs ys : List State) (x : State) (version frames : ℕ) (answer : Option Answer) (o : Option Open) → DomainsStand s h xs → state_of xs x.id.0 ≡ Some x → StateStands s h x
     → ((q : ℕ) → state_of ys q ≡ cond (x.id.0 == q) (Some (record x { underway = o })) (state_of xs q)) → one_if_mapped answer ≡ 0 → FitsTable (record { version = version; frames = frames })
     → CallAgrees s (headed x.id version frames answer ∷ h) x.id o (open_call (headed x.id version frames answer ∷ h) x.id.0) → GivenAgrees (headed x.id version frames answer ∷ h) x.id.0 x.given
     → DomainsStand s (headed x.id version frames answer ∷ h) (changed_in x.id.0 (with_header version frames) ys)
@@ -75,7 +76,7 @@ moves-stored d gref half word h q r old a = grind (arith, kept-live, store-keeps
 
 -- a body word that is stored keeps what the core stands for
 pub store-stands : (s : Setting) (h : History) (xs ys : List State) (x : State) (gref : GrantRef) (half : Half) (word : ℕ) (o : Option Open) → DomainsStand s h xs
-    → state_of xs x.id.0 ≡ Some x → Agrees s h x → ((q : ℕ) → state_of ys q ≡ cond (x.id.0 == q) (Some (record x { underway = o })) (state_of xs q))
+    → state_of xs x.id.0 ≡ Some x → StateStands s h x → ((q : ℕ) → state_of ys q ≡ cond (x.id.0 == q) (Some (record x { underway = o })) (state_of xs q))
     → CallAgrees s (stores x.id gref half word ∷ h) x.id o (open_call (stores x.id gref half word ∷ h) x.id.0) → GivenAgrees (stores x.id gref half word ∷ h) x.id.0 x.given
     → DomainsStand s (stores x.id gref half word ∷ h) (changed_in x.id.0 (with_slot gref.0 (Stored half word)) ys)
 store-stands s h xs ys x gref half word o st here a becomes call given = let i = stores x.id gref half word in let k = store-keeps x.id gref half word in

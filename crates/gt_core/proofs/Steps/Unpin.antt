@@ -3,10 +3,12 @@ use Rattle.gt_core.proofs.Words.{◌≡◌, ◌+◌, ℕ, refl, Bool, false, Lis
 use Rattle.gt_core.proofs.Words.{sym, ap, ◌∙◌, arith, subst, ◌==◌, ◌&&◌, All, count_by, none-some, sum_by-cons, DomId}
 use Rattle.gt_core.proofs.Words.{Dir, Read, Write, Half, FirstHalf, SecondHalf, Handle, HandleMap, Held, Holder}
 use Rattle.gt_core.proofs.Words.{ByMapping, ByLeg, Seen, PinCounts, Open, Unpinned, Item, Answer, State, state_of}
-use Rattle.gt_core.proofs.Words.{changed_in, with_slot, without_mapping, slot_after, taken, History, Setting, Pin, live}
+use Rattle.gt_core.proofs.Words.{changed_in, with_slot, without_holder, slot_after, handle_taken, History, Setting, Pin}
+use Rattle.gt_core.proofs.Words.{live}
 use Rattle.gt_core.proofs.Words.{body_at, mappings_at, maps_answered_at, legs_at, open_call, is_pin_on, without}
-use Rattle.gt_core.proofs.Words.{is_holder, same_handle, same_dir, gather, by_mapping, by_leg, mapping_of}
-use Rattle.gt_core.proofs.Words.{one_if_mapped, IsLawful, SlotAgrees, Agrees, DomainsStand, CallAgrees, GivenAgrees}
+use Rattle.gt_core.proofs.Words.{is_holder, same_handle, same_dir, gather, mapping_named, by_leg, mapping_of}
+use Rattle.gt_core.proofs.Words.{one_if_mapped, IsLawfulPin, SlotAgrees, StateStands, DomainsStand, CallAgrees}
+use Rattle.gt_core.proofs.Words.{GivenAgrees}
 use Rattle.gt_core.proofs.Words.{MappingsAgree, numbered, inl, inr, ◌⊎◌, option_or, Denial, last_first, next_to_give}
 use Rattle.gt_core.proofs.Words.{Done, Makes, Step, Verdict, Ending, Pins, Asked, Copy, CopyArgs, StepsSoFar, EndsCopy}
 use Rattle.gt_core.proofs.{Steps.Observers.answered-stays, Steps.Observers.cond-same, Steps.Observers.without-kept}
@@ -52,7 +54,7 @@ without-one {K} give test holder d (p ∷ ps) t = let was = without-one give tes
 
 -- the tests that there are
 
-mapping-tells : (handle : Handle) → Tells by_mapping (λ (k : Handle). same_handle k handle) (ByMapping handle)
+mapping-tells : (handle : Handle) → Tells mapping_named (λ (k : Handle). same_handle k handle) (ByMapping handle)
 mapping-tells handle = record { keyed = mapping-keyed; tells = by } where
   by : (x : Holder) → is_holder x (ByMapping handle) ≡ passes (λ (k : Handle). same_handle k handle) (mapping-keyed.key x)
   by (ByMapping k) = refl
@@ -72,21 +74,21 @@ one-mapping (m ∷ ms) handle = ap (λ (o : Option Held). cond (same_handle m.0 
 
 pub loses-mapping : (h : History) (d : DomId) (handle : Handle) (p : Held) → mapping_of (mappings_at h d.0) handle ≡ Some p → Loses p (live h) (without d.0 (ByMapping handle) (live h))
 loses-mapping h d handle p found =
-    (without-one by_mapping (λ (k : Handle). same_handle k handle) (ByMapping handle) d.0 (live h) (mapping-tells handle)).1 p (one-mapping (mappings_at h d.0) handle ∙ found)
+    (without-one mapping_named (λ (k : Handle). same_handle k handle) (ByMapping handle) d.0 (live h) (mapping-tells handle)).1 p (one-mapping (mappings_at h d.0) handle ∙ found)
 
 -- the domain's mappings lose the one of the handle, and its call no pin
 mapping-left : (h : History) (d : DomId) (p : Held) (handle : Handle) (seen : Seen) (answer : Option Answer) → mappings_at (unpins d p (ByMapping handle) seen answer ∷ h) d.0 ≡ less handle (mappings_at h d.0)
-mapping-left h d p handle seen answer = ap (gather by_mapping d.0) (unpinned-live h d p (ByMapping handle) seen answer)
-    ∙ (without-one by_mapping (λ (k : Handle). same_handle k handle) (ByMapping handle) d.0 (live h) (mapping-tells handle)).0
+mapping-left h d p handle seen answer = ap (gather mapping_named d.0) (unpinned-live h d p (ByMapping handle) seen answer)
+    ∙ (without-one mapping_named (λ (k : Handle). same_handle k handle) (ByMapping handle) d.0 (live h) (mapping-tells handle)).0
 
 pub mapping-legs : (h : History) (d : DomId) (p : Held) (handle : Handle) (seen : Seen) (answer : Option Answer) → legs_at (unpins d p (ByMapping handle) seen answer ∷ h) d.0 ≡ legs_at h d.0
 mapping-legs h d p handle seen answer = grind (arith, unpinned-live, without-kept, cond-same)
 
 pub mapping-agrees : (h : History) (d : DomId) (p : Held) (handle : Handle) (seen : Seen) (answer : Option Answer) (kept : HandleMap Held) → one_if_mapped answer ≡ 0 → mapping_of (mappings_at h d.0) handle ≡ Some p
     → MappingsAgree kept (mappings_at h d.0) (maps_answered_at h d.0)
-    → MappingsAgree (taken handle kept) (mappings_at (unpins d p (ByMapping handle) seen answer ∷ h) d.0) (maps_answered_at (unpins d p (ByMapping handle) seen answer ∷ h) d.0)
+    → MappingsAgree (handle_taken handle kept) (mappings_at (unpins d p (ByMapping handle) seen answer ∷ h) d.0) (maps_answered_at (unpins d p (ByMapping handle) seen answer ∷ h) d.0)
 mapping-agrees h d p handle seen answer kept m found a =
-    mappings-same (taken handle kept) _ _ _ _ (sym (mapping-left h d p handle seen answer)) (sym (answered-stays h (unpins d p (ByMapping handle) seen answer) d.0 m))
+    mappings-same (handle_taken handle kept) _ _ _ _ (sym (mapping-left h d p handle seen answer)) (sym (answered-stays h (unpins d p (ByMapping handle) seen answer) d.0 m))
     (mappings-taken kept handle p (mappings_at h d.0) (maps_answered_at h d.0) found a)
 
 -- by the place of a call's own pin, the last one
@@ -123,7 +125,7 @@ counted-down h new q r dir b old a body now = grind (arith, now Read, now Write,
 
 -- a live pin that is given back keeps what the core stands for, where the domain's mappings are those that it then has
 pub unpin-stands : (s : Setting) (h : History) (xs zs : List State) (x : State) (p : Held) (holder : Holder) (seen : Seen) (answer : Option Answer) (kept : HandleMap Held) (o : Option Open) → DomainsStand s h xs
-    → state_of xs x.id.0 ≡ Some x → Agrees s h x → Becomes xs zs x (record x { mappings = kept; underway = o }) p.dom.0 (with_slot p.gref.0 (Unpinned p.dir)) → Loses p (live h) (without x.id.0 holder (live h))
+    → state_of xs x.id.0 ≡ Some x → StateStands s h x → Becomes xs zs x (record x { mappings = kept; underway = o }) p.dom.0 (with_slot p.gref.0 (Unpinned p.dir)) → Loses p (live h) (without x.id.0 holder (live h))
     → MappingsAgree kept (mappings_at (unpins x.id p holder seen answer ∷ h) x.id.0) (maps_answered_at (unpins x.id p holder seen answer ∷ h) x.id.0)
     → CallAgrees s (unpins x.id p holder seen answer ∷ h) x.id o (open_call (unpins x.id p holder seen answer ∷ h) x.id.0) → GivenAgrees (unpins x.id p holder seen answer ∷ h) x.id.0 x.given
     → DomainsStand s (unpins x.id p holder seen answer ∷ h) zs
@@ -131,7 +133,7 @@ unpin-stands s h xs zs x p holder seen answer kept o st here a becomes loses map
     keeps-stands s i h xs zs keeps st
     (slots-stand s i h xs zs x kept o p.dom.0 p.gref.0 (Unpinned p.dir) keeps.changes refl refl st here a becomes
     (λ u r old w. counted-down h (i ∷ h) u r p.dir ((p.dom.0 == u) && (p.gref.0 == r)) old w (λ which. same-body i h u r which keeps) (λ k. shrinks u r k)) maps call given)
-    (subst (All (IsLawful s)) (sym now) (all-without (IsLawful s) x.id.0 holder (live h) st.lawful))
+    (subst (All (IsLawfulPin s)) (sym now) (all-without (IsLawfulPin s) x.id.0 holder (live h) st.lawful))
     (λ t r k within. let e = shrinks t r k in let was = pins-fit s h t r k (st.words t r within) in omega arith)
   where
     i : Item
@@ -148,7 +150,7 @@ unpin-stands s h xs zs x p holder seen answer kept o st here a becomes loses map
 
 -- the states after an unpin: the mapping goes too, where it is of one
 pub becomes-unpinned : (xs ys : List State) (x : State) (p : Held) (holder : Holder) (o : Option Open) → ((q : ℕ) → state_of ys q ≡ cond (x.id.0 == q) (Some (record x { underway = o })) (state_of xs q))
-    → Becomes xs (changed_in x.id.0 (without_mapping holder) (changed_in p.dom.0 (with_slot p.gref.0 (Unpinned p.dir)) ys)) x (without_mapping holder (record x { underway = o })) p.dom.0 (with_slot p.gref.0 (Unpinned p.dir))
+    → Becomes xs (changed_in x.id.0 (without_holder holder) (changed_in p.dom.0 (with_slot p.gref.0 (Unpinned p.dir)) ys)) x (without_holder holder (record x { underway = o })) p.dom.0 (with_slot p.gref.0 (Unpinned p.dir))
 becomes-unpinned xs ys x p holder o was = grind (arith, state-changed, becomes-changed)
 
 -- where giving a pin back leads

@@ -5,16 +5,18 @@ use Rattle.gt_core.proofs.Words.{eqb-true, eq-eqb, and_parts, and_from, append-n
 use Rattle.gt_core.proofs.Words.{length-drop, length-take-le, length-replicate, ◌==◌, ◌&&◌, nat_lt, is_some, IsTrue}
 use Rattle.gt_core.proofs.Words.{DomId, Write, ForMap, DomainConfig, FRAME_SIZE, Entry, frame_of, permits, Handle}
 use Rattle.gt_core.proofs.Words.{value_of, Held, Route, Direct, End, Request, Asked, Store, Poke, Place, Seen, Step}
-use Rattle.gt_core.proofs.Words.{ReadBytes, WriteBytes, CopyBytes, Makes, Call, CallerKnowledge, begun, frames_of}
+use Rattle.gt_core.proofs.Words.{ReadBytes, WriteBytes, CopyBytes, Makes, Call, CallerKnowledge, begun, frame_count_of}
 use Rattle.gt_core.proofs.Words.{is_dest_granted, dest_pair, opens, Rests, RestsOnRequest, RestsOnWays, IsReached}
 use Rattle.gt_core.proofs.Words.{pins_at, Patch, written, bytes_at, frame_counts, FrameSet, frame_at, has_range}
 use Rattle.gt_core.proofs.Words.{all_zeros, AreKept, Open, Item, Answer, Begun, State, IsLoadOf, IsReadable, IsAdmitted}
-use Rattle.gt_core.proofs.Words.{AccessedBy, History, Setting, patches_at, patches_by, contents_at, written_by, Writing}
+use Rattle.gt_core.proofs.Words.{AccessedBy, History, Setting, patches_at, patches_by, contents_at, written_by}
+use Rattle.gt_core.proofs.Words.{WriteMade}
 use Rattle.gt_core.proofs.Words.{given_in, open_call, Underway, values, known_at, IsInFrame, CopyIsJustified, grown}
-use Rattle.gt_core.proofs.Words.{DomainsStand, FramesStand, Agrees, OpenAgrees, FitsGiven, begun_element, le-leb}
+use Rattle.gt_core.proofs.Words.{DomainsStand, FramesStand, StateStands, OpenAgrees, FitsGiven, begun_element, le-leb}
 use Rattle.gt_core.proofs.Words.{unwrap_or, overlay, replay, zeros, FrameState, patch_of, patches, permits_writing}
 use Rattle.gt_core.proofs.Words.{suffices, all_rightful, pool_number, frames_of_all, is_name, has_frame, admits}
-use Rattle.gt_core.proofs.Words.{WritesTo, journal_in, name_of, ground_of, begun_route, route_of, IsWritOf, FrameName}
+use Rattle.gt_core.proofs.Words.{WritesTo, journal_in, frame_name_at, ground_of, begun_route, route_of, IsWritOf}
+use Rattle.gt_core.proofs.Words.{FrameName}
 use Rattle.gt_core.proofs.Words.{Writ, WriteRecord, BegunBusy, BegunNoDomain, cond_both}
 use Rattle.gt_core.proofs.{Starting.get-replicate, Steps.Observers.stepped, Phases.call-is, Phases.none-of}
 use Rattle.gt_core.proofs.{Steps.Access.permits-as, Steps.Access.mapping-pin, Steps.Access.same-held}
@@ -31,15 +33,15 @@ bytes-held s h fs dom frame off len fr = let size : off + len - off ≡ len = om
     ap (λ (ps : List Patch). take (off + len - off) (drop off (written ps))) (fr.writes (record { owner = dom; number = frame }))
     ∙ ap (λ (n : ℕ). take n (drop off (contents_at h dom.0 frame))) size
 
-frame-numbered : (ds : List DomainConfig) (t : DomId) (f at : ℕ) → f < frames_of ds t → is_some (pool_number (frame_counts ds) t f at) ≡ true
+frame-numbered : (ds : List DomainConfig) (t : DomId) (f at : ℕ) → f < frame_count_of ds t → is_some (pool_number (frame_counts ds) t f at) ≡ true
 frame-numbered [] t f at below = absurd (omega arith)
 frame-numbered (d ∷ ds) t f at below = grind (arith, frame-numbered ds t f (at + d.frames))
 
-frame-there : (s : Setting) (h : History) (fs : FrameSet) (name : FrameName) → FramesStand s h fs → name.number < frames_of s.domains name.owner → has_frame fs name ≡ true
+frame-there : (s : Setting) (h : History) (fs : FrameSet) (name : FrameName) → FramesStand s h fs → name.number < frame_count_of s.domains name.owner → has_frame fs name ≡ true
 frame-there s h fs name fr below = grind (arith, frame-numbered)
 
-range-there : (s : Setting) (h : History) (fs : FrameSet) (at : Place) (len : ℕ) → FramesStand s h fs → IsInFrame s at len → IsTrue (has_range fs (name_of at) at.off len)
-range-there s h fs at len fr a = and_from _ _ (frame-there s h fs (name_of at) fr a.0) (le-leb (at.off + len) FRAME_SIZE a.1)
+range-there : (s : Setting) (h : History) (fs : FrameSet) (at : Place) (len : ℕ) → FramesStand s h fs → IsInFrame s at len → IsTrue (has_range fs (frame_name_at at) at.off len)
+range-there s h fs at len fr a = and_from _ _ (frame-there s h fs (frame_name_at at) fr a.0) (le-leb (at.off + len) FRAME_SIZE a.1)
 
 -- writs
 
@@ -58,7 +60,7 @@ admitted-by : (fs : FrameSet) (x : State) (call : Call) (name : FrameName) (off 
 admitted-by fs x call name off len route there within is right w of_call = grind arith
 
 -- what the next step of an open call writes is by right
-pub open-admitted : (s : Setting) (h : History) (xs : List State) (fs : FrameSet) (x : State) (o : Open) (c : Underway) → DomainsStand s h xs → FramesStand s h fs → Agrees s h x → open_call h x.id.0 ≡ Some c → OpenAgrees s h x.id o c
+pub open-admitted : (s : Setting) (h : History) (xs : List State) (fs : FrameSet) (x : State) (o : Open) (c : Underway) → DomainsStand s h xs → FramesStand s h fs → StateStands s h x → open_call h x.id.0 ≡ Some c → OpenAgrees s h x.id o c
     → IsAdmitted fs x o.call o.step
 open-admitted s h xs fs x o c st fr a call here = subst (λ (z : Call). IsAdmitted fs x z o.step) (sym (call-is o.call x.id c.request here.phase here.caller here.asks here.here)) (by o.step here.rests) where
   k : CallerKnowledge
@@ -82,7 +84,7 @@ open-admitted s h xs fs x o c st fr a call here = subst (λ (z : Call). IsAdmitt
       let held : value_of x.mappings handle ≡ Some m = ap (λ (f : Handle → Option Held). f handle) a.mappings.named ∙ mapped.found in
       let fits : FitsGiven (Store handle off len) x.given = subst (λ (q : Asked). FitsGiven q x.given) is given in
       let within : off + length x.given ≤ FRAME_SIZE = let e = fits.0 in let room = fits.1 in omega arith in
-      let below : frame < frames_of s.domains dom = subst (λ (n : ℕ). n < frames_of s.domains dom) (sym mapped.of_frame) (subst (λ (z : DomId). frame_of m.entry < frames_of s.domains z) (sym mapped.of_dom) one.lets.2) in
+      let below : frame < frame_count_of s.domains dom = subst (λ (n : ℕ). n < frame_count_of s.domains dom) (sym mapped.of_frame) (subst (λ (z : DomId). frame_of m.entry < frame_count_of s.domains z) (sym mapped.of_dom) one.lets.2) in
       admitted-by fs x now (record { owner = dom; number = frame }) off (length x.given) (Direct m)
       (frame-there s h fs (record { owner = dom; number = frame }) fr below) within (ap (λ (q : Asked). route_of x.mappings (asked_so q)) is ∙ ap begun_route held)
       (map-writes m.entry x.id frame off (length x.given) mapped.of_frame (permits-as m.entry x.id m.dir Write off (length x.given) (λ w. writable) one.lets.0))
@@ -90,7 +92,7 @@ open-admitted s h xs fs x o c st fr a call here = subst (λ (z : Call). IsAdmitt
       let fits : FitsGiven (Poke frame off len) x.given = subst (λ (q : Asked). FitsGiven q x.given) is given in
       let within : off + length x.given ≤ FRAME_SIZE = let e = fits.0 in let room = fits.1 in omega arith in
       admitted-by fs x now (record { owner = dom; number = frame }) off (length x.given) Own
-      (frame-there s h fs (record { owner = dom; number = frame }) fr (subst (λ (z : DomId). frame < frames_of s.domains z) (sym own) o.framed)) within (ap (λ (q : Asked). route_of x.mappings (asked_so q)) is)
+      (frame-there s h fs (record { owner = dom; number = frame }) fr (subst (λ (z : DomId). frame < frame_count_of s.domains z) (sym own) o.framed)) within (ap (λ (q : Asked). route_of x.mappings (asked_so q)) is)
       (eq-eqb x.id.0 dom.0 (ap (λ (z : DomId). z.0) (sym own)))
 
   -- a copy writes by the pins of its destination
@@ -101,7 +103,7 @@ open-admitted s h xs fs x o c st fr a call here = subst (λ (z : Call). IsAdmitt
       let right : suffices (ground_of pins.dest) x.id t.owner t.frame t.off c'.len ≡ true = way-covers k x.id (is_dest_granted c') c'.dest c'.len (dest_pair x.id pins.source) pins.dest w.dest_reached in
       let right_to : suffices (ground_of pins.dest) x.id to.owner to.frame to.off len ≡ true = subst (λ (z : Place). suffices (ground_of pins.dest) x.id z.owner z.frame z.off len ≡ true) (sym w.to_is)
       (subst (λ (n : ℕ). suffices (ground_of pins.dest) x.id t.owner t.frame t.off n ≡ true) (sym w.len_is) right) in
-      (range-there s h fs from len fr inside.0, admitted-by fs x now (name_of to) to.off len pins.dest (frame-there s h fs (name_of to) fr inside.1.0) inside.1.1 (ap (λ (q : Asked). route_of x.mappings (asked_so q)) w.of_copy) right_to)
+      (range-there s h fs from len fr inside.0, admitted-by fs x now (frame_name_at to) to.off len pins.dest (frame-there s h fs (frame_name_at to) fr inside.1.0) inside.1.1 (ap (λ (q : Asked). route_of x.mappings (asked_so q)) w.of_copy) right_to)
 
   by : (step : Step) → Rests k x.id c.request (pins_at here.phase) (values c) (Makes step) → IsAdmitted fs x now step
   by (WriteBytes dom frame off len) r = writes dom frame off len r.0 r.1
@@ -141,7 +143,7 @@ filled-by h fs writes kept t f = let name : FrameName = record { owner = record 
 -- one item more
 
 -- what the item writes
-abbrev WritingOf : Item → History → Option Writing
+abbrev WritingOf : Item → History → Option WriteMade
 WritingOf i h = written_by i.happened (given_in (open_call h i.actor.0)) (λ u g. written (patches_at h u g))
 
 patches-more : (i : Item) (h : History) (t f : ℕ) → patches_at (i ∷ h) t f ≡ patches_at h t f ++ patches_by (WritingOf i h) t f
@@ -153,22 +155,22 @@ nothing-written : (s : Setting) (h : History) (fs : FrameSet) (i : Item) → Wri
 nothing-written s h fs i none fr = grind (arith, filled-by, append-nil, patches-more)
 
 -- an item that writes these bytes to a frame by this writ
-written-once : (s : Setting) (h : History) (fs gs : FrameSet) (i : Item) (at : Place) (w : Writ) (bytes : List ℕ) → WritingOf i h ≡ Some (record { at = at; bytes = bytes }) → FramesStand s h fs → WritesTo fs gs (name_of at) w at.off bytes → AreKept gs
+written-once : (s : Setting) (h : History) (fs gs : FrameSet) (i : Item) (at : Place) (w : Writ) (bytes : List ℕ) → WritingOf i h ≡ Some (record { at = at; bytes = bytes }) → FramesStand s h fs → WritesTo fs gs (frame_name_at at) w at.off bytes → AreKept gs
     → FramesStand s (i ∷ h) gs
 written-once s h fs gs i at w bytes wrote fr to kept = record { counts = to.domains ∙ fr.counts; writes = writes; kept = kept; filled = filled-by (i ∷ h) gs writes kept }
   where
     patch : Patch
     patch = record { off = at.off; bytes = bytes }
 
-    elsewhere : (name : FrameName) → is_name name (name_of at) ≡ false → patches (frame_at gs name).journal ≡ patches_at h name.owner.0 name.number ++ []
+    elsewhere : (name : FrameName) → is_name name (frame_name_at at) ≡ false → patches (frame_at gs name).journal ≡ patches_at h name.owner.0 name.number ++ []
     elsewhere name apart = ap (λ (z : FrameState). patches z.journal) (to.others name apart) ∙ fr.writes name ∙ sym (append-nil (patches_at h name.owner.0 name.number))
 
-    here : patches (frame_at gs (name_of at)).journal ≡ patches_at h at.owner.0 at.frame ++ patch ∷ []
+    here : patches (frame_at gs (frame_name_at at)).journal ≡ patches_at h at.owner.0 at.frame ++ patch ∷ []
     here = ap (λ (z : FrameState). patches z.journal) to.write.journal
-        ∙ map-append patch_of (frame_at fs (name_of at)).journal (record { writ = w; off = at.off; bytes = bytes } ∷ [])
-        ∙ ap (λ (ps : List Patch). ps ++ patch ∷ []) (fr.writes (name_of at))
+        ∙ map-append patch_of (frame_at fs (frame_name_at at)).journal (record { writ = w; off = at.off; bytes = bytes } ∷ [])
+        ∙ ap (λ (ps : List Patch). ps ++ patch ∷ []) (fr.writes (frame_name_at at))
 
-    named : (name : FrameName) → at.owner.0 ≡ name.owner.0 → at.frame ≡ name.number → name_of at ≡ name
+    named : (name : FrameName) → at.owner.0 ≡ name.owner.0 → at.frame ≡ name.number → frame_name_at at ≡ name
     named name a b = ap (λ (n : ℕ). record { owner = record { 0 = n }; number = at.frame }) a ∙ ap (λ (n : ℕ). record { owner = name.owner; number = n }) b
 
     swap : (a b : ℕ) → (a == b) ≡ (b == a)
@@ -180,7 +182,7 @@ written-once s h fs gs i at w bytes wrote fr to kept = record { counts = to.doma
         (λ is. let e = and_parts (at.owner.0 == name.owner.0) (at.frame == name.number) is in
         subst (λ (z : FrameName). patches (frame_at gs z).journal ≡ patches_at h z.owner.0 z.number ++ patch ∷ []) (named name (eqb-true at.owner.0 name.owner.0 e.0) (eqb-true at.frame name.number e.1)) here)
         (λ off. elsewhere name (ap (λ (b : Bool). b && (name.number == at.frame)) (swap name.owner.0 at.owner.0) ∙ ap (λ (b : Bool). (at.owner.0 == name.owner.0) && b) (swap name.number at.frame) ∙ off))
-        ∙ ap (λ (z : Option Writing). was ++ patches_by z name.owner.0 name.number) (sym wrote) ∙ sym (patches-more i h name.owner.0 name.number)
+        ∙ ap (λ (z : Option WriteMade). was ++ patches_by z name.owner.0 name.number) (sym wrote) ∙ sym (patches-more i h name.owner.0 name.number)
 
 -- the frames after a step, which wrote what its call was given or what its source held
 pub frames-stepped : (s : Setting) (h : History) (fs gs : FrameSet) (x : State) (call : Call) (step : Step) (seen : Seen) (answer : Option Answer) (c : Underway) → open_call h x.id.0 ≡ Some c → x.given ≡ c.given → FramesStand s h fs → AccessedBy x call step fs gs
@@ -191,7 +193,7 @@ frames-stepped s h fs gs x call step seen answer c under given fr = by step wher
       written-once s h fs gs (stepped x.id (WriteBytes dom frame off len) seen answer) (record { owner = dom; frame = frame; off = off }) a.0 x.given
       (ap (λ (u : Option Underway). Some (record { at = record { owner = dom; frame = frame; off = off }; bytes = given_in u })) under ∙ ap (λ (l : List ℕ). Some (record { at = record { owner = dom; frame = frame; off = off }; bytes = l })) (sym given)) fr a.2 a.3
   by (CopyBytes from to len) a =
-      written-once s h fs gs (stepped x.id (CopyBytes from to len) seen answer) to a.0 (bytes_at (frame_at fs (name_of from)) from.off len)
+      written-once s h fs gs (stepped x.id (CopyBytes from to len) seen answer) to a.0 (bytes_at (frame_at fs (frame_name_at from)) from.off len)
       (ap (λ (l : List ℕ). Some (record { at = to; bytes = l })) (sym (bytes-held s h fs from.owner from.frame from.off len fr))) fr a.2 a.3
   by z a = subst (FramesStand s (stepped x.id z seen answer ∷ h)) (sym a) (nothing-written s h fs (stepped x.id z seen answer) refl fr)
 

@@ -4,10 +4,10 @@ ghost use Rattle.gt_types.specs.declared.Dir.TheVariants as dirs;
 ghost use Rattle.gt_types.specs.declared.Use.TheVariants as uses;
 ghost use Rattle.gt_words.specs.Conditions.{IsSameSeat, IsSeatOf};
 ghost use Rattle.gt_access.specs.Accesses.{IsReadOf, writing_at};
-ghost use Rattle.gt_access.specs.Routes.{MayAccess, Reaches};
+ghost use Rattle.gt_access.specs.Routes.{MayAccessBy, ReachesBy};
 ghost use Rattle.gt_calls.specs.declared.request.Request.TheVariants as requests;
 ghost use Rattle.gt_live.specs.Accesses.{IsOfAccess, IsReadBy, IsWrittenBy};
-ghost use Rattle.gt_live.specs.Domains.{Accesses, IsOf, KeepsPinned, not_made};
+ghost use Rattle.gt_live.specs.Domains.{Accesses, BelongsTo, KeepsPinned, not_made};
 ghost use Rattle.gt_live.specs.Visiting.{HasVisited, WasRead, WasWritten};
 
 use super::{Domain, refusal_of};
@@ -44,8 +44,8 @@ fn read_through<R: Wait, P: Allows>(
     len: u16,
 ) -> Result<Read, Denial>
     requires seat { IsSeatOf monitor.now.words seat.now }
-    requires reached { Reaches monitor.now.words.layout seat.now dirs.Read uses.Map name off len route.now }
-    requires may { MayAccess monitor.now.config.domains.items (P.may monitor.now.rights) seat.now.dom route.now }
+    requires reached { ReachesBy monitor.now.words.layout seat.now dirs.Read uses.Map name off len route.now }
+    requires may { MayAccessBy monitor.now.config.domains.items (P.may monitor.now.rights) seat.now.dom route.now }
     requires range { off + len ≤ 4096 }
     ensures read { IfOk result (λ r. IsReadOf r name off len) }
     ensures refused { IfErr result IsOfAccess }
@@ -88,9 +88,9 @@ fn write_through<'a, R: Wait, P: Allows>(
     bytes: &'a [u8],
 ) -> Result<Written<'a>, Denial>
     requires seat { IsSeatOf monitor.now.words seat.now }
-    requires reached { Reaches monitor.now.words.layout seat.now dirs.Write uses.Map
+    requires reached { ReachesBy monitor.now.words.layout seat.now dirs.Write uses.Map
         name off (length bytes.now) route.now }
-    requires may { MayAccess monitor.now.config.domains.items (P.may monitor.now.rights) seat.now.dom route.now }
+    requires may { MayAccessBy monitor.now.config.domains.items (P.may monitor.now.rights) seat.now.dom route.now }
     requires range { off + length bytes.now ≤ 4096 }
     ensures written { IfOk result (λ r. r ≡ writing_at name off bytes.entry.now seat.now.dom) }
     ensures refused { IfErr result IsOfAccess }
@@ -121,8 +121,8 @@ impl Domain {
         off: u16,
         len: u16,
     ) -> Result<Read, Denial>
-        requires mine { IsOf P.may monitor.now self.old }
-        ensures mine { IsOf P.may monitor.now self.new }
+        requires mine { BelongsTo P.may monitor.now self.old }
+        ensures mine { BelongsTo P.may monitor.now self.new }
         ensures seat { IsSameSeat self.old.seat self.new.seat }
         ensures answered { Accesses P.may monitor.now self.old (requests.Load handle off len) IsReadBy result self.new }
         ensures kept { KeepsPinned self.old self.new }
@@ -154,8 +154,8 @@ impl Domain {
         off: u16,
         len: u16,
     ) -> Result<Read, Denial>
-        requires mine { IsOf P.may monitor.now self.old }
-        ensures mine { IsOf P.may monitor.now self.new }
+        requires mine { BelongsTo P.may monitor.now self.old }
+        ensures mine { BelongsTo P.may monitor.now self.new }
         ensures seat { IsSameSeat self.old.seat self.new.seat }
         ensures answered { Accesses P.may monitor.now self.old (requests.Peek frame off len) IsReadBy result self.new }
         ensures kept { KeepsPinned self.old self.new }
@@ -197,8 +197,8 @@ impl Domain {
         off: u16,
         bytes: &'a [u8],
     ) -> Result<Written<'a>, Denial>
-        requires mine { IsOf P.may monitor.now self.old }
-        ensures mine { IsOf P.may monitor.now self.new }
+        requires mine { BelongsTo P.may monitor.now self.old }
+        ensures mine { BelongsTo P.may monitor.now self.new }
         ensures seat { IsSameSeat self.old.seat self.new.seat }
         ensures answered { Accesses P.may monitor.now self.old
             (requests.Store handle off bytes.entry) (IsWrittenBy self.old.seat.dom bytes.entry.now) result self.new }
@@ -231,8 +231,8 @@ impl Domain {
         off: u16,
         bytes: &'a [u8],
     ) -> Result<Written<'a>, Denial>
-        requires mine { IsOf P.may monitor.now self.old }
-        ensures mine { IsOf P.may monitor.now self.new }
+        requires mine { BelongsTo P.may monitor.now self.old }
+        ensures mine { BelongsTo P.may monitor.now self.new }
         ensures seat { IsSameSeat self.old.seat self.new.seat }
         ensures answered { Accesses P.may monitor.now self.old
             (requests.Poke frame off bytes.entry) (IsWrittenBy self.old.seat.dom bytes.entry.now) result self.new }

@@ -5,14 +5,14 @@ ghost use Rattle.gt_types.specs.declared.Use.TheVariants as uses;
 ghost use Rattle.gt_words.specs.Conditions.{IsSameSeat, IsSeatOf};
 ghost use Rattle.gt_words.specs.declared.view.View.{View};
 ghost use Rattle.gt_access.specs.Accesses.{copying_at};
-ghost use Rattle.gt_access.specs.Routes.{MayCopy, Reaches};
+ghost use Rattle.gt_access.specs.Routes.{MayCopyBy, ReachesBy};
 ghost use Rattle.gt_audit.specs.Telling.{Tells};
 ghost use Rattle.gt_calls.specs.declared.action.Verdict.TheVariants.{Refused};
 ghost use Rattle.gt_calls.specs.declared.request.Request.TheVariants as requests;
 ghost use Rattle.gt_calls.specs.Holding.{last_first, no_pins};
 ghost use Rattle.gt_calls.specs.Rules.{copy_begun};
 ghost use Rattle.gt_live.specs.Accesses.{IsCopiedBy, IsOfAccess, spot_of};
-ghost use Rattle.gt_live.specs.Domains.{Accesses, Answered, IsOf, IsUnsettled, KeepsPinned, known};
+ghost use Rattle.gt_live.specs.Domains.{Accesses, Answered, BelongsTo, IsUnsettled, KeepsPinned, known_on};
 ghost use Rattle.gt_live.specs.Domains.{told_copy, told_end};
 ghost use Rattle.gt_live.specs.Halves.{copy_told};
 ghost use Rattle.gt_live.specs.Copies.{StopsSo, filled, halfway_with};
@@ -70,11 +70,11 @@ fn copy_through<R: Wait, P: Allows>(
     len: u16,
 ) -> Result<Copied, Denial>
     requires seat { IsSeatOf monitor.now.words seat.now }
-    requires source { Reaches monitor.now.words.layout seat.now dirs.Read uses.Copy
+    requires source { ReachesBy monitor.now.words.layout seat.now dirs.Read uses.Copy
         (spot_of from).frame from.off len routes.now.source }
-    requires dest { Reaches monitor.now.words.layout seat.now dirs.Write uses.Copy
+    requires dest { ReachesBy monitor.now.words.layout seat.now dirs.Write uses.Copy
         (spot_of to).frame to.off len routes.now.dest }
-    requires may { MayCopy monitor.now.config.domains.items (P.may monitor.now.rights) seat.now.dom routes.now }
+    requires may { MayCopyBy monitor.now.config.domains.items (P.may monitor.now.rights) seat.now.dom routes.now }
     requires source_range { from.off + len ≤ 4096 }
     requires dest_range { to.off + len ≤ 4096 }
     ensures copied { IfOk result (λ r. r ≡ copying_at (spot_of from) (spot_of to) len seat.now.dom) }
@@ -153,7 +153,7 @@ fn copy_told(copy: CopyArgs) -> Hypercall
 impl Domain {
     // The verdict at the beginning of a copy, if one is given there.
     fn judge_copy<P: Allows>(&self, monitor: &Monitor<P>, copy: &CopyArgs) -> Option<Verdict>
-        ensures { result ≡ copy_begun (known P.may monitor.now self.now) self.now.seat.dom copy.now }
+        ensures { result ≡ copy_begun (known_on P.may monitor.now self.now) self.now.seat.dom copy.now }
     {
         judge_copy(&self.known(monitor), self.seat.dom(), copy)
     }
@@ -165,11 +165,11 @@ impl Domain {
         copy: &CopyArgs,
         pins: &mut Pins,
     ) -> Result<(), Denial>
-        requires mine { IsOf P.may monitor.now self.old }
+        requires mine { BelongsTo P.may monitor.now self.old }
         requires none { pins.old ≡ no_pins }
-        requires unanswered { copy_begun (known P.may monitor.now self.old) self.old.seat.dom copy.now ≡ None }
+        requires unanswered { copy_begun (known_on P.may monitor.now self.old) self.old.seat.dom copy.now ≡ None }
         ensures kept { IsUnsettled self.old self.new }
-        ensures stops { StopsSo (known P.may monitor.now self.old) monitor.now.words.layout
+        ensures stops { StopsSo (known_on P.may monitor.now self.old) monitor.now.words.layout
             self.old.seat.dom copy.now (filled result pins.new) self.old.seat.view self.new.seat.view }
     {
         let known = Known {
@@ -202,8 +202,8 @@ impl Domain {
         monitor: &Monitor<P>,
         copy: &CopyArgs,
     ) -> Result<Copied, Denial>
-        requires mine { IsOf P.may monitor.now self.old }
-        ensures mine { IsOf P.may monitor.now self.new }
+        requires mine { BelongsTo P.may monitor.now self.old }
+        ensures mine { BelongsTo P.may monitor.now self.new }
         ensures seat { IsSameSeat self.old.seat self.new.seat }
         ensures answered { Accesses P.may monitor.now self.old
             (requests.Copy copy.now) (IsCopiedBy self.old.seat.dom) result self.new }
@@ -240,8 +240,8 @@ impl Domain {
         monitor: &Monitor<P>,
         copy: &CopyArgs,
     ) -> Result<Copied, Denial>
-        requires mine { IsOf P.may monitor.now self.old }
-        ensures mine { IsOf P.may monitor.now self.new }
+        requires mine { BelongsTo P.may monitor.now self.old }
+        ensures mine { BelongsTo P.may monitor.now self.new }
         ensures seat { IsSameSeat self.old.seat self.new.seat }
         ensures answered { Accesses P.may monitor.now self.old
             (requests.Copy copy.now) (IsCopiedBy self.old.seat.dom) result self.new }
@@ -268,9 +268,9 @@ impl Domain {
         monitor: &Monitor<P>,
         copy: &CopyArgs,
     ) -> Result<Halfway, Denial>
-        requires mine { IsOf P.may monitor.now self.old }
+        requires mine { BelongsTo P.may monitor.now self.old }
         ensures comes { IfOk result (λ h. ComesHalfway P.may monitor.now self.old copy.now h self.new) }
-        ensures mine { OnErr result (IsOf P.may monitor.now self.new) }
+        ensures mine { OnErr result (BelongsTo P.may monitor.now self.new) }
         ensures refused { IfErr result
             (λ denial. Answered P.may monitor.now self.old (requests.Copy copy.now) (Refused denial) self.new) }
         ensures kept { OnErr result (KeepsPinned self.old self.new) }
@@ -300,9 +300,9 @@ impl Domain {
         monitor: &Monitor<P>,
         copy: &CopyArgs,
     ) -> Result<Halfway, Denial>
-        requires mine { IsOf P.may monitor.now self.old }
+        requires mine { BelongsTo P.may monitor.now self.old }
         ensures comes { IfOk result (λ h. ComesHalfway P.may monitor.now self.old copy.now h self.new) }
-        ensures mine { OnErr result (IsOf P.may monitor.now self.new) }
+        ensures mine { OnErr result (BelongsTo P.may monitor.now self.new) }
         ensures refused { IfErr result
             (λ denial. Answered P.may monitor.now self.old (requests.Copy copy.now) (Refused denial) self.new) }
         ensures kept { OnErr result (KeepsPinned self.old self.new) }
@@ -328,7 +328,7 @@ impl Domain {
     // Gives back the pins of a copy at its access, without a record.
     fn end_halfway<P: Allows>(&mut self, monitor: &Monitor<P>, halfway: Halfway)
         requires halfway { IsHalfway P.may monitor.now halfway self.old }
-        ensures mine { IsOf P.may monitor.now self.new }
+        ensures mine { BelongsTo P.may monitor.now self.new }
         ensures ends { EndsHalfway monitor.now.words.layout halfway self.old self.new }
         ensures silent { self.new.trail ≡ self.old.trail }
         ensures untouched { self.new.visits ≡ self.old.visits }
@@ -340,7 +340,7 @@ impl Domain {
     /// The second half of a copy: its pins are given back, the last one first, and its record is kept.
     pub fn copy_end<P: Allows>(&mut self, monitor: &Monitor<P>, halfway: Halfway)
         requires halfway { IsHalfway P.may monitor.now halfway self.old }
-        ensures mine { IsOf P.may monitor.now self.new }
+        ensures mine { BelongsTo P.may monitor.now self.new }
         ensures ends { EndsHalfway monitor.now.words.layout halfway self.old self.new }
         ensures told { Tells self.old.trail (done_copy self.old halfway.copy) self.new.trail }
         ensures untouched { self.new.visits ≡ self.old.visits }

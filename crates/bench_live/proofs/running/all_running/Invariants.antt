@@ -1,12 +1,12 @@
 use Rattle.std.proofs.Common.{◌+◌, ◌≤◌, vec_len, All}
 use Rattle.std.specs.Prelude.{vec_capacity}
 use Rattle.std.specs.Vec.Iter.{into_iter_items, into_iter_len}
-use Rattle.gt_live.specs.Domains.{IsOf}
+use Rattle.gt_live.specs.Domains.{BelongsTo}
 use Rattle.bench_live.proofs.running.all_running.Given as goal
 
 abbrev pub invariant-rest : goal.invariant-rest
 invariant-rest g l =
-    All (λ d. IsOf g.P.Allows.may l.monitor d) (into_iter_items l.rest)
+    All (λ d. BelongsTo g.P.Allows.may l.monitor d) (into_iter_items l.rest)
     × (vec_len l.all + into_iter_len l.rest ≤ vec_capacity l.all)
 
 abbrev pub decreases-rest : goal.decreases-rest

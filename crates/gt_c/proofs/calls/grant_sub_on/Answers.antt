@@ -4,7 +4,7 @@ use Rattle.gt_live.specs.Domains.{Answered, verdict_of}
 use Rattle.gt_seat.specs.Encoding.{encoded}
 use Rattle.gt_calls.specs.declared.request.Request.TheVariants as requests
 use Rattle.gt_c.specs.Asking.{sub}
-use Rattle.gt_c.specs.Calling.{SaysDone, at, may}
+use Rattle.gt_c.specs.Calling.{SaysDone, ref_at, may}
 use Rattle.gt_c.proofs.Made.{idle-there, made}
 use Rattle.gt_c.proofs.calls.grant_sub_on.Goals as goal
 
@@ -13,10 +13,10 @@ grant-requires c = record { idle = idle-there c.deref_mut.ensures.value c.in-Ok.
 
 pub returns : goal.returns
 returns c =
-    made c.of-answer.result (SaysDone (requests.Grant (at c.args.gref) (sub c.args.to c.args.frame c.args.off c.args.len c.args.ro)) c.of-answer.result) c.deref_mut.ensures.value c.in-Ok.ensures.ok.0 c.put.ensures.1 c.in-Ok.ensures.ok.2
+    made c.of-answer.result (SaysDone (requests.Grant (ref_at c.args.gref) (sub c.args.to c.args.frame c.args.off c.args.len c.args.ro)) c.of-answer.result) c.deref_mut.ensures.value c.in-Ok.ensures.ok.0 c.put.ensures.1 c.in-Ok.ensures.ok.2
     (record {
       result = c.grant.result;
       encodes = c.of-answer.ensures ∙ ap encoded c.done.ensures;
       stays = c.grant.ensures.stays;
-      holds = (subst (λ (y : Entry). Answered may c.deref_mut.result.now.guest.monitor c.deref_mut.result.now.guest.domain (requests.Grant (at c.args.gref) y) (verdict_of c.grant.result) c.grant.new.self.domain) c.sub.ensures c.grant.ensures.answered, c.grant.ensures.kept, c.grant.ensures.silent);
+      holds = (subst (λ (y : Entry). Answered may c.deref_mut.result.now.guest.monitor c.deref_mut.result.now.guest.domain (requests.Grant (ref_at c.args.gref) y) (verdict_of c.grant.result) c.grant.new.self.domain) c.sub.ensures c.grant.ensures.answered, c.grant.ensures.kept, c.grant.ensures.silent);
     })

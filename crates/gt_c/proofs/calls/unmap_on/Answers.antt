@@ -2,7 +2,7 @@ use Rattle.std.proofs.Common.{ap, ◌∙◌}
 use Rattle.gt_seat.specs.Encoding.{encoded}
 use Rattle.gt_calls.specs.declared.request.Request.TheVariants as requests
 use Rattle.gt_audit.specs.declared.record.Hypercall.TheVariants as hypercalls
-use Rattle.gt_c.specs.Asking.{name_of}
+use Rattle.gt_c.specs.Asking.{name_of_handle}
 use Rattle.gt_c.specs.Calling.{SaysUnmapped}
 use Rattle.gt_c.proofs.Made.{idle-there, made}
 use Rattle.gt_c.proofs.calls.unmap_on.Goals as goal
@@ -12,7 +12,7 @@ unmap-told-requires c = record { idle = idle-there c.deref_mut.ensures.value c.i
 
 pub returns : goal.returns
 returns c =
-    made c.of.result (SaysUnmapped (requests.Unmap (name_of c.args.name)) hypercalls.Unmap (name_of c.args.name) c.of.result) c.deref_mut.ensures.value c.in-Ok.ensures.ok.0 c.put.ensures.1 c.in-Ok.ensures.ok.2
+    made c.of.result (SaysUnmapped (requests.Unmap (name_of_handle c.args.name)) hypercalls.Unmap (name_of_handle c.args.name) c.of.result) c.deref_mut.ensures.value c.in-Ok.ensures.ok.0 c.put.ensures.1 c.in-Ok.ensures.ok.2
     (record {
       result = c.unmap-told.result;
       encodes = c.of.ensures ∙ ap encoded c.done.ensures;

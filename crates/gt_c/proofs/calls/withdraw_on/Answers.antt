@@ -1,7 +1,7 @@
 use Rattle.std.proofs.Common.{ap, ◌∙◌}
 use Rattle.gt_seat.specs.Encoding.{encoded}
 use Rattle.gt_calls.specs.declared.request.Request.TheVariants as requests
-use Rattle.gt_c.specs.Calling.{SaysDone, at}
+use Rattle.gt_c.specs.Calling.{SaysDone, ref_at}
 use Rattle.gt_c.proofs.Made.{idle-there, made}
 use Rattle.gt_c.proofs.calls.withdraw_on.Goals as goal
 
@@ -10,7 +10,7 @@ withdraw-requires c = record { idle = idle-there c.deref_mut.ensures.value c.in-
 
 pub returns : goal.returns
 returns c =
-    made c.of-answer.result (SaysDone (requests.Withdraw (at c.args.gref)) c.of-answer.result) c.deref_mut.ensures.value c.in-Ok.ensures.ok.0 c.put.ensures.1 c.in-Ok.ensures.ok.2
+    made c.of-answer.result (SaysDone (requests.Withdraw (ref_at c.args.gref)) c.of-answer.result) c.deref_mut.ensures.value c.in-Ok.ensures.ok.0 c.put.ensures.1 c.in-Ok.ensures.ok.2
     (record {
       result = c.withdraw.result;
       encodes = c.of-answer.ensures ∙ ap encoded c.done.ensures;

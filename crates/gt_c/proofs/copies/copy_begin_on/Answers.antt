@@ -1,7 +1,7 @@
 use Rattle.std.proofs.Common.{ap, subst, ◌∙◌}
 use Rattle.gt_calls.specs.declared.request.CopyArgs.{CopyArgs}
 use Rattle.gt_seat.specs.Encoding.{encoded}
-use Rattle.gt_seat.specs.Seated.{Begins}
+use Rattle.gt_seat.specs.Seated.{BeginsAccess}
 use Rattle.gt_c.specs.Calling.{may}
 use Rattle.gt_c.specs.Telling.{SaysBegun, copy_asked}
 use Rattle.gt_c.proofs.Made.{made}
@@ -14,5 +14,5 @@ returns c =
       result = c.copy_begin-result.result;
       encodes = c.of-answer.ensures ∙ ap encoded c.begun.ensures;
       told = c.places_told-places.ensures;
-      begins = subst (λ (a : CopyArgs). Begins may c.deref_mut.result.now.guest a c.copy_begin-result.result c.copy_begin-result.new.self) c.copy_asked.ensures c.copy_begin-result.ensures.begins;
+      begins = subst (λ (a : CopyArgs). BeginsAccess may c.deref_mut.result.now.guest a c.copy_begin-result.result c.copy_begin-result.new.self) c.copy_asked.ensures c.copy_begin-result.ensures.begins;
     })

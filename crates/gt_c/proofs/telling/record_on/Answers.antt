@@ -3,7 +3,7 @@ use Rattle.gt_seat.specs.Encoding.{encoded}
 use Rattle.gt_c.specs.declared.here.Here.{Here}
 use Rattle.std.specs.List.{slice_get}
 use Rattle.gt_audit.specs.declared.record.Record.{Record as Kept}
-use Rattle.gt_c.specs.Telling.{SaysRecord, outcome_present, record_told}
+use Rattle.gt_c.specs.Telling.{SaysRecord, outcome_present, kept_record}
 use Rattle.gt_c.proofs.Made.{made}
 use Rattle.gt_c.proofs.telling.record_on.Goals as goal
 
@@ -12,6 +12,6 @@ returns c =
     let found = c.record_at-found.ensures ∙ ap (λ (x : Here). slice_get x.guest.domain.trail.records c.args.index) c.deref.ensures in
     made c.of-answer.result (SaysRecord c.args.index c.record_told-kept.result c.of-answer.result) refl c.in-Ok.ensures.ok.0 c.put.ensures.1 c.in-Ok.ensures.ok.2 (
       c.of-answer.ensures ∙ ap encoded (c.present.ensures ∙ ap (λ (o : Option Kept). outcome_present o) found),
-      c.record_told-kept.ensures ∙ ap (λ (o : Option Kept). record_told o) found,
+      c.record_told-kept.ensures ∙ ap (λ (o : Option Kept). kept_record o) found,
       refl,
     )

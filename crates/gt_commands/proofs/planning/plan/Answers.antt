@@ -5,7 +5,7 @@ use Rattle.clap.specs.Faults.{fault_of, is_simple_and_free}
 use Rattle.clap.specs.Words.{Text, App, app_of, found_of, is_simple, rows_of, subcommand_of, subcommand_rows_of}
 use Rattle.clap.specs.declared.error.Error.{Error}
 use Rattle.clap.proofs.FaultLemmas.{failed_up}
-use Rattle.gt_commands.specs.Commands.{asked, asked_by_plan, gthost_app, refusals}
+use Rattle.gt_commands.specs.Commands.{request_in_words, asked_by_plan, gthost_app, refusals}
 use Rattle.gt_commands.proofs.Planned.{answers, found_sub, plan_of, refusal}
 use Rattle.gt_commands.proofs.Top.{gthost_is_simple}
 use Rattle.gt_commands.proofs.planning.plan.Goals as goal
@@ -17,7 +17,7 @@ returns-in_err-matches-clause-answers c =
     let app : app_of c.in_ok-command.command ≡ gthost_app = c.in_ok-command.ensures in
     let has : HasKind (fault_of gthost_app words) error =
     subst (λ (a : App). HasKind (fault_of a words) error) app (c.in_err-matches.ensures.kinds (ap is_simple_and_free app ∙ gthost_is_simple)) in
-    failed_up c.from_residual-in_err-matches.result error (λ p. asked_by_plan p ≡ asked (drop 1 words)) (refusals (asked (drop 1 words))) c.from_residual-in_err-matches.ensures.1
+    failed_up c.from_residual-in_err-matches.result error (λ p. asked_by_plan p ≡ request_in_words (drop 1 words)) (refusals (request_in_words (drop 1 words))) c.from_residual-in_err-matches.ensures.1
     (refusal words error has)
 
 passes_by : (app : App) (words : List Text) → app ≡ gthost_app → (is_simple_and_free app ≡ true → fault_of app words ≡ []) → fault_of gthost_app words ≡ []

@@ -1,5 +1,5 @@
 use Rattle.gt_core.proofs.Words.{◌≡◌, ℕ, List, length, sym, ap, ◌∙◌, subst, bytes_at, frame_at, admits, IsTrue}
-use Rattle.gt_core.proofs.Words.{FrameName, WritesTo, Step, name_of, State, IsAdmitted, AccessedBy}
+use Rattle.gt_core.proofs.Words.{FrameName, WritesTo, Step, frame_name_at, State, IsAdmitted, AccessedBy}
 use Rattle.gt_core.proofs.accesses.write_bytes.Goals as goal
 
 pub write-requires : goal.write-requires
@@ -26,7 +26,7 @@ pub returns-in_ok-copy-in-Copy-clause-accessed : goal.returns-in_ok-copy-in-Copy
 returns-in_ok-copy-in-Copy-clause-accessed c = let fs = c.args.frames.now in let new = c.copy.new.self in
     let w = c.writ-in-Copy.result in let from = c.spot.result in let to = c.spot-in-Copy.result in let n = c.in-Copy.len in
     let written = subst (λ (at : FrameName). WritesTo fs new at w to.off (bytes_at (frame_at fs from.frame) from.off n)) c.spot-in-Copy.ensures.frame c.in_ok-copy-in-Copy.ensures.written in
-    let there = subst (λ (off : ℕ). WritesTo fs new (name_of c.in-Copy.to) w off (bytes_at (frame_at fs from.frame) from.off n)) c.spot-in-Copy.ensures.off written in
-    let read = ap (λ (at : FrameName). bytes_at (frame_at fs at) from.off n) c.spot.ensures.frame ∙ ap (λ (off : ℕ). bytes_at (frame_at fs (name_of c.in-Copy.from)) off n) c.spot.ensures.off in
+    let there = subst (λ (off : ℕ). WritesTo fs new (frame_name_at c.in-Copy.to) w off (bytes_at (frame_at fs from.frame) from.off n)) c.spot-in-Copy.ensures.off written in
+    let read = ap (λ (at : FrameName). bytes_at (frame_at fs at) from.off n) c.spot.ensures.frame ∙ ap (λ (off : ℕ). bytes_at (frame_at fs (frame_name_at c.in-Copy.from)) off n) c.spot.ensures.off in
     subst (λ (z : Step). AccessedBy c.args.domain.now c.args.underway.call z fs new) (sym c.in-Copy.is)
-    (w, c.writ-in-Copy.ensures, subst (λ (l : List ℕ). WritesTo fs new (name_of c.in-Copy.to) w c.in-Copy.to.off l) read there, c.in_ok-copy-in-Copy.ensures.kept)
+    (w, c.writ-in-Copy.ensures, subst (λ (l : List ℕ). WritesTo fs new (frame_name_at c.in-Copy.to) w c.in-Copy.to.off l) read there, c.in_ok-copy-in-Copy.ensures.kept)

@@ -5,7 +5,7 @@ use Rattle.gt_calls.specs.Machine.{through_via}
 use Rattle.gt_calls.specs.Rules.{knows}
 use Rattle.gt_live.proofs.GivingBack.{can-last, last-given}
 use Rattle.gt_live.proofs.Reaching.{refused-runs, through-can, through-runs}
-use Rattle.gt_live.specs.Domains.{refusal_of}
+use Rattle.gt_live.specs.Domains.{denial_in}
 use Rattle.gt_live.proofs.routes.go_through.Goals as goal
 use Rattle.std.proofs.Common.{refl}
 
@@ -13,7 +13,7 @@ pub give_pin_back-requires-clause-can : goal.give_pin_back-requires-clause-can
 give_pin_back-requires-clause-can g c =
     let known = knows g.P.Allows.may c.args.known.now in let k = c.args.words.now.layout in
     let v = c.args.seat.now.view in let first = c.args.first.now in let can = c.requires.can in
-    let denial = refusal_of c.in-Some.verdict in
+    let denial = denial_in c.in-Some.verdict in
     can-last k known can.0 (through_via known can.1 first c.args.pair c.args.dom c.args.gref) v (pins_so_far can.1)
     denial c.args.via.now can.2.0 v can.2.1 can.3
     (refused-runs known k can.0 can.1 first c.args.pair c.args.dom c.args.gref c.in-Some.verdict denial v

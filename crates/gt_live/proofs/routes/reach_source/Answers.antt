@@ -5,7 +5,7 @@ use Rattle.gt_calls.specs.declared.copying.Aim.TheVariants.{Source}
 use Rattle.gt_calls.specs.declared.held.Route.TheVariants.{Through}
 use Rattle.gt_calls.specs.Machine.{through_via}
 use Rattle.gt_calls.specs.Rules.{knows}
-use Rattle.gt_live.specs.Copies.{after_source, source_leg}
+use Rattle.gt_live.specs.Copies.{phase_after_source, source_leg}
 use Rattle.gt_live.proofs.Phases.{can-then, runs-then}
 use Rattle.gt_live.proofs.Reaching.{no-via, source-can, source-reached, source-refused, source-via}
 use Rattle.gt_live.proofs.routes.reach_source.Goals as goal
@@ -45,7 +45,7 @@ returns-in-Ok-go_through-clause-goes g c =
     let x = source-via known k caller copy leg is v w p c.in-Via.dom c.in-Via.ro c.in-Via.dom2 c.in-Via.gref c.resolve-named.result
     c.in-Ok.ensures.walked c.in-Via.is (ap (λ (d : DomId). (c.in-Via.dom2, d)) c.resolve-named.ensures) in
     runs-then known k caller (source_leg known caller copy) there
-    (after_source known caller copy (Ok (Through p c.in-Ok-go_through.held))) v w c.go_through.new.seat.view x
+    (phase_after_source known caller copy (Ok (Through p c.in-Ok-go_through.held))) v w c.go_through.new.seat.view x
     (c.in-Ok-go_through.ensures.goes caller aim ([], refl))
 
 pub returns-in-Err-go_through-clause-goes : goal.returns-in-Err-go_through-clause-goes
@@ -58,7 +58,7 @@ returns-in-Err-go_through-clause-goes g c =
     let x = source-via known k caller copy leg is v w p c.in-Via.dom c.in-Via.ro c.in-Via.dom2 c.in-Via.gref c.resolve-named.result
     c.in-Ok.ensures.walked c.in-Via.is (ap (λ (d : DomId). (c.in-Via.dom2, d)) c.resolve-named.ensures) in
     runs-then known k caller (source_leg known caller copy) there
-    (after_source known caller copy (Err c.in-Err-go_through.denial)) v w c.go_through.new.seat.view x
+    (phase_after_source known caller copy (Err c.in-Err-go_through.denial)) v w c.go_through.new.seat.view x
     (c.in-Err-go_through.ensures.goes caller aim ([], refl))
 
 pub returns-in_default : goal.returns-in_default

@@ -1,9 +1,9 @@
 use Rattle.std.proofs.Common.{◌≡◌, take, map}
 use Rattle.std.specs.Prelude.{All}
-use Rattle.gt_replay.specs.Walking.{IsFirst}
+use Rattle.gt_replay.specs.Walking.{StartsWalk}
 use Rattle.gt_replay.proofs.replay.walkers_of.Given as goal
 
 abbrev pub invariant-domains : goal.invariant-domains
 invariant-domains l =
     (map (λ w. w.dom) l.walkers.items ≡ map (λ d. d.id) (take l.domain-index l.domains))
-    × All (IsFirst l.script.tasks) l.walkers.items
+    × All (StartsWalk l.script.tasks) l.walkers.items

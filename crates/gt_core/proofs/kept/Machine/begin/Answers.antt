@@ -1,5 +1,6 @@
 use Rattle.gt_core.proofs.Words.{sym, ◌∙◌, ap, Some, ◌≡◌, ℕ, List, refl, subst, None, Option, position, is_some, Open}
-use Rattle.gt_core.proofs.Words.{with_call, given_by, State, kept_by, ◌<◌, ◌+◌, knowledge_of, DomainsStand, Opens}
+use Rattle.gt_core.proofs.Words.{with_open_call, bytes_given_by, State, kept_by, ◌<◌, ◌+◌, knowledge_of, DomainsStand}
+use Rattle.gt_core.proofs.Words.{OpensAs}
 use Rattle.gt_core.proofs.Words.{same_Some, set, ◌∷◌, Opening, ◌^◌}
 use Rattle.gt_core.{proofs.Beginning.serial-left, proofs.Beginning.begin-wants, proofs.Beginning.begin-nowhere}
 use Rattle.gt_core.{proofs.Beginning.begin-busy, proofs.Beginning.begin-answers, proofs.Beginning.begin-opened}
@@ -24,7 +25,7 @@ returns-in-Done-clause-stands g c =
     let s = setting_by g.P.Allows.may c.args.self.now in let xs = c.args.self.now.domains.items in
     let p : position (has_id c.args.dom.0) xs ≡ Some c.in-Some.at = ap (λ (l : List State). position (has_id c.args.dom.0) l) (sym c.deref.ensures.value) ∙ sym c.find.ensures ∙ c.in-Some.is in
     let x = c.index.result.now in let k = knowledge_of s.domains s.first_generation s.may x.own x.header x.mappings in
-    let opens = subst (λ (o : Opening). Opens k c.args.dom c.args.request o) c.in-Done.is (c.open_at.ensures x (place-at xs c.args.dom.0 c.in-Some.at x p c.index.ensures)) in
+    let opens = subst (λ (o : Opening). OpensAs k c.args.dom c.args.request o) c.in-Done.is (c.open_at.ensures x (place-at xs c.args.dom.0 c.in-Some.at x p c.index.ensures)) in
     λ h st. let r = begin-answers s h xs c.args.dom c.in-Some.at x c.args.request c.in-Done.verdict c.answer_of.result c.answer_of.ensures p c.index.ensures (ap (λ (o : Option Open). is_some o) (sym c.underway.ensures) ∙ sym c.is_some.ensures ∙ c.if-is_some.false) opens st in
     ((r.0, (refl, refl), r.1), r.2)
 
@@ -33,12 +34,12 @@ returns-in_ok-begin-in-Open-clause-stands g c =
     let s = setting_by g.P.Allows.may c.args.self.now in let xs = c.args.self.now.domains.items in
     let p : position (has_id c.args.dom.0) xs ≡ Some c.in-Some.at = ap (λ (l : List State). position (has_id c.args.dom.0) l) (sym c.deref.ensures.value) ∙ sym c.find.ensures ∙ c.in-Some.is in
     let x = c.index.result.now in let k = knowledge_of s.domains s.first_generation s.may x.own x.header x.mappings in
-    let opens = subst (λ (o : Opening). Opens k c.args.dom c.args.request o) c.in-Open.is (c.open_at.ensures x (place-at xs c.args.dom.0 c.in-Some.at x p c.index.ensures)) in
+    let opens = subst (λ (o : Opening). OpensAs k c.args.dom c.args.request o) c.in-Open.is (c.open_at.ensures x (place-at xs c.args.dom.0 c.in-Some.at x p c.index.ensures)) in
     let y = c.index_mut.result.now in
     let same : x ≡ y = same_Some x y (sym (place-at xs c.args.dom.0 c.in-Some.at x p c.index.ensures) ∙ place-at xs c.args.dom.0 c.in-Some.at y p c.index_mut.ensures.value) in
     let r = c.in-Open.open.call.request in
-    let new : c.begin.new.self ≡ with_call c.in-Open.open (kept_by r (given_by c.args.request)) x =
-    c.in_ok-begin-in-Open.ensures.opened ∙ ap (with_call c.in-Open.open (kept_by r c.given_by.result.now)) (sym same) ∙ ap (λ (l : List ℕ). with_call c.in-Open.open (kept_by r l) x) c.given_by.ensures in
+    let new : c.begin.new.self ≡ with_open_call c.in-Open.open (kept_by r (bytes_given_by c.args.request)) x =
+    c.in_ok-begin-in-Open.ensures.opened ∙ ap (with_open_call c.in-Open.open (kept_by r c.given_by.result.now)) (sym same) ∙ ap (λ (l : List ℕ). with_open_call c.in-Open.open (kept_by r l) x) c.given_by.ensures in
     λ h st. let r = begin-opened s h xs c.args.dom c.in-Some.at x c.args.request c.in-Open.open c.asked_fits.ensures p c.index.ensures
     (ap (λ (o : Option Open). is_some o) (sym c.underway.ensures) ∙ sym c.is_some.ensures ∙ c.if-is_some.false) opens st in (
       (r.0, (refl, refl), r.1),
@@ -50,7 +51,7 @@ returns-in_err-begin-in-Open-clause-memory g c =
     let s = setting_by g.P.Allows.may c.args.self.now in let xs = c.args.self.now.domains.items in
     let p : position (has_id c.args.dom.0) xs ≡ Some c.in-Some.at = ap (λ (l : List State). position (has_id c.args.dom.0) l) (sym c.deref.ensures.value) ∙ sym c.find.ensures ∙ c.in-Some.is in
     let x = c.index.result.now in let k = knowledge_of s.domains s.first_generation s.may x.own x.header x.mappings in
-    let opens = subst (λ (o : Opening). Opens k c.args.dom c.args.request o) c.in-Open.is (c.open_at.ensures x (place-at xs c.args.dom.0 c.in-Some.at x p c.index.ensures)) in
+    let opens = subst (λ (o : Opening). OpensAs k c.args.dom c.args.request o) c.in-Open.is (c.open_at.ensures x (place-at xs c.args.dom.0 c.in-Some.at x p c.index.ensures)) in
     λ h st. on-err c.from_residual.result _ (begin-wants s h xs c.args.dom c.in-Some.at x c.args.request c.in-Open.open c.in_err-begin-in-Open.ensures.memory p c.index.ensures
     (ap (λ (o : Option Open). is_some o) (sym c.underway.ensures) ∙ sym c.is_some.ensures ∙ c.if-is_some.false) opens st)
 
@@ -58,7 +59,7 @@ pub begin-requires : goal.begin-requires
 begin-requires g c = let s = setting_by g.P.Allows.may c.args.self.now in let xs = c.args.self.now.domains.items in
     let p : position (has_id c.args.dom.0) xs ≡ Some c.in-Some.at = ap (λ (l : List State). position (has_id c.args.dom.0) l) (sym c.deref.ensures.value) ∙ sym c.find.ensures ∙ c.in-Some.is in
     let x = c.index.result.now in let k = knowledge_of s.domains s.first_generation s.may x.own x.header x.mappings in
-    let opens = subst (λ (o : Opening). Opens k c.args.dom c.args.request o) c.in-Open.is (c.open_at.ensures x (place-at xs c.args.dom.0 c.in-Some.at x p c.index.ensures)) in
+    let opens = subst (λ (o : Opening). OpensAs k c.args.dom c.args.request o) c.in-Open.is (c.open_at.ensures x (place-at xs c.args.dom.0 c.in-Some.at x p c.index.ensures)) in
     let y = c.index_mut.result.now in
     let same : x ≡ y = same_Some x y (sym (place-at xs c.args.dom.0 c.in-Some.at x p c.index.ensures) ∙ place-at xs c.args.dom.0 c.in-Some.at y p c.index_mut.ensures.value) in
     λ m. subst (λ (z : State). z.mappings.given + 1 < 2 ^ 64) same (serial-left k c.args.dom c.args.request c.in-Open.open.call.request opens.asks opens.none m)

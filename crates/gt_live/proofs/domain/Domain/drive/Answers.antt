@@ -2,10 +2,10 @@ use Rattle.std.proofs.Common.{sym, subst, []}
 use Rattle.gt_types.specs.declared.DomId.{DomId}
 use Rattle.gt_entry.specs.declared.header.Header.{Header}
 use Rattle.gt_words.specs.Rule.{IsKeptHeader}
-use Rattle.gt_calls.specs.Following.{MakesStep}
+use Rattle.gt_calls.specs.Following.{IsStepAction}
 use Rattle.gt_calls.specs.Path.{path}
 use Rattle.gt_calls.specs.Rules.{CallerKnowledge}
-use Rattle.gt_calls.specs.Standing.{IsFresh}
+use Rattle.gt_calls.specs.Standing.{IsFreshCall}
 use Rattle.gt_live.specs.Driving.{Knows, Leaves}
 use Rattle.gt_live.specs.Domains.{knowledge}
 use Rattle.gt_live.specs.Walks.{Called}
@@ -24,14 +24,14 @@ pub drive-requires-clause-fresh : goal.drive-requires-clause-fresh
 drive-requires-clause-fresh g c =
     let m = c.args.monitor.now in let d = c.args.self.now in let may = g.P.Allows.may m.rights in
     let same = same-knowledge m.config may d c.deref.result.now c.header.result c.deref.ensures.value c.header.ensures.value in
-    subst (λ (k : CallerKnowledge). IsFresh k c.args.call.now) (sym same) c.requires.opened.fresh
+    subst (λ (k : CallerKnowledge). IsFreshCall k c.args.call.now) (sym same) c.requires.opened.fresh
 
 pub drive-requires-clause-steps : goal.drive-requires-clause-steps
 drive-requires-clause-steps g c =
     let m = c.args.monitor.now in let d = c.args.self.now in let may = g.P.Allows.may m.rights in
     let same = same-knowledge m.config may d c.deref.result.now c.header.result c.deref.ensures.value c.header.ensures.value in
-    subst (λ (k : CallerKnowledge). MakesStep (path k c.args.call.now.caller c.args.call.now.request [])) (sym same)
-    (subst (λ (x : DomId). MakesStep (path (knowledge m.config may d) x c.args.call.now.request [])) (sym c.requires.opened.of_caller) c.requires.opened.steps)
+    subst (λ (k : CallerKnowledge). IsStepAction (path k c.args.call.now.caller c.args.call.now.request [])) (sym same)
+    (subst (λ (x : DomId). IsStepAction (path (knowledge m.config may d) x c.args.call.now.request [])) (sym c.requires.opened.of_caller) c.requires.opened.steps)
 
 pub returns-clause-called : goal.returns-clause-called
 returns-clause-called g c =

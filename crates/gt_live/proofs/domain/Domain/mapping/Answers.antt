@@ -1,6 +1,6 @@
 use Rattle.std.proofs.Common.{◌≡◌, ◌∙◌, sym, Option, Some, None, refl}
 use Rattle.std.specs.Prelude.{IfSome}
-use Rattle.gt_access.specs.Routes.{MayAccess}
+use Rattle.gt_access.specs.Routes.{MayAccessBy}
 use Rattle.gt_calls.specs.declared.held.Held.{Held}
 use Rattle.gt_calls.specs.declared.held.Route.TheVariants.{Direct}
 use Rattle.gt_live.specs.Mappings.{ReachesItsFrame}
@@ -20,5 +20,5 @@ returns-clause-reaches g c =
 pub returns-clause-may : goal.returns-clause-may
 returns-clause-may g c =
     let m = c.args.monitor.now in let d = c.args.self.now in let may = g.P.Allows.may m.rights in
-    if-found (λ (p : Held). MayAccess m.config.domains.items may d.seat.dom (Direct p)) c.copied.result
+    if-found (λ (p : Held). MayAccessBy m.config.domains.items may d.seat.dom (Direct p)) c.copied.result
     (λ (p : Held) (there : c.copied.result ≡ Some p). (c.requires.mine.mapped c.args.handle p (sym c.get.ensures.value ∙ sym c.copied.ensures ∙ there)).allowed)

@@ -2,12 +2,12 @@ use Rattle.std.proofs.Common.{◌≡◌, List}
 use Rattle.gt_handles.specs.declared.handles.Handle.{Handle}
 use Rattle.gt_handles.specs.Handles.{count_of}
 use Rattle.gt_words.specs.Conditions.{IsSameSeat}
-use Rattle.gt_live.specs.Domains.{IsOf, Released}
+use Rattle.gt_live.specs.Domains.{BelongsTo, Released}
 use Rattle.gt_live.proofs.domain.Domain.release.Given as goal
 
 abbrev pub invariant-mappings : goal.invariant-mappings
 invariant-mappings g l = record {
-  mine : IsOf g.P.Allows.may l.monitor l.self;
+  mine : BelongsTo g.P.Allows.may l.monitor l.self;
   seat : IsSameSeat l.fn.self.seat l.self.seat;
   silent : l.self.trail ≡ l.fn.self.trail;
   released : (handles : List Handle) × Released l.monitor.words.layout handles l.fn.self.mappings l.fn.self.seat.view l.self.mappings l.self.seat.view;

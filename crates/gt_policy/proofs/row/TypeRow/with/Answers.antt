@@ -5,7 +5,7 @@ use Rattle.gt_types.specs.declared.perms.Perms.{Perms}
 use Rattle.gt_policy.specs.declared.types.TypeSet.{TypeSet}
 use Rattle.gt_policy.specs.Allowing.{grants}
 use Rattle.gt_policy.specs.TypeSets.{holds}
-use Rattle.gt_policy.specs.Rows.{Lane, reaches, lanes, is_reached}
+use Rattle.gt_policy.specs.Rows.{Lane, lanes_reach, lanes, is_reached}
 use Rattle.gt_policy.proofs.RowLemmas.{grown_row, lane_grown, nothing_grown}
 use Rattle.gt_policy.proofs.row.TypeRow.with.Goals as goal
 
@@ -15,7 +15,7 @@ returns c = λ t perm.
     let old : List Lane = lanes c.self.inside.map_read c.self.inside.map_write c.self.inside.unmap c.self.inside.transfer c.self.inside.setup c.self.inside.copy c.self.inside.query in
     let new : List Lane = lanes c.grown.result c.grown-2.result c.grown-3.result c.grown-4.result c.grown-5.result c.grown-6.result c.grown-7.result in
     let lane = λ (p : Perms) (now before : TypeSet). lane_grown c.args.rule.now.perms p now before c.targets-targets.result (is_reached c.args.rule.now c.args.source.0) c.targets-targets.ensures in
-    subst (λ (ls : List Lane). reaches new t perm ≡ (reaches ls t perm || (is_permission perm && grants c.args.rule.now c.args.source.0 t perm))) c.self.view_is
+    subst (λ (ls : List Lane). lanes_reach new t perm ≡ (lanes_reach ls t perm || (is_permission perm && grants c.args.rule.now c.args.source.0 t perm))) c.self.view_is
     (grown_row c.args.rule.now c.args.source.0 old new (λ q. refl) (
       refl,
       lane names.map_read _ _ c.grown.ensures,
@@ -26,5 +26,5 @@ pub returns-then-not-contains : goal.returns-then-not-contains
 returns-then-not-contains c = λ t perm.
     let old : List Lane = lanes c.self.inside.map_read c.self.inside.map_write c.self.inside.unmap c.self.inside.transfer c.self.inside.setup c.self.inside.copy c.self.inside.query in
     let apart : holds c.args.rule.now.source c.args.source.0 ≡ false = sym c.contains.ensures ∙ c.if-not-contains.true in
-    subst (λ (ls : List Lane). reaches old t perm ≡ (reaches ls t perm || (is_permission perm && grants c.args.rule.now c.args.source.0 t perm))) c.self.view_is
-    (nothing_grown c.args.rule.now c.args.source.0 t perm (reaches old t perm) apart)
+    subst (λ (ls : List Lane). lanes_reach old t perm ≡ (lanes_reach ls t perm || (is_permission perm && grants c.args.rule.now c.args.source.0 t perm))) c.self.view_is
+    (nothing_grown c.args.rule.now c.args.source.0 t perm (lanes_reach old t perm) apart)
