@@ -19,7 +19,6 @@
 
 mod answers;
 mod audit;
-mod copying;
 mod fault;
 mod kept;
 mod labels;

@@ -65,22 +65,6 @@ fn without(alloc: Global, held: &[Handle], handle: Handle) -> Result<Vec<Handle>
     Ok(left)
 }
 
-// A map that is answered Ok gives its handle to its label.
-fn name_mapping<'a>(
-    labels: &mut Labels<'a>,
-    dom: DomId,
-    call: &ScriptCall<'a>,
-    answer: &Answer,
-) -> Result<(), AllocError>
-    ensures { OnOk result ((named : List Named) → AreNamed labels.old named → AreNamed labels.new
-        (with_name named dom (label_to_give call.now) (handle_given answer.now))) }
-{
-    match (label_given(call), answer) {
-        (Some(label), Answer::Mapped(handle)) => labels.name(dom, label, *handle),
-        _ => Ok(()),
-    }
-}
-
 // What a domain holds after this answer.
 fn hold(
     alloc: Global,
@@ -215,7 +199,7 @@ impl<'s, 'a> Walker<'s, 'a> {
     ) -> Result<(), AllocError>
         ensures { OnOk result (AnswersLine types.now line call.now gone answer.now self.old self.new) }
     {
-        name_mapping(&mut self.labels, self.dom, call, answer)?;
+        name_mapping(&mut self.labels, self.dom, label_given(call), answer)?;
         hold(alloc, &mut self.held, gone, answer)?;
         push_answer_line(alloc, &mut self.text, types, line, self.dom, answer)?;
         self.doing = Doing::Nothing;

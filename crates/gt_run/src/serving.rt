@@ -31,22 +31,6 @@ pub struct Output {
     pub lost: u64,
 }
 
-// A map that is answered Ok gives its handle to its label.
-fn name_mapping<'a>(
-    labels: &mut Labels<'a>,
-    dom: DomId,
-    call: &ScriptCall<'a>,
-    answer: &Answer,
-) -> Result<(), AllocError>
-    ensures { OnOk result ((named : List Named) → AreNamed labels.old named → AreNamed labels.new
-        (with_name named dom (label_to_give call.now) (handle_given answer.now))) }
-{
-    match (label_given(call), answer) {
-        (Some(label), Answer::Mapped(handle)) => labels.name(dom, label, *handle),
-        _ => Ok(()),
-    }
-}
-
 // Makes the call of a line. A map that is answered Ok gives its handle to its label.
 fn make_call<'a, R: Wait, P: Allows>(
     rt: &R,
@@ -64,7 +48,7 @@ fn make_call<'a, R: Wait, P: Allows>(
     let bytes = bytes_said(alloc, call)?;
     let dom = duty.part.dom;
     let answer = domain.ask(rt, request_of(labels, dom, bytes.as_slice(), call));
-    name_mapping(labels, dom, call, &answer)?;
+    name_mapping(labels, dom, label_given(call), &answer)?;
     Ok(answer)
 }
 
