@@ -1,13 +1,13 @@
 //! A domain on its list.
 ghost use Rattle.std.specs.Prelude.{◌≡◌, List, IfOk, OnOk};
-ghost use Rattle.gt_host.specs.Naming.{AreNamed};
-ghost use Rattle.gt_host.specs.Runs.{Named, handle_given, label_given as label_to_give, with_name};
 ghost use Rattle.gt_replay.specs.Orders.{given_up, held_after, without};
 
 use crate::fault::ReplayFault;
 use crate::replay::Moved;
 use gt_core::{Answer, Begun, Core, Handle, Request, Ticked};
-use gt_host::{Labels, Rights, bytes_said, label_given, push_answer_line, request_of};
+use gt_host::{
+    Labels, Rights, bytes_said, label_given, name_mapping, push_answer_line, request_of,
+};
 use gt_lines::{ScriptCall, Text};
 use gt_script::Task;
 use gt_types::DomId;

@@ -1,7 +1,5 @@
 //! One domain's list, from its first line to its last.
-ghost use Rattle.std.specs.Prelude.{◌≡◌, ◌++◌, List, [], false, IfOk, IsOk, IsTrue, OnOk};
-ghost use Rattle.gt_host.specs.Naming.{AreNamed};
-ghost use Rattle.gt_host.specs.Runs.{handle_given, label_given as label_to_give, with_name, Named};
+ghost use Rattle.std.specs.Prelude.{◌≡◌, ◌++◌, [], false, IfOk, IsOk, IsTrue};
 ghost use Rattle.gt_run.specs.Printing.{CameOf};
 ghost use Rattle.gt_run.specs.Serving.{gate_line, Calls, IsReady, Makes, Serves, StartsTold};
 
@@ -10,7 +8,7 @@ use crate::lists::Duty;
 use crate::running::Running;
 use crate::telling::{Teller, tell_next, teller_for};
 use gt_core::Answer;
-use gt_host::{Labels, bytes_said, label_given, push_answer_line, request_of};
+use gt_host::{Labels, bytes_said, label_given, name_mapping, push_answer_line, request_of};
 use gt_lines::ScriptCall;
 use gt_script::Deed;
 use gt_texts::{push_number, push_text};
