@@ -4,7 +4,7 @@ use Rattle.gt_listing.specs.Faults.{listing_fault_text}
 use Rattle.gt_advising.specs.declared.fault.WhyFault.{WhyFault}
 use Rattle.gt_advising.specs.declared.fault.WhyFault.TheVariants as faults
 
--- the words that are printed (own)
+-- the words that are printed
 abbrev pub why_fault_text : WhyFault → List ℕ
 why_fault_text (faults.Text fault) = listing_fault_text fault
 why_fault_text faults.NoSource = codes "source: no such type"

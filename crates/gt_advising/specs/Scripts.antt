@@ -13,12 +13,12 @@ use Rattle.gt_script.specs.Script.{TellsScript, Wrong}
 use Rattle.gt_script_advice.specs.Judging.{JudgesScript}
 use Rattle.gt_streams.specs.Streams.{AppendsBeginning}
 
--- the bytes are a script for `play` or for `run`, or for neither (own)
+-- the bytes are a script for `play` or for `run`, or for neither
 abbrev pub IsScript : List ℕ → Bool → Type 0
 IsScript bytes true = ((c : Contents) × TellsScript bytes (Ok c)) ⊎ ((c : RunContents) × RunTells bytes (Ok c))
 IsScript bytes false = (play : Wrong) × (run : Wrong) × TellsScript bytes (Err play) × RunTells bytes (Err run)
 
--- findings went out, or a beginning of them; the answer is that none is an error (own)
+-- findings went out, or a beginning of them; the answer is that none is an error
 abbrev pub TellsFindings : List Finding → Option (List ℕ) → Option (List ℕ) → Result Bool ListingFault → Type 0
 TellsFindings found old new (Ok clean) =
     (clean ≡ not (list_any (λ x. is_error x.kind) found)) × ((report : List ℕ) × Appends old new report)
@@ -29,7 +29,7 @@ TellsFindings found old new (Err (Utf8 line)) = ⊥
 TellsFindings found old new (Err (Policy shown)) = ⊥
 
 -- what was written for a script: at Ok what was found in it, and whether it is one; after a failed write a beginning;
--- nothing where memory is refused or the text is not read (own)
+-- nothing where memory is refused or the text is not read
 abbrev pub CheckedScript : List ℕ → Option (List ℕ) → Option (List ℕ) → Result Bool ListingFault → Type 0
 CheckedScript bytes old new (Ok clean) =
     (found : List Finding) × (report : List ℕ) × JudgesScript bytes found × IsScript bytes clean

@@ -10,11 +10,11 @@ use Rattle.gt_json.specs.declared.places.Place.{Place}
 pub use Rattle.gt_json.specs.Places.{is_fact}
 use Rattle.gt_json.specs.Places.{start, next, name_at, is_start, is_mark}
 
--- the name and the value of a word: those that it has, or the name of its place (own)
+-- the name and the value of a word: those that it has, or the name of its place
 abbrev pub member_of : Place → List ℕ → List ℕ × List ℕ
 member_of p w = if is_fact p then unwrap_or (at_equals w) (name_at p w, w) else (name_at p w, w)
 
--- the value of this name is hexadecimal: the bytes of an answer, and the status word of an entry (own)
+-- the value of this name is hexadecimal: the bytes of an answer, and the status word of an entry
 abbrev pub is_hex : Place → List ℕ → Bool
 is_hex p name = is_fact p && (bytes_eq name (codes "bytes") || bytes_eq name (codes "status"))
 
@@ -27,16 +27,16 @@ unfoldable pub member_text : Place → List ℕ → List ℕ
 member_text p w =
     lead p ++ quoted (member_of p w).0 ++ codes ":" ++ value_text (is_hex p (member_of p w).0) (member_of p w).1
 
--- what a word comes to: its member, or nothing where it is none (own)
+-- what a word comes to: its member, or nothing where it is none
 unfoldable pub piece : Place → List ℕ → List ℕ
 piece p w = if is_mark p w then [] else member_text p w
 
--- what the words from this place on come to, one after another (own)
+-- what the words from this place on come to, one after another
 abbrev pub pieces : Place → List (List ℕ) → List ℕ
 pieces p [] = []
 pieces p (w ∷ ws) = piece p w ++ pieces (next p w) ws
 
--- the words of a line, parted by one blank each (own)
+-- the words of a line, parted by one blank each
 abbrev pub json_words : List ℕ → List (List ℕ)
 json_words line = slice_split (λ b. b == 32) line
 
@@ -48,13 +48,13 @@ object_line printed line = if length line == 0 then [] else pieces (start printe
 abbrev pub json_text : Printed → List ℕ → List ℕ
 json_text printed text = flat_map (object_line printed) (slice_split (λ b. b == 10) text)
 
--- what a word says by its member: its value, after its name if that is its own, or the colon (own)
+-- what a word says by its member: its value, after its name if that is its own, or the colon
 abbrev pub said : Place → List ℕ → List ℕ
 said p w = if is_mark p w then codes ":"
     else (if is_fact p && is_some (at_equals w) then (member_of p w).0 ++ codes "=" ++ (member_of p w).1
     else (member_of p w).1)
 
--- what the words from this place on say by their members (own)
+-- what the words from this place on say by their members
 abbrev pub all_said : Place → List (List ℕ) → List (List ℕ)
 all_said p [] = []
 all_said p (w ∷ ws) = said p w ∷ all_said (next p w) ws

@@ -7,44 +7,44 @@ use Rattle.gt_json.specs.declared.places.Printed.TheVariants.{Run, Policy, Entri
 use Rattle.gt_json.specs.declared.places.Place.{Place}
 use Rattle.gt_json.specs.declared.places.Place.TheVariants as place
 
--- what the first word of a line is (own)
+-- what the first word of a line is
 abbrev pub start : Printed → Place
 start Run = place.Line
 start Policy = place.Source
 start Entries = place.Dumped
 
--- it is the first word of a line (own)
+-- it is the first word of a line
 abbrev pub is_start : Place → Bool
 is_start place.Line = true
 is_start place.Source = true
 is_start place.Dumped = true
 is_start _ = false
 
--- it is a fact, which may have its own name (own)
+-- it is a fact, which may have its own name
 abbrev pub is_fact : Place → Bool
 is_fact place.Fact = true
 is_fact _ = false
 
--- the word is the colon before the answer of an audit line, which is no member (own)
+-- the word is the colon before the answer of an audit line, which is no member
 abbrev pub is_mark : Place → List ℕ → Bool
 is_mark p w = not (is_start p) && bytes_eq w (codes ":")
 
--- what comes after the first word of a line of a run (own)
+-- what comes after the first word of a line of a run
 abbrev pub after_line : List ℕ → Place
 after_line w = if bytes_eq w (codes "audit") then place.Recorded
     else (if bytes_eq w (codes "lost") then place.Lost else place.Caller)
 
--- what comes after the kind of an entry (own)
+-- what comes after the kind of an entry
 abbrev pub after_kind : List ℕ → Place
 after_kind w = if (bytes_eq w (codes "page") || bytes_eq w (codes "sub")) || bytes_eq w (codes "via") then place.Grantee
     else (if bytes_eq w (codes "refused") then place.Field else place.Fact)
 
--- what comes after the name of a call (own)
+-- what comes after the name of a call
 abbrev pub after_call : List ℕ → Place
 after_call w = if bytes_eq w (codes "copy") then place.FromKind
     else (if bytes_eq w (codes "version") || bytes_eq w (codes "setup") then place.Asked else place.Owner)
 
--- what comes after a word that is a member (own)
+-- what comes after a word that is a member
 abbrev pub next_told : Place → List ℕ → Place
 next_told place.Line w = after_line w
 next_told place.Caller w = if bytes_eq w (codes "show") then place.Shown else place.Answer
@@ -78,11 +78,11 @@ next_told place.Target w = place.Permission
 next_told place.Permission w = place.Fact
 next_told place.Dumped w = place.Kind
 
--- what the word after this one is (own)
+-- what the word after this one is
 unfoldable pub next : Place → List ℕ → Place
 next p w = if is_mark p w then place.Answer else next_told p w
 
--- what the word at this place is called; at a fact, one without a name of its own (own)
+-- what the word at this place is called; at a fact, one without a name of its own
 unfoldable pub name_at : Place → List ℕ → List ℕ
 name_at place.Line w = if bytes_eq w (codes "audit") || bytes_eq w (codes "lost") then codes "type" else codes "line"
 name_at place.Caller w = if bytes_eq w (codes "show") then codes "type" else codes "domain"

@@ -5,7 +5,7 @@ use Rattle.std.specs.List.{flat_map}
 use Rattle.std.specs.Str.{bytes_eq}
 use Rattle.gt_json.specs.Words.{is_number}
 
--- the hexadecimal digit of a number below 16 (own)
+-- the hexadecimal digit of a number below 16
 abbrev pub hex_digit : ℕ → ℕ
 hex_digit n = if nat_lt n 10 then 48 + n else 87 + n
 
@@ -30,7 +30,7 @@ pub data SpellsString : List ℕ → List ℕ → Type 0 where
   number : (b : ℕ) (xs text : List ℕ) → b < 256 → SpellsString xs text
       → SpellsString (92 ∷ 117 ∷ 48 ∷ 48 ∷ hex_digit (b / 16) ∷ hex_digit (b % 16) ∷ xs) (b ∷ text)
 
--- a word as a value: a number where it is one and is not hexadecimal, null for `-`, and else a string (own)
+-- a word as a value: a number where it is one and is not hexadecimal, null for `-`, and else a string
 abbrev pub value_text : Bool → List ℕ → List ℕ
 value_text is_hex w = if not is_hex && is_number w then w
     else (if bytes_eq w (codes "-") then codes "null" else quoted w)

@@ -4,7 +4,7 @@ use Rattle.std.specs.Char.{is_ascii_digit}
 use Rattle.std.specs.List.{list_all}
 use Rattle.std.specs.Option.{option_map}
 
--- the word names a rule: it begins with `N` (own)
+-- the word names a rule: it begins with `N`
 unfoldable pub is_rule : List ℕ → Bool
 is_rule [] = false
 is_rule (b ∷ bs) = b == 78
@@ -20,7 +20,7 @@ unfoldable pub is_number : List ℕ → Bool
 is_number [] = false
 is_number (b ∷ bs) = if b == 45 then is_natural bs else is_natural (b ∷ bs)
 
--- what is before the first `=`, and what comes after it (own)
+-- what is before the first `=`, and what comes after it
 unfoldable pub at_equals : List ℕ → Option (List ℕ × List ℕ)
 at_equals [] = None
 at_equals (b ∷ bs) = if b == 61 then Some ([], bs) else option_map (λ parts. (b ∷ parts.0, parts.1)) (at_equals bs)

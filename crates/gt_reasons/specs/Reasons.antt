@@ -5,21 +5,21 @@ use Rattle.gt_types.specs.declared.limits.TheConstants.{MAX_TABLE_FRAMES}
 use Rattle.gt_types.specs.declared.config.ConfigFault.{ConfigFault}
 use Rattle.gt_types.specs.declared.config.ConfigFault.TheVariants as faults
 
--- `FILE:LINE:COLUMN: ` (own)
+-- `FILE:LINE:COLUMN: `
 abbrev pub reason_heading : List ℕ → ℕ → ℕ → List ℕ
 reason_heading file line column =
     file ++ codes ":" ++ decimal line ++ codes ":" ++ decimal column ++ codes ": "
 
--- a word in quotes (own)
+-- a word in quotes
 abbrev pub quoted_text : List ℕ → List ℕ
 quoted_text word = codes "\"" ++ word ++ codes "\""
 
--- a line was added that tells a reason at this line of the file (own)
+-- a line was added that tells a reason at this line of the file
 abbrev pub TellsAt : List ℕ → ℕ → List ℕ → List ℕ → Type 0
 TellsAt file line old new =
     (column : ℕ) × (message : List ℕ) × (new ≡ old ++ reason_heading file line column ++ message ++ codes "\n")
 
--- the limit that a fault is about, 0 where it is about none (own)
+-- the limit that a fault is about, 0 where it is about none
 abbrev pub limit_of : ConfigFault → ℕ
 limit_of faults.NoDomains = 0
 limit_of (faults.TooMany id) = MAX_DOMAINS
