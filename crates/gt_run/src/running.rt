@@ -1,13 +1,12 @@
 //! A domain beside the monitor that it came with, so that it can move into a thread.
 ghost use Rattle.std.specs.Prelude.{◌≡◌};
-ghost use Rattle.gt_run.specs.Asking.{IsReadAnswer, frames_answer, mapped_answer, plain_answer, size_answer};
-ghost use Rattle.gt_run.specs.Asking.{version_answer};
+ghost use Rattle.gt_run.specs.Asking.{IsReadAnswer, plain_answer};
 
 use gt_audit::Trail;
-use gt_core::{Answer, Bytes, Handle, Request};
+use gt_core::{Answer, Bytes, Request};
 use gt_frames::{Copied, Read, Written};
 use gt_live::{Domain, Left, Monitor};
-use gt_types::{Allows, Denial, Size};
+use gt_types::{Allows, Denial};
 use std::marker::Model;
 use std::sync::Wait;
 

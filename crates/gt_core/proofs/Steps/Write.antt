@@ -50,7 +50,7 @@ map-writes e d frame off len is a = grind arith
 
 -- the entries of a copy's pins let it write
 way-covers : (k : CallerKnowledge) (d : DomId) (granted : Bool) (end : End) (len : ℕ) (pair : DomId → DomId × DomId) (route : Route) → IsReached k d granted end Write len pair route
-    → suffices (ground_of route) d (place_of d end route).owner (place_of d end route).frame end.offset len ≡ true
+    → suffices (ground_of route) d (place_of d end route).frame.owner (place_of d end route).frame.number end.offset len ≡ true
 way-covers k d granted end len pair route a = grind arith
 
 -- the route of a call, which suffices, is that of its writ
