@@ -44,9 +44,8 @@ use Rattle.gt_order.specs.Runs.CallOutcome.{Told, Kept, Starved, Wrote}
 use Rattle.gt_lines.specs.declared.calls.ScriptCall.{ScriptCall}
 use Rattle.gt_lines.specs.declared.calls.ScriptCall.TheVariants as calls
 use Rattle.gt_host.specs.Runs.{SaysRequest, Named, request_of}
-use Rattle.gt_script.specs.declared.tasks.Deed.{Deed}
-use Rattle.gt_script.specs.declared.tasks.Deed.TheVariants.{Await, Do, Tell}
-use Rattle.gt_script.specs.declared.tasks.Task.{Task}
+use Rattle.gt_script.specs.Lists.{Deed, Task}
+use Rattle.gt_script.specs.declared.tasks.DeedBy.TheVariants.{Await, Do, Tell}
 use Rattle.gt_run.specs.Asking.{AnswersCall, Asks, frames_answer, mapped_answer, plain_answer, size_answer}
 use Rattle.gt_run.specs.Asking.{version_answer}
 use Rattle.gt_run.specs.Printing.{Served}

@@ -18,8 +18,8 @@ pub use Rattle.gt_order.specs.Runs.CallOutcome.{Kept, Starved, Told, Wrote}
 pub use Rattle.gt_run.specs.Printing.{Served}
 pub use Rattle.gt_run.specs.Serving.{IsServed, MakesCall, Outcome, ListProgress}
 pub use Rattle.gt_run.specs.declared.lists.Duty.{Duty}
-pub use Rattle.gt_script.specs.declared.tasks.Deed.TheVariants.{Do}
-pub use Rattle.gt_script.specs.declared.tasks.Task.{Task}
+pub use Rattle.gt_script.specs.declared.tasks.DeedBy.TheVariants.{Do}
+pub use Rattle.gt_script.specs.Lists.{Task}
 pub use Rattle.gt_types.specs.declared.config.Config.{Config}
 pub use Rattle.gt_types.specs.declared.denial.Denial.{Denial}
 pub use Rattle.gt_words.specs.Conditions.{Board}

@@ -11,7 +11,7 @@ use Rattle.gt_handles.specs.declared.handles.Handle.{Handle}
 use Rattle.gt_script.specs.Contents.{type_names}
 use Rattle.gt_script.specs.RunContents.{RunContents}
 use Rattle.gt_script.specs.RunScripts.{list_of}
-use Rattle.gt_script.specs.declared.tasks.Task.{Task}
+use Rattle.gt_script.specs.Lists.{Task}
 use Rattle.gt_replay.specs.Orders.{Happening, own_happenings, AllFollow, FollowsList, IsOrderOf, MayGive}
 use Rattle.gt_replay.specs.Walking.{Continues, HasWalked, HasFollowed, IsAtEnd, tasks_left_of}
 use Rattle.gt_replay.specs.declared.replay.Replay.{Replay}

@@ -20,8 +20,8 @@ use Rattle.gt_core.specs.declared.trace.Answer.{Answer}
 use Rattle.gt_core.specs.declared.trace.Answer.TheVariants.{Done}
 use Rattle.gt_core.specs.declared.trace.Event.TheVariants.{Begin, Tick}
 use Rattle.gt_lines.specs.declared.calls.ScriptCall.{ScriptCall}
-use Rattle.gt_script.specs.declared.tasks.Deed.TheVariants.{Do}
-use Rattle.gt_script.specs.declared.tasks.Task.{Task}
+use Rattle.gt_script.specs.declared.tasks.DeedBy.TheVariants.{Do}
+use Rattle.gt_script.specs.Lists.{Task}
 use Rattle.gt_host.specs.Naming.{AreNamed}
 use Rattle.gt_host.specs.Runs.{Named, SaysRequest, answer_in}
 use Rattle.gt_replay.specs.Orders.{given_up}

@@ -21,7 +21,7 @@ use Rattle.gt_core.specs.Acting.{setting_of}
 use Rattle.gt_script.specs.Contents.{Contents, first_gen, type_names}
 use Rattle.gt_script.specs.RunContents.{RunContents}
 use Rattle.gt_script.specs.RunScripts.{list_of}
-use Rattle.gt_script.specs.declared.tasks.Task.{Task}
+use Rattle.gt_script.specs.Lists.{Task}
 use Rattle.gt_host.specs.declared.rights.Rights.{Rights}
 use Rattle.gt_host.specs.Playing.{StartsFor, setting_of_script}
 use Rattle.gt_host.specs.Rights.{may_by, may_in}

@@ -24,9 +24,8 @@ pub use Rattle.gt_replay.specs.declared.walker.Walker.{Walker}
 pub use Rattle.gt_script.specs.Contents.{type_names}
 pub use Rattle.gt_script.specs.RunContents.{RunContents}
 pub use Rattle.gt_script.specs.RunScripts.{list_of}
-pub use Rattle.gt_script.specs.declared.tasks.Deed.{Deed}
-pub use Rattle.gt_script.specs.declared.tasks.Deed.TheVariants.{Await, Do, Tell}
-pub use Rattle.gt_script.specs.declared.tasks.Task.{Task}
+pub use Rattle.gt_script.specs.Lists.{Deed, Task}
+pub use Rattle.gt_script.specs.declared.tasks.DeedBy.TheVariants.{Await, Do, Tell}
 pub use Rattle.gt_types.specs.Names.{domain_of}
 pub use Rattle.gt_types.specs.declared.DomId.{DomId}
 pub use Rattle.gt_types.specs.declared.config.DomainConfig.{DomainConfig}

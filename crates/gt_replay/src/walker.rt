@@ -183,7 +183,7 @@ impl<'s, 'a> Walker<'s, 'a> {
     ghost use Rattle.std.specs.Prelude.{◌≡◌, ◌≢◌, ◌<◌, ◌≤◌, ℕ, List, length, slice_get, IsTrue, IsSome, IfOk, Some};
     ghost use Rattle.gt_core.specs.Standing.{setting_in};
     ghost use Rattle.gt_host.specs.Rights.{may_by};
-    ghost use Rattle.gt_script.specs.declared.tasks.Deed.TheVariants as deeds;
+    ghost use Rattle.gt_script.specs.declared.tasks.DeedBy.TheVariants as deeds;
     ghost use Rattle.gt_replay.specs.Walking.{AnswersLine, ClosesCall, WalksTo, tasks_left_of};
     ghost use Rattle.gt_replay.specs.declared.walker.Doing.TheVariants as doing;
 

@@ -16,7 +16,7 @@ use Rattle.gt_script.specs.RunScripts.{RunAnswers, RunTells}
 use Rattle.gt_script.specs.Script.{Wrong}
 use Rattle.gt_script.specs.declared.faults.ScriptError.{ScriptError}
 use Rattle.gt_script.specs.declared.faults.ScriptError.TheVariants as errors
-use Rattle.gt_script.specs.declared.tasks.Task.{Task}
+use Rattle.gt_script.specs.Lists.{Task}
 use Rattle.gt_streams.specs.Laws.{keeps_same, of_any_input}
 use Rattle.gt_streams.specs.Streams.{OfInput}
 use Rattle.gt_streams.specs.declared.fault.ReadFault.{ReadFault}

@@ -31,9 +31,8 @@ pub use Rattle.gt_live.specs.declared.monitor.Monitor.{Monitor}
 pub use Rattle.gt_run.specs.declared.lists.Duty.{Duty}
 pub use Rattle.gt_run.specs.declared.lists.Part.{Part}
 pub use Rattle.gt_run.specs.declared.telling.Teller.{Teller}
-pub use Rattle.gt_script.specs.declared.tasks.Deed.{Deed}
-pub use Rattle.gt_script.specs.declared.tasks.Deed.TheVariants.{Await, Do, Tell}
-pub use Rattle.gt_script.specs.declared.tasks.Task.{Task}
+pub use Rattle.gt_script.specs.Lists.{Deed, Task}
+pub use Rattle.gt_script.specs.declared.tasks.DeedBy.TheVariants.{Await, Do, Tell}
 pub use Rattle.gt_texts.specs.Printing.{type_text}
 pub use Rattle.gt_types.specs.declared.DomId.{DomId}
 pub use Rattle.gt_types.specs.declared.Size.{Size}

@@ -38,8 +38,7 @@ use Rattle.gt_lines.specs.declared.lines.Line.TheVariants as line
 use Rattle.gt_lines.specs.declared.lines.BodyLine.{BodyLine}
 use Rattle.gt_script.specs.declared.command.Command.{Command}
 use Rattle.gt_script.specs.declared.command.Command.TheVariants.{Play, Run}
-use Rattle.gt_script.specs.declared.orders.Order.{Order}
-use Rattle.gt_script.specs.declared.orders.RunLine.{RunLine}
+use Rattle.gt_script.specs.Lists.{Order, RunLine}
 use Rattle.gt_script.specs.declared.script.ScriptStep.{ScriptStep}
 use Rattle.gt_script.specs.declared.faults.ScriptFaultKind.{ScriptFaultKind}
 use Rattle.gt_script.specs.declared.faults.ScriptFaultKind.TheVariants.{Syntax, Config}
@@ -266,7 +265,7 @@ adds-order n c d number asks dom run small taken e =
           let lines_said : step_on c.command n (line.Body number asks) ≡ None = ap (λ (k : Command). step_for k n number asks) run in
           sym (append-nil c.steps) ∙ ap (λ (o : Option ScriptStep). c.steps ++ option_to_list o) (sym lines_said);
       orders =
-          let lines_said : order_on c.command n (line.Body number asks) ≡ Some (record { line = n; dom = dom; asks = p.0 }) =
+          let lines_said : order_on c.command n (line.Body number asks) ≡ Some (record { line = n; dom = dom; deed = p.0 }) =
           ap (λ (k : Command). order_for k n number asks) run ∙ bind-at _ _ _ small ∙ bind-at _ _ _ p.1 in
           ap (λ (o : Option Order). c.orders ++ option_to_list o) (sym lines_said);
       suited = ap (λ (k : Command). asks_for k asks) run ∙ ap (λ (o : Option RunLine). is_some o) p.1;

@@ -22,9 +22,8 @@ use Rattle.gt_script.specs.Stuck.{IsJudged}
 use Rattle.gt_script.specs.Rounds.{flag_holds, HasFlag, Within, is_untold, untold, IsDone, is_waiting, told_after}
 use Rattle.gt_script.specs.Rounds.{is_new}
 use Rattle.gt_script.specs.Rounds.{Comes, WayTo, WaitsFor, TurnGoesOn, HaveCome, Turning, WaitsIn}
-use Rattle.gt_script.specs.declared.tasks.Deed.{Deed}
-use Rattle.gt_script.specs.declared.tasks.Deed.TheVariants.{Do, Tell, Await}
-use Rattle.gt_script.specs.declared.tasks.Task.{Task}
+use Rattle.gt_script.specs.Lists.{Deed, Task}
+use Rattle.gt_script.specs.declared.tasks.DeedBy.TheVariants.{Do, Tell, Await}
 
 -- a place further on
 

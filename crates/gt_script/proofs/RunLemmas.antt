@@ -17,9 +17,8 @@ use Rattle.gt_script.specs.declared.faults.ScriptFault.{ScriptFault}
 use Rattle.gt_script.specs.declared.faults.ScriptFaultKind.TheVariants.{Stuck}
 use Rattle.gt_script.specs.declared.faults.ScriptError.{ScriptError}
 use Rattle.gt_script.specs.declared.faults.ScriptError.TheVariants as errors
-use Rattle.gt_script.specs.declared.orders.Order.{Order}
+use Rattle.gt_script.specs.Lists.{Order, Task}
 use Rattle.gt_script.specs.declared.run_script.RunScript.{RunScript}
-use Rattle.gt_script.specs.declared.tasks.Task.{Task}
 use Rattle.gt_script.proofs.FlagLemmas.{tasks-numbered, tasks-known}
 
 -- the tasks that were made are those of the script

@@ -5,7 +5,7 @@ use Rattle.gt_types.specs.declared.rights.Triple.{Triple}
 use Rattle.gt_types.specs.declared.config.DomainConfig.{DomainConfig}
 use Rattle.gt_policy.specs.Allowing.{KeptPolicy, Allowed, allowed_of}
 use Rattle.gt_script.specs.declared.command.Command.{Command}
-use Rattle.gt_script.specs.declared.orders.Order.{Order}
+use Rattle.gt_script.specs.Lists.{Order}
 use Rattle.gt_script.specs.declared.script.ScriptStep.{ScriptStep}
 
 -- the command that it is for; what the policy of its block says, if it has one; else the names of its types, by

@@ -57,7 +57,7 @@ order_for Play n number asks = None
 order_for Run n number asks = do
   id ← number_below (2 ^ 16) number
   order ← run_line_in asks
-  Some (record { line = n; dom = record { 0 = id }; asks = order })
+  Some (record { line = n; dom = record { 0 = id }; deed = order })
 
 -- the step of line n, if it is one of the body of a script for `play`
 abbrev pub step_on : Command → ℕ → Line → Option ScriptStep

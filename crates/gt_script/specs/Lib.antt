@@ -3,6 +3,7 @@ pub mod Contents
 pub mod Faults
 pub mod Flags
 pub mod Laws
+pub mod Lists
 pub mod Outcomes
 pub mod Prelude
 pub mod Rounds

@@ -17,8 +17,7 @@ pub use Rattle.gt_script.specs.declared.faults.ScriptError.TheVariants.{Memory}
 pub use Rattle.gt_script.specs.declared.faults.ScriptFault.{ScriptFault}
 pub use Rattle.gt_script.specs.declared.faults.ScriptFaultKind.{ScriptFaultKind}
 pub use Rattle.gt_script.specs.declared.faults.ScriptFaultKind.TheVariants.{Config, Limit, Mode, Syntax, Utf8}
-pub use Rattle.gt_script.specs.declared.orders.Order.{Order}
-pub use Rattle.gt_script.specs.declared.orders.RunLine.{RunLine}
+pub use Rattle.gt_script.specs.Lists.{Order, RunLine}
 pub use Rattle.gt_script.specs.declared.script.ScriptStep.{ScriptStep}
 pub use Rattle.gt_streams.specs.Texts.{line_after}
 pub use Rattle.gt_types.specs.Config.{AreFaultless, domain_fault, is_taken}

@@ -5,9 +5,8 @@ use Rattle.std.specs.List.{sum_by}
 use Rattle.gt_types.specs.declared.DomId.{DomId}
 use Rattle.gt_types.specs.declared.config.DomainConfig.{DomainConfig}
 use Rattle.gt_script.specs.Stuck.{IsClosed, PassesAll, WaitsAt}
-use Rattle.gt_script.specs.declared.tasks.Deed.{Deed}
-use Rattle.gt_script.specs.declared.tasks.Deed.TheVariants.{Do, Tell, Await}
-use Rattle.gt_script.specs.declared.tasks.Task.{Task}
+use Rattle.gt_script.specs.Lists.{Deed, Task}
+use Rattle.gt_script.specs.declared.tasks.DeedBy.TheVariants.{Do, Tell, Await}
 
 -- whether a flag is raised
 abbrev pub flag_holds : List Bool → ℕ → Bool

@@ -1,7 +1,7 @@
 -- What a script for `run` holds.
 use Rattle.std.specs.Prelude.{ℕ, List}
 use Rattle.gt_script.specs.Contents.{Contents, KeptContents, contents_told}
-use Rattle.gt_script.specs.declared.tasks.Task.{Task}
+use Rattle.gt_script.specs.Lists.{Task}
 
 -- what comes before the body, as a script without lines of a body; what each line of
 -- the body has its domain do, in order; and how many flags there are

@@ -12,7 +12,8 @@ use Rattle.gt_script.specs.Types.{with_type}
 use Rattle.gt_script.specs.Contents.{Contents, empty, with_policy}
 use Rattle.gt_lines.specs.declared.calls.ScriptAction.TheVariants as actions
 use Rattle.gt_lines.specs.declared.lines.BodyLine.TheVariants as bodies
-use Rattle.gt_script.specs.declared.orders.RunLine.TheVariants as runs
+use Rattle.gt_lines.specs.declared.signals.Signal.TheVariants as signals
+use Rattle.gt_script.specs.declared.tasks.DeedBy.TheVariants as runs
 use Rattle.gt_lines.specs.declared.lines.Line.TheVariants as line
 
 -- a list without elements
@@ -99,7 +100,8 @@ run_line_in (bodies.Action (actions.Do call)) = Some (runs.Do call)
 run_line_in (bodies.Action (actions.Begin call)) = None
 run_line_in (bodies.Action (actions.Tick count)) = None
 run_line_in (bodies.Action (actions.Show gref)) = None
-run_line_in (bodies.Signal s) = Some (runs.Signal s)
+run_line_in (bodies.Signal (signals.Tell flag)) = Some (runs.Tell flag)
+run_line_in (bodies.Signal (signals.Await flag)) = Some (runs.Await flag)
 
 -- what a line adds, or that it is for the other command
 abbrev pub or_mode : Option Contents → Result Contents ScriptFaultKind
@@ -116,7 +118,7 @@ with_step c n dom asks = or_mode (do
 unfoldable pub with_order : Contents → ℕ → DomId → BodyLine → Result Contents ScriptFaultKind
 with_order c n dom asks = or_mode (do
   order ← run_line_in asks
-  Some (record c { orders = c.orders ++ record { line = n; dom = dom; asks = order } ∷ [] }))
+  Some (record c { orders = c.orders ++ record { line = n; dom = dom; deed = order } ∷ [] }))
 
 -- a script for this command with a line of the body more
 abbrev pub with_asked : Command → Contents → ℕ → DomId → BodyLine → Result Contents ScriptFaultKind

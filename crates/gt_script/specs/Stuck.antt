@@ -2,9 +2,8 @@
 use Rattle.std.specs.Prelude.{◌≡◌, ◌<◌, ℕ, Bool, List, take, Option, Some, None, slice_get, All, IsTrue}
 use Rattle.gt_types.specs.declared.DomId.{DomId}
 use Rattle.gt_types.specs.declared.config.DomainConfig.{DomainConfig}
-use Rattle.gt_script.specs.declared.tasks.Deed.{Deed}
-use Rattle.gt_script.specs.declared.tasks.Deed.TheVariants.{Do, Tell, Await}
-use Rattle.gt_script.specs.declared.tasks.Task.{Task}
+use Rattle.gt_script.specs.Lists.{Deed, Task}
+use Rattle.gt_script.specs.declared.tasks.DeedBy.TheVariants.{Do, Tell, Await}
 
 -- a flag that a task names is below this number
 abbrev pub IsBelow : ℕ → Deed → Type 0

@@ -1,24 +1,19 @@
 -- What the domains of a script for `run` do, line by line.
 use Rattle.std.specs.Prelude.{ℕ, List, map}
-use Rattle.gt_lines.specs.declared.signals.Signal.TheVariants as signals
 use Rattle.gt_script.specs.Contents.{Contents}
 use Rattle.gt_script.specs.Flags.{flag_names_of, flag_number}
-use Rattle.gt_script.specs.declared.orders.Order.{Order}
-use Rattle.gt_script.specs.declared.orders.RunLine.{RunLine}
-use Rattle.gt_script.specs.declared.orders.RunLine.TheVariants as runs
-use Rattle.gt_script.specs.declared.tasks.Deed.{Deed}
-use Rattle.gt_script.specs.declared.tasks.Deed.TheVariants.{Do, Tell, Await}
-use Rattle.gt_script.specs.declared.tasks.Task.{Task}
+use Rattle.gt_script.specs.Lists.{Order, RunLine, Deed, Task}
+use Rattle.gt_script.specs.declared.tasks.DeedBy.TheVariants.{Do, Tell, Await}
 
 -- what a line has its domain do, if these are the names of the flags
 unfoldable pub deed_of : List (List ℕ) → RunLine → Deed
-deed_of flags (runs.Do call) = Do call
-deed_of flags (runs.Signal (signals.Tell flag)) = Tell (flag_number flags flag)
-deed_of flags (runs.Signal (signals.Await flag)) = Await (flag_number flags flag)
+deed_of flags (Do call) = Do call
+deed_of flags (Tell flag) = Tell (flag_number flags flag)
+deed_of flags (Await flag) = Await (flag_number flags flag)
 
 -- the same with the line's number and domain
 abbrev pub task_of : List (List ℕ) → Order → Task
-task_of flags o = record { line = o.line; dom = o.dom; deed = deed_of flags o.asks }
+task_of flags o = record { line = o.line; dom = o.dom; deed = deed_of flags o.deed }
 
 -- what these lines have their domains do, in their order
 abbrev pub tasks_for : List (List ℕ) → List Order → List Task

@@ -73,7 +73,7 @@ impl fmt::Display for BlockFault {
     ghost use Rattle.std.specs.Prelude.{Some};
     ghost use Rattle.gt_policy.specs.Texts.{fault_text};
 
-    ghost output = { λ fault. Some (script_fault_text fault.line fault.kind) };
+    ghost output = { λ fault. Some (fault_text fault.line fault.kind) };
 
     fn fmt<W: fmt::Write>(&self, f: &mut fmt::Formatter<W>) -> fmt::Result {
         write!(f, "line {}: policy {}", self.line, self.kind)

@@ -3,8 +3,8 @@ ghost use Rattle.std.specs.Prelude.{◌≡◌, length, IfOk};
 ghost use Rattle.std.specs.Option.{option_map};
 ghost use Rattle.gt_script.specs.Flags.{flag_in as flag_in_line, flag_names_of as flags_in, flag_number};
 
-use crate::orders::{Order, RunLine};
-use gt_lines::Signal;
+use crate::tasks::{DeedBy, Order};
+use gt_lines::Text;
 use indexmap::IndexSet;
 use std::alloc::{AllocError, Global};
 use std::marker::Model;
@@ -61,12 +61,12 @@ impl<'a> FlagNames<'a> {
 }
 
 // The flag that a line names, if it names one.
-fn flag_in<'a>(line: &RunLine<'a>) -> Option<&'a [u8]>
-    ensures { option_map (λ name. name.now) result ≡ flag_in_line line.now }
+fn flag_in<'a>(deed: &DeedBy<'a, Text<'a>>) -> Option<&'a [u8]>
+    ensures { option_map (λ name. name.now) result ≡ flag_in_line deed.now }
 {
-    match line {
-        RunLine::Do(_) => None,
-        RunLine::Signal(Signal::Tell(flag) | Signal::Await(flag)) => Some(flag.as_bytes()),
+    match deed {
+        DeedBy::Do(_) => None,
+        DeedBy::Tell(flag) | DeedBy::Await(flag) => Some(flag.as_bytes()),
     }
 }
 
@@ -76,7 +76,7 @@ pub fn flags_of<'a>(alloc: Global, orders: &[Order<'a>]) -> Result<FlagNames<'a>
 {
     let mut flags = FlagNames::new(alloc);
     'orders: for order in orders {
-        if let Some(name) = flag_in(&order.asks) {
+        if let Some(name) = flag_in(&order.deed) {
             flags.add(name)?;
         }
     }

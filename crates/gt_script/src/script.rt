@@ -13,11 +13,11 @@ ghost use Rattle.gt_script.specs.Laws.{IsScriptFor, IsScriptOf, StandsFor, Stand
 use crate::blocks::{closing, opening, read_policy};
 use crate::command::Command;
 use crate::faults::{ScriptError, ScriptFault, ScriptFaultKind};
-use crate::orders::{Order, RunLine};
+use crate::tasks::{DeedBy, Order};
 use crate::types::TypeNames;
 use gt_lines::{
-    BodyLine, DomainLine, Line, Number, ScriptAction, Text, TripleLine, line_words, read_line,
-    text_lines,
+    BodyLine, DomainLine, Line, Number, ScriptAction, Signal, Text, TripleLine, line_words,
+    read_line, text_lines,
 };
 use gt_policy::Policy;
 use gt_types::{DomId, DomainConfig, LONGEST_TEXT, Triple, TypeId};
@@ -127,14 +127,15 @@ fn action_in<'a>(asks: BodyLine<'a>) -> Option<ScriptAction<'a>>
 
 // What a line of the body is for `run`.
 #[tactic(auto, unfolding(crate::specs::Script::run_line_in))]
-fn run_line_in<'a>(asks: BodyLine<'a>) -> Option<RunLine<'a>>
+fn run_line_in<'a>(asks: BodyLine<'a>) -> Option<DeedBy<'a, Text<'a>>>
     ensures { result ≡ run_line_in asks.entry }
 {
     match asks {
-        BodyLine::Action(ScriptAction::Do(call)) => Some(RunLine::Do(call)),
+        BodyLine::Action(ScriptAction::Do(call)) => Some(DeedBy::Do(call)),
         BodyLine::Action(ScriptAction::Begin(_) | ScriptAction::Tick(_) | ScriptAction::Show(_)) =>
             None,
-        BodyLine::Signal(signal) => Some(RunLine::Signal(signal)),
+        BodyLine::Signal(Signal::Tell(flag)) => Some(DeedBy::Tell(flag)),
+        BodyLine::Signal(Signal::Await(flag)) => Some(DeedBy::Await(flag)),
     }
 }
 
@@ -342,11 +343,11 @@ impl<'a> Script<'a> {
     ) -> Result<Script<'a>, AddError>
         ensures { AddsLine result (with_order (contents_told self.entry) line dom asks.entry) }
     {
-        let Some(asks) = run_line_in(asks) else {
+        let Some(deed) = run_line_in(asks) else {
             return Err(AddError::Fault(ScriptFaultKind::Mode));
         };
         self.orders
-            .push(Order { line, dom, asks })
+            .push(Order { line, dom, deed })
             .map_err(AllocError::from)?;
         Ok(self)
     }

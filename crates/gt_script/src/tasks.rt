@@ -3,46 +3,54 @@ ghost use Rattle.std.specs.Prelude.{◌≡◌, IfOk, map};
 ghost use Rattle.gt_script.specs.Tasks.{deed_of, task_of, tasks_for};
 
 use crate::flags::FlagNames;
-use crate::orders::{Order, RunLine};
-use gt_lines::{ScriptCall, Signal};
+use gt_lines::{ScriptCall, Text};
 use gt_types::DomId;
 use std::alloc::{AllocError, Global};
 
-/// What a line of the body has its domain do. Flags are named by their numbers.
+/// What a line of the body has its domain do, with its flag as `F` names it.
 #[derive(Debug, Drop)]
-pub enum Deed<'a> {
-    /// The call, from its beginning to its answer.
+pub enum DeedBy<'a, F> {
+    /// `do ID CALL`: the call, from its beginning to its answer.
     Do(ScriptCall<'a>),
-    /// Raises the flag.
-    Tell(usize),
-    /// Goes on once some domain has raised the flag.
-    Await(usize),
+    /// `tell ID FLAG`: raises the flag.
+    Tell(F),
+    /// `await ID FLAG`: goes on once some domain has raised the flag.
+    Await(F),
 }
 
-/// A line of the body, with its number and its domain. The list of a domain is its lines, in their order.
+/// A line of the body, with its number and its domain.
 #[derive(Debug, Drop)]
-pub struct Task<'a> {
+pub struct TaskBy<'a, F> {
     pub line: usize,
     pub dom: DomId,
-    pub deed: Deed<'a>,
+    pub deed: DeedBy<'a, F>,
 }
 
+/// A line as it is written, its flag by name.
+pub(crate) type Order<'a> = TaskBy<'a, Text<'a>>;
+
+/// What a line has its domain do, its flag by number.
+pub type Deed<'a> = DeedBy<'a, usize>;
+
+/// A line whose flag is named by its number. The list of a domain is its lines, in their order.
+pub type Task<'a> = TaskBy<'a, usize>;
+
 #[tactic(auto, unfolding(crate::specs::Tasks::deed_of))]
-fn deed_of<'a>(flags: &FlagNames<'a>, line: RunLine<'a>) -> Deed<'a>
-    ensures { result ≡ deed_of flags.now line.entry }
+fn deed_of<'a>(flags: &FlagNames<'a>, deed: DeedBy<'a, Text<'a>>) -> Deed<'a>
+    ensures { result ≡ deed_of flags.now deed.entry }
 {
-    match line {
-        RunLine::Do(call) => Deed::Do(call),
-        RunLine::Signal(Signal::Tell(flag)) => Deed::Tell(flags.number(flag.as_bytes())),
-        RunLine::Signal(Signal::Await(flag)) => Deed::Await(flags.number(flag.as_bytes())),
+    match deed {
+        DeedBy::Do(call) => Deed::Do(call),
+        DeedBy::Tell(flag) => Deed::Tell(flags.number(flag.as_bytes())),
+        DeedBy::Await(flag) => Deed::Await(flags.number(flag.as_bytes())),
     }
 }
 
 fn task_of<'a>(flags: &FlagNames<'a>, order: Order<'a>) -> Task<'a>
     ensures { result ≡ task_of flags.now order.entry }
 {
-    let Order { line, dom, asks } = order;
-    let deed = deed_of(flags, asks);
+    let TaskBy { line, dom, deed } = order;
+    let deed = deed_of(flags, deed);
     Task { line, dom, deed }
 }
 

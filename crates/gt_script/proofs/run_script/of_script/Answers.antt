@@ -1,7 +1,7 @@
 use Rattle.std.proofs.Common.{◌∙◌, List, ap}
 use Rattle.gt_script.specs.Contents.{Contents, contents_told}
 use Rattle.gt_script.specs.Flags.{flag_names_of}
-use Rattle.gt_script.specs.declared.orders.Order.{Order}
+use Rattle.gt_script.specs.Lists.{Order}
 use Rattle.gt_script.proofs.RunLemmas.{tasks-are, flags-are, numbered, known, says-stuck, says-run}
 use Rattle.gt_script.proofs.run_script.of_script.Goals as goal
 
