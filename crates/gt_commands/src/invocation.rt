@@ -7,6 +7,8 @@ pub enum Mode {
     Play,
     /// Run a script's domains in threads.
     Run,
+    /// Find the texts that a script may give.
+    Explore,
     /// List what a policy allows.
     Policy,
     /// List the rules by which calls are refused.
@@ -40,6 +42,14 @@ pub enum Invocation<'a> {
     Run {
         audit: bool,
         format: Format,
+        file: Option<&'a str>,
+    },
+    /// `find`: only the texts with this word; `witness`: the script for the text of this number instead; `states`: at
+    /// most so many states.
+    Explore {
+        find: Option<&'a str>,
+        witness: Option<usize>,
+        states: usize,
         file: Option<&'a str>,
     },
     Policy {

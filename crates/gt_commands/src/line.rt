@@ -114,6 +114,44 @@ fn run_command<'a>(alloc: Global) -> Result<Command<'a>, AllocError>
         .arg(format_option(alloc, ANSWERS_AS))
 }
 
+// `explore` with what it tells.
+fn explore_of_script<'a>(alloc: Global) -> Result<Command<'a>, AllocError>
+    ensures { IfOk result (λ c. (app_of c ≡ with_rule (with_rule (new_app (codes "explore"))
+        (word_rule file_usage (codes "file"))) (free_option (codes "find"))) × ((fields_of c).has_globals ≡ false)) }
+{
+    let find = free_option(
+        alloc,
+        "find",
+        "WORD",
+        "Prints only the texts with this word; the exit status is 1 if no text has it",
+    );
+    Command::new(alloc, "explore")
+        .about("Finds each text that a script for run may give, over all orders of its domains' moves")
+        .arg(file_word(
+            alloc,
+            "The script, with the lines of each domain; standard input if it is left out",
+        ))?
+        .arg(find)
+}
+
+fn explore_command<'a>(alloc: Global) -> Result<Command<'a>, AllocError>
+    ensures { IfOk result (λ c. (app_of c ≡ mode_app modes.Explore) × ((fields_of c).has_globals ≡ false)) }
+{
+    let witness = free_option(
+        alloc,
+        "witness",
+        "N",
+        "Prints a script for play that gives the text of this number",
+    );
+    let states = free_option(
+        alloc,
+        "states",
+        "N",
+        "The most states that are gone through: 100000 if it is left out",
+    );
+    explore_of_script(alloc)?.arg(witness)?.arg(states)
+}
+
 fn policy_command<'a>(alloc: Global) -> Result<Command<'a>, AllocError>
     ensures { IfOk result (λ c. (app_of c ≡ mode_app modes.Policy) × ((fields_of c).has_globals ≡ false)) }
 {
@@ -253,7 +291,11 @@ fn runners_command<'a>(alloc: Global) -> Result<Command<'a>, AllocError>
 {
     let play = play_command(alloc)?;
     let run = run_command(alloc)?;
-    bare_command(alloc).subcommand(play)?.subcommand(run)
+    let explore = explore_command(alloc)?;
+    bare_command(alloc)
+        .subcommand(play)?
+        .subcommand(run)?
+        .subcommand(explore)
 }
 
 // Those, and the commands that list.

@@ -20,6 +20,7 @@ use gt_advising::why;
 use gt_audit::SharedLog;
 use gt_commands::{Format, Invocation, plan};
 use gt_dump::Asked;
+use gt_explore::{Asked as Searched, explore};
 use gt_run::{Flags, Gate, RunFault};
 use gt_streams::WriteFault;
 use gt_types::DomId;
@@ -35,6 +36,10 @@ pub enum Work<'w> {
     Play {
         audit: bool,
         format: Format,
+    },
+    /// The texts are told that the script may give.
+    Explore {
+        asked: Searched<'w>,
     },
     /// What the policy allows is listed.
     List {
@@ -72,6 +77,10 @@ fn perform<R: Read, W: Write>(
         Work::Play { audit, format } => match play_as(alloc, format, audit, reader, out) {
             Ok(()) => Ok(true),
             Err(fault) => Err(Failure::Play(fault)),
+        },
+        Work::Explore { asked } => match explore(alloc, &asked, reader, out) {
+            Ok(is_any) => Ok(is_any),
+            Err(fault) => Err(Failure::Explore(fault)),
         },
         Work::List { format } => match list_as(alloc, format, reader, out) {
             Ok(()) => Ok(true),
@@ -268,6 +277,22 @@ fn follow<R: Threads + Wait + Sync, T: Texts, W: Write, E: Eprint>(
             format,
             file,
         } => report(err, run_on(rt, alloc, texts, format, audit, file, out)),
+        Invocation::Explore {
+            find,
+            witness,
+            states,
+            file,
+        } => {
+            let asked = Searched {
+                find,
+                witness,
+                states,
+            };
+            report(
+                err,
+                perform_on(alloc, texts, Work::Explore { asked }, file, out),
+            )
+        }
         Invocation::Policy { format, file } => {
             report(
                 err,

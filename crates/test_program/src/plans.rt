@@ -12,7 +12,7 @@ fn words_of(alloc: Global, line: &str) -> Result<Vec<String>, AllocError> {
     Ok(words)
 }
 
-const PLANS: [(&str, Invocation<'static>); 28] = [
+const PLANS: [(&str, Invocation<'static>); 32] = [
     (
         "gthost play",
         Invocation::Play {
@@ -247,6 +247,42 @@ const PLANS: [(&str, Invocation<'static>); 28] = [
             file: None,
         },
     ),
+    (
+        "gthost explore",
+        Invocation::Explore {
+            find: None,
+            witness: None,
+            states: 100_000,
+            file: None,
+        },
+    ),
+    (
+        "gthost explore --find N18 --states 500 a.gt",
+        Invocation::Explore {
+            find: Some("N18"),
+            witness: None,
+            states: 500,
+            file: Some("a.gt"),
+        },
+    ),
+    (
+        "gthost explore a.gt --witness=3",
+        Invocation::Explore {
+            find: None,
+            witness: Some(3),
+            states: 100_000,
+            file: Some("a.gt"),
+        },
+    ),
+    (
+        "gthost explore --states=18446744073709551615 --witness +0",
+        Invocation::Explore {
+            find: None,
+            witness: Some(0),
+            states: usize::MAX,
+            file: None,
+        },
+    ),
 ];
 
 #[test]
@@ -263,7 +299,7 @@ fn a_line_is_planned_as_it_asks(rt: HostRuntime) -> Result<(), Fail> {
 }
 
 // Lines that are no plan, and whether they are faults.
-const REFUSED: [(&str, bool); 40] = [
+const REFUSED: [(&str, bool); 51] = [
     ("gthost --help", false),
     ("gthost --version", false),
     ("gthost -h", false),
@@ -304,6 +340,17 @@ const REFUSED: [(&str, bool); 40] = [
     ("gthost entries --version 1 --script=-1", true),
     ("gthost entries --version 1 -V", true),
     ("gthost entries -h", false),
+    ("gthost explore -h", false),
+    ("gthost explore a.gt b.gt", true),
+    ("gthost explore --audit", true),
+    ("gthost explore --find", true),
+    ("gthost explore --find N19 --find N18", true),
+    ("gthost explore --find N19 --witness 1", true),
+    ("gthost explore --witness one", true),
+    ("gthost explore --witness=-1", true),
+    ("gthost explore --states", true),
+    ("gthost explore --states 1e5", true),
+    ("gthost explore --states 18446744073709551616", true),
 ];
 
 #[test]
