@@ -16,7 +16,7 @@ use Rattle.gt_calls.specs.declared.held.Held.{Held}
 use Rattle.gt_calls.specs.declared.held.Route.{Route}
 use Rattle.gt_calls.specs.declared.held.Route.TheVariants.{Own, Direct, Through}
 use Rattle.gt_calls.specs.Resting.{GivesHeld}
-use Rattle.gt_frames.specs.declared.places.FrameName.{FrameName}
+use Rattle.gt_types.specs.declared.places.FrameName.{FrameName}
 use Rattle.gt_frames.specs.Frames.{covers}
 use Rattle.gt_access.specs.Routes.{ReachesBy, writ_by}
 

@@ -1,7 +1,7 @@
 -- What an access did to the frames that it locked.
 use Rattle.std.proofs.Common.{◌≡◌, ◌∙◌, ℕ, sym, ap, subst, Option, Some, None, Ok, Err, List, [], ◌∷◌, ◌++◌}
-use Rattle.gt_frames.specs.declared.places.FrameName.{FrameName}
-use Rattle.gt_frames.specs.declared.places.Spot.{Spot}
+use Rattle.gt_types.specs.declared.places.FrameName.{FrameName}
+use Rattle.gt_types.specs.declared.places.Spot.{Spot}
 use Rattle.gt_frames.specs.declared.pool.Ends.{Ends}
 use Rattle.gt_frames.specs.declared.writ.Writ.{Writ}
 use Rattle.gt_frames.specs.Frames.{FrameState, bytes_at, IsWrite}

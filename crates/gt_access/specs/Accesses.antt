@@ -1,8 +1,8 @@
 -- What accesses answer.
 use Rattle.std.specs.Prelude.{◌≡◌, ℕ, List, length}
 use Rattle.gt_types.specs.declared.DomId.{DomId}
-use Rattle.gt_frames.specs.declared.places.FrameName.{FrameName}
-use Rattle.gt_frames.specs.declared.places.Spot.{Spot}
+use Rattle.gt_types.specs.declared.places.FrameName.{FrameName}
+use Rattle.gt_types.specs.declared.places.Spot.{Spot}
 use Rattle.gt_frames.specs.Receipts.{Reading, Writing, Copying, End}
 
 -- what was read are so many bytes of the frame of this name, from off on

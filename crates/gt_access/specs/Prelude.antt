@@ -8,7 +8,7 @@ pub use Rattle.gt_calls.specs.declared.held.Pins.{Pins}
 pub use Rattle.gt_calls.specs.declared.held.Route.{Route}
 pub use Rattle.gt_calls.specs.declared.held.Route.TheVariants.{Direct, Own, Through}
 pub use Rattle.gt_entry.specs.Permits.{forwards, is_of_frame, permits}
-pub use Rattle.gt_frames.specs.declared.places.FrameName.{FrameName}
+pub use Rattle.gt_types.specs.declared.places.FrameName.{FrameName}
 pub use Rattle.gt_frames.specs.declared.writ.Ground.TheVariants.{Forwarded, Granted, Owned}
 pub use Rattle.gt_frames.specs.declared.writ.Writ.{Writ}
 pub use Rattle.gt_types.specs.Names.{copy}

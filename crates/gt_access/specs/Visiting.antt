@@ -1,7 +1,7 @@
 -- What an access does to frames under their locks.
 use Rattle.std.specs.Prelude.{◌≡◌, ℕ, Option, Some, None, Result, Ok, Err, List, [], ◌∷◌, ◌++◌}
-use Rattle.gt_frames.specs.declared.places.FrameName.{FrameName}
-use Rattle.gt_frames.specs.declared.places.Spot.{Spot}
+use Rattle.gt_types.specs.declared.places.FrameName.{FrameName}
+use Rattle.gt_types.specs.declared.places.Spot.{Spot}
 use Rattle.gt_frames.specs.declared.writ.Writ.{Writ}
 use Rattle.gt_frames.specs.Frames.{bytes_at, IsWrite}
 use Rattle.gt_frames.specs.Receipts.{Reading, Writing, Copying, reading_of}

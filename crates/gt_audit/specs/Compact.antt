@@ -50,8 +50,8 @@ called asks.Unmap p = calls.Unmap (Some (domain_kept p.dom, reference_at p.sourc
 called asks.UnmapOfNothing p = calls.Unmap None
 called asks.Copy p =
     calls.Copy
-    (record { ptr = p.source; dom = domain_kept p.dom; off = p.source_off })
-    (record { ptr = p.dest; dom = domain_kept p.dest_dom; off = p.dest_off })
+    (record { ptr = p.source; domid = domain_kept p.dom; offset = p.source_off })
+    (record { ptr = p.dest; domid = domain_kept p.dest_dom; offset = p.dest_off })
     p.len
     p.flags
 called asks.QuerySize p = calls.QuerySize (domain_kept p.dom)

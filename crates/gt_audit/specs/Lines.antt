@@ -5,7 +5,7 @@ use Rattle.gt_types.specs.declared.GrantRef.{GrantRef}
 use Rattle.gt_types.specs.declared.TypeId.{TypeId}
 use Rattle.gt_types.specs.Names.{resolved}
 use Rattle.gt_texts.specs.Printing.{denial_text, frames_text, size_text, version_text}
-use Rattle.gt_audit.specs.declared.record.CopyEnd.{CopyEnd}
+use Rattle.gt_types.specs.declared.copies.End.{End}
 use Rattle.gt_audit.specs.declared.record.Hypercall.{Hypercall}
 use Rattle.gt_audit.specs.declared.record.Hypercall.TheVariants.{Map, Unmap, Copy, QuerySize, GetVersion, SetVersion}
 use Rattle.gt_audit.specs.declared.record.Hypercall.TheVariants.{SetupTable}
@@ -26,14 +26,14 @@ abbrev pub copy_kind_text : Bool → List ℕ
 copy_kind_text is_reference = if is_reference then codes "gref" else codes "frame"
 
 -- ` KIND DOM PTR OFF`
-abbrev pub end_text : DomId → Bool → CopyEnd → List ℕ
+abbrev pub end_text : DomId → Bool → End → List ℕ
 end_text caller is_reference end =
-    codes " " ++ copy_kind_text is_reference ++ codes " " ++ domain_text caller end.dom ++ codes " " ++ decimal end.ptr
-    ++ codes " " ++ decimal end.off
+    codes " " ++ copy_kind_text is_reference ++ codes " " ++ domain_text caller end.domid ++ codes " " ++ decimal end.ptr
+    ++ codes " " ++ decimal end.offset
 
 -- `copy`, its ends, source first, its length and its flags: bit 0 is the
 -- source's kind, bit 1 the destination's (GNTCOPY of grant_table.h)
-abbrev pub copy_text : DomId → CopyEnd → CopyEnd → ℕ → ℕ → List ℕ
+abbrev pub copy_text : DomId → End → End → ℕ → ℕ → List ℕ
 copy_text caller source dest len flags =
     codes "copy" ++ end_text caller (bit_and flags 1 == 1) source ++ end_text caller (bit_and flags 2 == 2) dest
     ++ codes " " ++ decimal len ++ codes " " ++ decimal flags

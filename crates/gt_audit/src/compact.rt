@@ -4,9 +4,9 @@ ghost use Rattle.gt_audit.specs.Compact.{FitsCall, FitsReply, HasCall, HasReply}
 ghost use Rattle.gt_audit.specs.Compact.{called, facts_of, field_at, replied};
 ghost use Rattle.gt_audit.specs.declared.record.Reply.TheVariants.{Denied};
 
-use crate::record::{CopyEnd, Hypercall, Record, Reply};
+use crate::record::{Hypercall, Record, Reply};
 use bitflags::Flags;
-use gt_types::{Denial, DomId, Facts, Field, GrantRef, Perms, Rule, Size, Status, TypeId};
+use gt_types::{Denial, DomId, End, Facts, Field, GrantRef, Perms, Rule, Size, Status, TypeId};
 use std::marker::Model;
 
 // What was asked, without its numbers.
@@ -153,12 +153,12 @@ fn with_call(call: Hypercall, rest: Packed) -> Packed
             flags,
         } => Packed {
             asked: Asked::Copy,
-            dom: source.dom.0,
+            dom: source.domid.0,
             source: source.ptr,
-            source_off: source.off,
-            dest_dom: dest.dom.0,
+            source_off: source.offset,
+            dest_dom: dest.domid.0,
             dest: dest.ptr,
-            dest_off: dest.off,
+            dest_off: dest.offset,
             len,
             flags,
             ..rest
@@ -284,15 +284,15 @@ fn called(parts: &Packed) -> Hypercall
         },
         Asked::UnmapOfNothing => Hypercall::Unmap { subject: None },
         Asked::Copy => Hypercall::Copy {
-            source: CopyEnd {
+            source: End {
                 ptr: parts.source,
-                dom,
-                off: parts.source_off,
+                domid: dom,
+                offset: parts.source_off,
             },
-            dest: CopyEnd {
+            dest: End {
                 ptr: parts.dest,
-                dom: DomId(parts.dest_dom),
-                off: parts.dest_off,
+                domid: DomId(parts.dest_dom),
+                offset: parts.dest_off,
             },
             len: parts.len,
             flags: parts.flags,

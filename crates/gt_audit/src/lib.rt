@@ -23,7 +23,7 @@ mod told;
 mod trail;
 
 pub use lines::{line, push_line, push_lost};
-pub use record::{CopyEnd, Hypercall, Record, Reply};
+pub use record::{Hypercall, Record, Reply};
 pub use shared::{Pushed, SharedLog};
 pub use told::Told;
 pub use trail::Trail;

@@ -7,9 +7,9 @@ ghost use Rattle.gt_audit.specs.Lines.{domain_text, reference_text, copy_kind_te
 ghost use Rattle.gt_audit.specs.Lines.{hypercall_text};
 ghost use Rattle.gt_audit.specs.Lines.{asked_text, reply_text, line_text, lost_text};
 
-use crate::record::{CopyEnd, Hypercall, Record, Reply};
+use crate::record::{Hypercall, Record, Reply};
 use gt_texts::{push_denial, push_frames, push_number, push_size, push_text, push_version};
-use gt_types::{DOMID_SELF, DomId, GrantRef, Memory};
+use gt_types::{DOMID_SELF, DomId, End, GrantRef, Memory};
 use std::alloc::{AllocError, Global};
 use std::convert::AsSlice;
 
@@ -79,7 +79,7 @@ fn push_end(
     out: &mut Vec<u8>,
     caller: DomId,
     is_reference: bool,
-    end: CopyEnd,
+    end: End,
 ) -> Result<(), AllocError>
     ensures text { OnOk result (out.new.items ≡ out.old.items ++ end_text caller is_reference end) }
     ensures stays { OnOk result (StaysText out.old.items out.new.items) }
@@ -87,18 +87,18 @@ fn push_end(
     push_text(out, " ")?;
     push_text(out, kind(is_reference))?;
     push_text(out, " ")?;
-    push_domain(out, caller, end.dom)?;
+    push_domain(out, caller, end.domid)?;
     push_text(out, " ")?;
     push_number(out, end.ptr)?;
     push_text(out, " ")?;
-    push_number(out, end.off)
+    push_number(out, end.offset)
 }
 
 fn push_copy(
     out: &mut Vec<u8>,
     caller: DomId,
-    source: CopyEnd,
-    dest: CopyEnd,
+    source: End,
+    dest: End,
     len: u16,
     flags: u16,
 ) -> Result<(), AllocError>

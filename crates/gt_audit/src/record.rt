@@ -1,13 +1,5 @@
 //! What is recorded of a hypercall.
-use gt_types::{Denial, DomId, GrantRef, Size};
-
-/// One end of a copy as it was asked: a grant reference of the domain, or the number of a frame.
-#[derive(Clone, Copy, Debug, PartialEq, Eq)]
-pub struct CopyEnd {
-    pub ptr: u64,
-    pub dom: DomId,
-    pub off: u16,
-}
+use gt_types::{Denial, DomId, End, GrantRef, Size};
 
 /// What a domain asked. A domain named as [`DOMID_SELF`](gt_types::DOMID_SELF) is the caller.
 #[derive(Clone, Copy, Debug, PartialEq, Eq)]
@@ -25,8 +17,8 @@ pub enum Hypercall {
     /// Bit 0 of the flags says that the source is a grant reference, bit 1 the same of the destination
     /// (GNTCOPY of the public header).
     Copy {
-        source: CopyEnd,
-        dest: CopyEnd,
+        source: End,
+        dest: End,
         len: u16,
         flags: u16,
     },

@@ -10,11 +10,11 @@ pub use Rattle.gt_c.specs.declared.faults.Fault.{Fault}
 pub use Rattle.gt_c.specs.declared.handle.Handle.{Handle}
 pub use Rattle.gt_c.specs.declared.here.Here.{Here}
 pub use Rattle.gt_c.specs.declared.telling.Mapping.{Mapping}
-pub use Rattle.gt_calls.specs.declared.action.Place.{Place}
+pub use Rattle.gt_types.specs.declared.places.Spot.{Spot}
 pub use Rattle.gt_calls.specs.declared.action.Verdict.{Verdict}
 pub use Rattle.gt_calls.specs.declared.held.Held.{Held as Mapped}
-pub use Rattle.gt_calls.specs.declared.request.CopyArgs.{CopyArgs}
-pub use Rattle.gt_calls.specs.declared.request.End.{End}
+pub use Rattle.gt_types.specs.declared.copies.CopyArgs.{CopyArgs}
+pub use Rattle.gt_types.specs.declared.copies.End.{End}
 pub use Rattle.gt_calls.specs.declared.request.Request.{Request}
 pub use Rattle.gt_entry.specs.Entries.{frame_of}
 pub use Rattle.gt_handles.specs.Handles.{value_of}

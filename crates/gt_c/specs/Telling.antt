@@ -1,6 +1,6 @@
 -- What exports tell in layouts of C: the places of a copy, a mapping, a record.
 use Rattle.std.specs.Prelude.{◌≡◌, ◌⊎◌, ◌≤◌, ℕ, List, Option, Some, None, Result, Ok, Err}
-use Rattle.gt_c.specs.Prelude.{slice_get, Dir, Read, Write, Denial, Kept, Place, Mapped, CopyArgs, End, frame_of, Name}
+use Rattle.gt_c.specs.Prelude.{slice_get, Dir, Read, Write, Denial, Kept, Spot, Mapped, CopyArgs, End, frame_of, Name}
 use Rattle.gt_c.specs.Prelude.{value_of, encoded, no_end, record_kept, BeginsAccess, EndsAccess, Answer, Outcome}
 use Rattle.gt_c.specs.Prelude.{Places, CopyEnd}
 use Rattle.gt_c.specs.Prelude.{Record, CopySettings, PlaceTold, PlacesTold, Mapping, Fault, Handle, Here}
@@ -16,8 +16,8 @@ abbrev pub copy_asked : CopySettings → CopyArgs
 copy_asked c = record { source = end_asked c.source; dest = end_asked c.dest; len = c.len; flags = c.flags }
 
 -- a place as C reads it
-abbrev pub place_told : Place → PlaceTold
-place_told p = record { frame = p.frame; owner = p.owner.0; off = p.off }
+abbrev pub place_told : Spot → PlaceTold
+place_told p = record { frame = p.frame.number; owner = p.frame.owner.0; off = p.off }
 
 -- no place
 abbrev pub no_place : PlaceTold

@@ -8,7 +8,7 @@ ghost use Rattle.gt_c.specs.Telling.{places_told};
 
 use crate::calls::{enter, nowhere};
 use crate::handle::Handle;
-use gt_calls::{CopyArgs, End, Place};
+use gt_calls::{CopyArgs, End, Spot};
 use gt_seat::{Answer, CopyEnd, Outcome, Places};
 use gt_types::{Denial, DomId};
 use std::alloc::Global;
@@ -70,12 +70,12 @@ fn copy_asked(copy: CopySettings) -> CopyArgs
     }
 }
 
-fn place_told(place: Place) -> PlaceTold
+fn place_told(place: Spot) -> PlaceTold
     ensures { result ≡ place_told place }
 {
     PlaceTold {
-        frame: place.frame,
-        owner: place.owner.0,
+        frame: place.frame.number,
+        owner: place.frame.owner.0,
         off: place.off,
     }
 }

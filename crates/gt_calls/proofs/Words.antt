@@ -1,5 +1,6 @@
 -- The words that these proofs use, from the crates below and from the definitions of this one.
-pub use Rattle.std.{proofs.Common.Bool, proofs.Common.List, proofs.Common.None, proofs.Common.Option}
+pub use Rattle.std.{proofs.Common.Bool, proofs.Common.Err, proofs.Common.List, proofs.Common.None}
+pub use Rattle.std.{proofs.Common.Ok, proofs.Common.Option}
 pub use Rattle.std.{proofs.Common.Some, proofs.Common.[], proofs.Common.ap, proofs.Common.arith, proofs.Common.cond}
 pub use Rattle.std.{proofs.Common.drop, proofs.Common.false, proofs.Common.inl, proofs.Common.inr, proofs.Common.length}
 pub use Rattle.std.{proofs.Common.refl, proofs.Common.subst, proofs.Common.suc, proofs.Common.sym, proofs.Common.true}
@@ -13,7 +14,8 @@ pub use Rattle.gt_types.specs.{Names.domain_of, Names.resolved, declared.Dir.The
 pub use Rattle.gt_types.specs.{declared.Dir.TheVariants.Write, declared.DomId.DomId, declared.GrantRef.GrantRef}
 pub use Rattle.gt_types.specs.{declared.Use.TheVariants.Copy as ForCopy, declared.denial.Rule.Rule}
 pub use Rattle.gt_types.specs.{declared.denial.Rule.TheVariants.N19, declared.limits.TheConstants.LAST_GENERATION}
-pub use Rattle.gt_types.specs.{declared.limits.TheConstants.MAX_TRIES, declared.Dir.Dir}
+pub use Rattle.gt_types.specs.{declared.limits.TheConstants.MAX_TRIES, declared.Dir.Dir, declared.copies.End.End}
+pub use Rattle.gt_types.specs.{declared.copies.CopyArgs.CopyArgs, Copies.is_dest_granted, Copies.is_source_granted}
 pub use Rattle.gt_entry.specs.{Bytes.IsLaidOutV2, Bytes.Spells, Bytes.SpellsV1, Bytes.SpellsV2, Bytes.field}
 pub use Rattle.gt_entry.specs.{Bytes.first_refused, Bytes.flags_of, Bytes.is_set, Spelling.entry_of}
 pub use Rattle.gt_entry.specs.{Spelling.entry_with, Words.control_of, Words.header_of, declared.change.Change.Change}
@@ -48,8 +50,8 @@ pub use Rattle.gt_calls.specs.{Resting.IsPermitted, Resting.IsReached, Resting.I
 pub use Rattle.gt_calls.specs.{Resting.LookedLast, Resting.Rests, Resting.RestsOnRequest, Resting.RestsStep}
 pub use Rattle.gt_calls.specs.{Rules.CallerKnowledge, Rules.before_pin, Rules.begun, Rules.cannot_stand}
 pub use Rattle.gt_calls.specs.{Rules.copy_denied, Rules.entry_in, Rules.first, Rules.first_body, Rules.first_look}
-pub use Rattle.gt_calls.specs.{Rules.frame_count_of, Rules.is_dest_granted, Rules.is_invalid, Rules.is_kind}
-pub use Rattle.gt_calls.specs.{Rules.is_source_granted, Rules.knows, Rules.pins_of, Rules.size_of, Rules.via_judged}
+pub use Rattle.gt_calls.specs.{Rules.frame_count_of, Rules.is_invalid, Rules.is_kind}
+pub use Rattle.gt_calls.specs.{Rules.knows, Rules.pins_of, Rules.size_of, Rules.via_judged}
 pub use Rattle.gt_calls.specs.{Standing.HasReadFirst, Standing.HasShown, Standing.HasTried, Standing.IsQuiet}
 pub use Rattle.gt_calls.specs.{Standing.IsTurn, Standing.StandsAt, Standing.held_in, Standing.pins_at}
 pub use Rattle.gt_calls.specs.{declared.action.Action.Action, declared.action.Action.TheVariants.Done}
@@ -69,9 +71,7 @@ pub use Rattle.gt_calls.specs.{declared.copying.Aim.TheVariants.Dest, declared.c
 pub use Rattle.gt_calls.specs.{declared.copying.Aim.TheVariants.Source, declared.held.Held.Held}
 pub use Rattle.gt_calls.specs.{declared.held.Pins.Pins, declared.held.Route.Route}
 pub use Rattle.gt_calls.specs.{declared.held.Route.TheVariants.Direct, declared.held.Route.TheVariants.Through}
-pub use Rattle.gt_calls.specs.{declared.judging.Judged.TheVariants.Done as JudgedDone}
-pub use Rattle.gt_calls.specs.{declared.judging.Judged.TheVariants.Open}
-pub use Rattle.gt_calls.specs.{declared.judging.Judged.TheVariants.Open as JudgedOpen, declared.leg.Leg.Leg}
+pub use Rattle.gt_calls.specs.{declared.leg.Leg.Leg}
 pub use Rattle.gt_calls.specs.{declared.leg.LegNext.LegNext, declared.leg.LegNext.TheVariants.Going}
 pub use Rattle.gt_calls.specs.{declared.leg.LegNext.TheVariants.Pinned}
 pub use Rattle.gt_calls.specs.{declared.leg.LegNext.TheVariants.Refused as LegRefused, declared.leg.LegPhase.LegPhase}
@@ -80,9 +80,9 @@ pub use Rattle.gt_calls.specs.{declared.leg.LegPhase.TheVariants.Look, declared.
 pub use Rattle.gt_calls.specs.{declared.leg.LegPhase.TheVariants.Relook, declared.leg.LegPhase.TheVariants.Second}
 pub use Rattle.gt_calls.specs.{declared.leg.TheConstants.MORE_TRIES, declared.request.Asked.Asked}
 pub use Rattle.gt_calls.specs.{declared.request.Asked.TheVariants.Copy, declared.request.Asked.TheVariants.Grant}
-pub use Rattle.gt_calls.specs.{declared.request.Asked.TheVariants.Map, declared.request.CopyArgs.CopyArgs}
+pub use Rattle.gt_calls.specs.{declared.request.Asked.TheVariants.Map}
 pub use Rattle.gt_calls.specs.{declared.request.Request.Request, declared.call.TheConstants.MAX_STEPS}
-pub use Rattle.gt_calls.specs.{declared.request.End.End, declared.call.Call.Call}
+pub use Rattle.gt_calls.specs.{declared.call.Call.Call}
 pub use Rattle.gt_calls.specs.{declared.call.Start.TheVariants.Done as StartDone, MapCalls.MapCall}
 pub use Rattle.gt_calls.specs.{MapCalls.MapBeginsAs}
 pub use Rattle.gt_calls.specs.{MapCalls.MapGoesOnAs}

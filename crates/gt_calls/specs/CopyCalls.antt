@@ -6,7 +6,7 @@ use Rattle.gt_calls.specs.declared.action.Seen.TheVariants.{Nothing}
 use Rattle.gt_calls.specs.declared.call.Call.{Call}
 use Rattle.gt_calls.specs.declared.call.Phase.{Phase}
 use Rattle.gt_calls.specs.declared.request.Asked.TheVariants.{Copy}
-use Rattle.gt_calls.specs.declared.request.CopyArgs.{CopyArgs}
+use Rattle.gt_types.specs.declared.copies.CopyArgs.{CopyArgs}
 use Rattle.gt_calls.specs.Following.{Goes}
 use Rattle.gt_calls.specs.Machine.{action_at, at_source, phase_after}
 use Rattle.gt_calls.specs.Rules.{CallerKnowledge}

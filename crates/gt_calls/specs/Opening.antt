@@ -9,7 +9,8 @@ use Rattle.gt_calls.specs.Prelude.{Held, CopyArgs, End, Rule, Verdict}
 use Rattle.gt_calls.specs.Rules.{CallerKnowledge, IsOfRun, is_already, cannot_stand, frame_count_of, is_invalid}
 use Rattle.gt_calls.specs.Rules.{size_of}
 use Rattle.gt_calls.specs.Rules.{map_dir, rights_to_map, rights_to_unmap, rights_to_copy, rights_to_setup}
-use Rattle.gt_calls.specs.Rules.{rights_to_query, is_source_granted, is_dest_granted, begun, first, refused_when}
+use Rattle.gt_calls.specs.Rules.{rights_to_query, begun, first, refused_when}
+use Rattle.gt_types.specs.Copies.{is_source_granted, is_dest_granted}
 use Rattle.gt_calls.specs.Rules.{denied, has_valid, ends_named, ends_ranged, ends_owned, ends_framed, is_foreign}
 use Rattle.gt_calls.specs.Rules.{is_past_frames}
 

@@ -1,7 +1,7 @@
 -- The names of other crates, and of the code, that the definitions here speak of.
 pub use Rattle.gt_calls.specs.declared.action.Action.{Action}
 pub use Rattle.gt_calls.specs.declared.action.Action.TheVariants.{Done, Step as Makes}
-pub use Rattle.gt_calls.specs.declared.action.Place.{Place}
+pub use Rattle.gt_types.specs.declared.places.Spot.{Spot}
 pub use Rattle.gt_calls.specs.declared.action.Seen.{Seen}
 pub use Rattle.gt_calls.specs.declared.action.Seen.TheVariants.{Missed, Nothing, Taken, Word}
 pub use Rattle.gt_calls.specs.declared.action.Step.{Step}
@@ -27,7 +27,6 @@ pub use Rattle.gt_calls.specs.declared.held.Held.{Held}
 pub use Rattle.gt_calls.specs.declared.held.Pins.{Pins}
 pub use Rattle.gt_calls.specs.declared.held.Route.{Route}
 pub use Rattle.gt_calls.specs.declared.held.Route.TheVariants.{Direct, Own, Through}
-pub use Rattle.gt_calls.specs.declared.judging.Judged.{Judged}
 pub use Rattle.gt_calls.specs.declared.judging.TheConstants.{END_OF_SERIALS}
 pub use Rattle.gt_calls.specs.declared.known.Known.{Known}
 pub use Rattle.gt_calls.specs.declared.leg.Leg.{Leg}
@@ -40,8 +39,8 @@ pub use Rattle.gt_calls.specs.declared.request.Asked.{Asked}
 pub use Rattle.gt_calls.specs.declared.request.Asked.TheVariants.{Copy, Demote, GetVersion, Grant, Load, Map, Peek}
 pub use Rattle.gt_calls.specs.declared.request.Asked.TheVariants.{Poke, Promote, QuerySize, Revoke, SetVersion}
 pub use Rattle.gt_calls.specs.declared.request.Asked.TheVariants.{SetupTable, Store, Unmap, Withdraw}
-pub use Rattle.gt_calls.specs.declared.request.CopyArgs.{CopyArgs}
-pub use Rattle.gt_calls.specs.declared.request.End.{End}
+pub use Rattle.gt_types.specs.declared.copies.CopyArgs.{CopyArgs}
+pub use Rattle.gt_types.specs.declared.copies.End.{End}
 pub use Rattle.gt_calls.specs.declared.request.Holder.TheVariants.{Leg as ByLeg, Mapping as ByHandle}
 pub use Rattle.gt_calls.specs.declared.request.Request.{Request}
 pub use Rattle.gt_entry.specs.Bytes.{Spells, field, first_refused, flags_of, is_set}

@@ -4,7 +4,7 @@ ghost use Rattle.gt_calls.specs.CopyCalls.{CopyBeginsAs, CopyGoesOnAs};
 ghost use Rattle.gt_calls.specs.Rules.{CallerKnowledge};
 ghost use Rattle.gt_calls.specs.declared.action.Seen.{Seen};
 ghost use Rattle.gt_calls.specs.declared.call.Phase.{Phase};
-ghost use Rattle.gt_calls.specs.declared.request.CopyArgs.{CopyArgs};
+ghost use Rattle.gt_types.specs.declared.copies.CopyArgs.{CopyArgs};
 
 /// A law: a copy begins as its call does, with the leg to its source, or else to its destination.
 pub fn every_copy_begins_at_its_source()

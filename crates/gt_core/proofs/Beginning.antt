@@ -14,7 +14,7 @@ use Rattle.gt_core.proofs.Words.{FitsAsked, PhaseStands, OpenAgrees, CallAgrees,
 use Rattle.gt_core.proofs.Words.{StateAgrees, DomainsStand, OpensAs, numbered, misses, ◌^◌, IsSaid, first_phase, IsAt}
 use Rattle.gt_core.proofs.Words.{pins_by_call, steps_to_come, asks_memory, WantsMemory, IsOpenCall, answer_of}
 use Rattle.gt_core.proofs.Words.{cond_both}
-use Rattle.gt_core.proofs.Words.{StartOpen, OpeningOpen}
+use Rattle.gt_core.proofs.Words.{StartOpen, Ok}
 use Rattle.gt_core.{specs.Standing.IsMapping, proofs.Keeping.KeepsEntries, proofs.Keeping.known-same}
 use Rattle.gt_core.{proofs.Keeping.open_call-own, proofs.Keeping.stood-own, proofs.Keeping.given-none}
 use Rattle.gt_core.{proofs.Keeping.quiet-stands, proofs.Steps.Observers.KeepsKnown, proofs.Steps.Observers.kept-known}
@@ -193,13 +193,13 @@ begin-answers s h domains dom at x request v y e p here idle op st = let a = agr
 
 pub begin-opened : (s : Setting) (h : History) (domains : List State) (dom : DomId) (at : ℕ) (x : State) (request : Request) (o : Open)
     → FitsAsked o.call.request → position (has_id dom.0) domains ≡ Some at → x ≡ get_or domains at x → is_some x.underway ≡ false
-    → OpensAs (knowledge_of s.domains s.first_generation s.may x.own x.header x.mappings) dom request (OpeningOpen o) → DomainsStand s h domains
+    → OpensAs (knowledge_of s.domains s.first_generation s.may x.own x.header x.mappings) dom request (Ok o) → DomainsStand s h domains
     → (domain_of s.domains dom ≢ None) × IsRight s h (began dom request None) × DomainsStand s (began dom request None ∷ h) (set domains at (with_open_call o (kept_by o.call.request (bytes_given_by request)) x))
 begin-opened s h domains dom at x request o fits p here idle op st =
     let a = agrees-found s h domains dom at x p here st in
     let f = found domains dom.0 at x p ∙ ap (λ (y : State). Some y) (sym here) in
     let places = position-Some (has_id dom.0) domains at x p in
-    let both = subst (λ (d : DomId). OpensAs (knowledge_of s.domains s.first_generation s.may x.own x.header x.mappings) d request (OpeningOpen o) → state_of domains d.0 ≡ Some x
+    let both = subst (λ (d : DomId). OpensAs (knowledge_of s.domains s.first_generation s.may x.own x.header x.mappings) d request (Ok o) → state_of domains d.0 ≡ Some x
     → ((k : ℕ) → k < at → has_id d.0 (get_or domains k x) ≡ false)
     → IsRight s h (began d request None) × DomainsStand s (began d request None ∷ h) (set domains at (with_open_call o (kept_by o.call.request (bytes_given_by request)) x))) a.1
     (λ op g apart. let b = begin-opens s h x request o fits a.2 (closed-from x.underway idle) op in (
@@ -220,7 +220,7 @@ tick-idle s h domains dom at x p here closed st = let a = agrees-found s h domai
 -- a beginning for which memory is wanted
 pub begin-wants : (s : Setting) (h : History) (domains : List State) (dom : DomId) (at : ℕ) (x : State) (request : Request) (o : Open)
     → asks_memory o.call.request ≡ true → position (has_id dom.0) domains ≡ Some at → x ≡ get_or domains at x → is_some x.underway ≡ false
-    → OpensAs (knowledge_of s.domains s.first_generation s.may x.own x.header x.mappings) dom request (OpeningOpen o) → DomainsStand s h domains → WantsMemory s h dom request
+    → OpensAs (knowledge_of s.domains s.first_generation s.may x.own x.header x.mappings) dom request (Ok o) → DomainsStand s h domains → WantsMemory s h dom request
 begin-wants s h domains dom at x request o asks p here idle op st =
     let a = agrees-found s h domains dom at x p here st in (
       ap asks_memory (sym op.asks) ∙ asks,

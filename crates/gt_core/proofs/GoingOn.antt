@@ -25,15 +25,15 @@ use Rattle.std.proofs.Common.{◌+◌, ◌-◌, ◌≤◌, arith, drop, length-d
 use Rattle.std.proofs.lemmas.Bool.Decides.{nat_tests}
 use Rattle.std.proofs.lemmas.List.{length-take-le}
 use Rattle.gt_types.specs.declared.limits.TheConstants.{FRAME_SIZE}
-use Rattle.gt_calls.specs.declared.action.Place.{Place}
+use Rattle.gt_types.specs.declared.places.Spot.{Spot}
 use Rattle.gt_frames.specs.Bytes.{Patch, written}
 use Rattle.gt_frames.specs.Frames.{bytes_at, contents}
 use Rattle.gt_frames.specs.Sets.{admits, frame_at, has_range}
-use Rattle.gt_frames.specs.declared.places.FrameName.{FrameName}
+use Rattle.gt_types.specs.declared.places.FrameName.{FrameName}
 use Rattle.gt_frames.specs.declared.writ.Writ.{Writ}
 use Rattle.gt_core.proofs.Steps.Write.{open-admitted}
 use Rattle.gt_core.proofs.Writing.{can-write}
-use Rattle.gt_core.specs.Accesses.{IsAdmitted, ground_of, frame_name_at, route_of}
+use Rattle.gt_core.specs.Accesses.{IsAdmitted, ground_of, route_of}
 use Rattle.gt_core.specs.History.{contents_at}
 use Rattle.gt_core.specs.declared.trace.Answer.TheVariants.{Bytes as BytesAnswer}
 use Rattle.gt_core.specs.declared.trace.Bytes.{Bytes}
@@ -315,7 +315,7 @@ module _ (s : Setting) (h : History) (fs : FrameSet) (fr : FramesStand s h fs) w
     write-ends gs dom frame off len (Done (KeptPin held)) answer so = absurd so
     write-ends gs dom frame off len (Done (Refused denial)) answer so = absurd so
 
-    copy-ends : (gs : FrameSet) (from to : Place) (len : ℕ) (action : Action) (answer : Option Answer) → AccessAnsweredSo h (CopyBytes from to len) action answer → EndsIn gs (CopyBytes from to len) x action answer
+    copy-ends : (gs : FrameSet) (from to : Spot) (len : ℕ) (action : Action) (answer : Option Answer) → AccessAnsweredSo h (CopyBytes from to len) action answer → EndsIn gs (CopyBytes from to len) x action answer
     copy-ends gs from to len (Makes next) answer so = so
     copy-ends gs from to len (Done Granted) answer so = so
     copy-ends gs from to len (Done (Given value)) answer so = absurd so
@@ -323,9 +323,9 @@ module _ (s : Setting) (h : History) (fs : FrameSet) (fr : FramesStand s h fs) w
     copy-ends gs from to len (Done (Refused denial)) answer so = absurd so
 
     -- so many bytes of a range that is there
-    long : (from : Place) (len : ℕ) → IsTrue (has_range fs (frame_name_at from) from.off len) → length (bytes_at (frame_at fs (frame_name_at from)) from.off len) ≡ len
-    long from len is = let full = filled (frame_name_at from) in let fits : from.off + len ≤ FRAME_SIZE = grind (arith, nat_tests) in
-        let xs : List ℕ = contents (frame_at fs (frame_name_at from)) in let left = length-drop from.off xs in
+    long : (from : Spot) (len : ℕ) → IsTrue (has_range fs from.frame from.off len) → length (bytes_at (frame_at fs from.frame) from.off len) ≡ len
+    long from len is = let full = filled from.frame in let fits : from.off + len ≤ FRAME_SIZE = grind (arith, nat_tests) in
+        let xs : List ℕ = contents (frame_at fs from.frame) in let left = length-drop from.off xs in
         let e : from.off + len - from.off ≡ len = omega arith in
         ap (λ (n : ℕ). length (take n (drop from.off xs))) e ∙ length-take-le len (drop from.off xs) (omega (arith, full, left, fits))
 
@@ -336,9 +336,9 @@ module _ (s : Setting) (h : History) (fs : FrameSet) (fr : FramesStand s h fs) w
         let z = can-write fs name w off x.given (may w (refl, refl)) fr.kept (filled name) in
         (z.0, (w, (refl, refl), z.1, z.2), write-ends z.0 dom frame off len action answer so)
     can-access (CopyBytes from to len) action answer is may so =
-        let w : Writ = writ_of x call in let ys : List ℕ = bytes_at (frame_at fs (frame_name_at from)) from.off len in
-        let here : IsTrue (admits fs (frame_name_at to) w to.off (length ys)) = subst (λ (n : ℕ). IsTrue (admits fs (frame_name_at to) w to.off n)) (sym (long from len may.0)) (may.1 w (refl, refl)) in
-        let z = can-write fs (frame_name_at to) w to.off ys here fr.kept (filled (frame_name_at to)) in
+        let w : Writ = writ_of x call in let ys : List ℕ = bytes_at (frame_at fs from.frame) from.off len in
+        let here : IsTrue (admits fs to.frame w to.off (length ys)) = subst (λ (n : ℕ). IsTrue (admits fs to.frame w to.off n)) (sym (long from len may.0)) (may.1 w (refl, refl)) in
+        let z = can-write fs to.frame w to.off ys here fr.kept (filled to.frame) in
         (z.0, (w, (refl, refl), z.1, z.2), copy-ends z.0 from to len action answer so)
     can-access step action answer is may so = absurd is
 

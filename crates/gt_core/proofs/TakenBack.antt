@@ -4,7 +4,7 @@ use Rattle.gt_core.proofs.Words.{inl, inr, ℕ, refl, Bool, true, false, List, [
 use Rattle.gt_core.proofs.Words.{sym, ap, ◌∙◌, subst, arith, All, Any, count_by, sum_by-cons, eq-eqb, eqb-true}
 use Rattle.gt_core.proofs.Words.{false≢true, ◌==◌, All-nil, All-cons, All-head, All-tail, DomId, GrantRef, Dir, Read}
 use Rattle.gt_core.proofs.Words.{Write, Entry, Page, Sub, Invalid, Via, permits, frame_of, Change, Publish, ToInvalid}
-use Rattle.gt_core.proofs.Words.{ToWithdrawn, Seen, Taken, Step, Exchange, PinStep, Unpin, Held, Holder, Place}
+use Rattle.gt_core.proofs.Words.{ToWithdrawn, Seen, Taken, Step, Exchange, PinStep, Unpin, Held, Holder, Spot}
 use Rattle.gt_core.proofs.Words.{ReadBytes, WriteBytes, CopyBytes, Asked, Copy, ForMap, ForCopy, Answer, Happened}
 use Rattle.gt_core.proofs.Words.{Stepped, Item, History, Setting, Pin, entry_at, live, pinned_by, unpinned_by}
 use Rattle.gt_core.proofs.Words.{is_pin_on, same_dir, reads_at, writes_at, IsRight, IsSafeChange, StepsRightIn}
@@ -239,15 +239,15 @@ permits-frame Invalid d dir purpose off len f y e = absurd (false≢true y)
 permits-frame (Via dom ro dom2 gref) d dir purpose off len f y e = absurd (false≢true y)
 
 -- no live pin that is out of reach reaches the frame
-no-reach : (d judged : DomId) (dir : Dir) (purpose : Use) (at : Place) (len t f : ℕ) (p : Pin) → at.owner.0 ≡ t → at.frame ≡ f → IsApart t f p → Reaches d judged dir purpose at len p → ⊥
+no-reach : (d judged : DomId) (dir : Dir) (purpose : Use) (at : Spot) (len t f : ℕ) (p : Pin) → at.frame.owner.0 ≡ t → at.frame.number ≡ f → IsApart t f p → Reaches d judged dir purpose at len p → ⊥
 no-reach d judged dir purpose at len t f p own is apart reach =
     false≢true (sym (apart (reach.of_owner ∙ own)) ∙ permits-frame p.held.entry judged dir purpose at.off len f reach.permitted (reach.of_frame ∙ is))
 
 all-none : {X : Type 0} (P Q : X → Type 0) (xs : List X) → All P xs → ((x : X) → P x → Q x → ⊥) → Any Q xs → ⊥
 all-none P Q xs all apart any = apart any.1 (subst P any.3 (all any.0 any.1 any.2)) any.4
 
-end-out : (s : Setting) (h : History) (d : DomId) (granted : Bool) (dir : Dir) (at : Place) (len : ℕ) (named : DomId) (owners : DomId × DomId) (t f : ℕ)
-    → IsOut h t f → d.0 ≢ t → at.owner.0 ≡ t → at.frame ≡ f → EndIsJustified s h d granted dir at len named owners → ⊥
+end-out : (s : Setting) (h : History) (d : DomId) (granted : Bool) (dir : Dir) (at : Spot) (len : ℕ) (named : DomId) (owners : DomId × DomId) (t f : ℕ)
+    → IsOut h t f → d.0 ≢ t → at.frame.owner.0 ≡ t → at.frame.number ≡ f → EndIsJustified s h d granted dir at len named owners → ⊥
 end-out s h d granted dir at len named owners t f out other own is (inl e) = other (sym (ap (λ (d : DomId). d.0) e.1) ∙ own)
 end-out s h d granted dir at len named owners t f out other own is (inr (inl e)) =
     all-none (IsApart t f) (Reaches d d dir ForCopy at len) (live h) out.pins (λ p. no-reach d d dir ForCopy at len t f p own is) e.2
@@ -255,19 +255,19 @@ end-out s h d granted dir at len named owners t f out other own is (inr (inr e))
     all-none (IsApart t f) (λ p. Any (λ via. Forwards d dir named p via × Reaches d named dir ForCopy at len p) (live h)) (live h) out.pins
     (λ p apart any. no-reach d named dir ForCopy at len t f p own is apart any.4.1) e.1
 
-copy-out : (s : Setting) (h : History) (d : DomId) (request : Asked) (from to : Place) (len t f : ℕ) → IsOut h t f → d.0 ≢ t → CopyIsJustified s h d request from to len
-    → ((from.owner.0 ≡ t) × (from.frame ≡ f)) ⊎ ((to.owner.0 ≡ t) × (to.frame ≡ f)) → ⊥
+copy-out : (s : Setting) (h : History) (d : DomId) (request : Asked) (from to : Spot) (len t f : ℕ) → IsOut h t f → d.0 ≢ t → CopyIsJustified s h d request from to len
+    → ((from.frame.owner.0 ≡ t) × (from.frame.number ≡ f)) ⊎ ((to.frame.owner.0 ≡ t) × (to.frame.number ≡ f)) → ⊥
 copy-out s h d (Copy c) from to len t f out other just (inl e) = end-out s h d _ Read from len _ _ t f out other e.0 e.1 just.3
 copy-out s h d (Copy c) from to len t f out other just (inr e) = end-out s h d _ Write to len _ _ t f out other e.0 e.1 just.4
 copy-out s h d request from to len t f out other just touched = absurd just
 
-range-out : (h : History) (d : DomId) (dir : Dir) (at : Place) (len t f : ℕ) → IsOut h t f → d.0 ≢ t → at.owner.0 ≡ t → at.frame ≡ f → (at.owner.0 ≡ d.0) ⊎ Any (Reaches d d dir ForMap at len) (live h) → ⊥
+range-out : (h : History) (d : DomId) (dir : Dir) (at : Spot) (len t f : ℕ) → IsOut h t f → d.0 ≢ t → at.frame.owner.0 ≡ t → at.frame.number ≡ f → (at.frame.owner.0 ≡ d.0) ⊎ Any (Reaches d d dir ForMap at len) (live h) → ⊥
 range-out h d dir at len t f out other own is (inl e) = other (sym e ∙ own)
 range-out h d dir at len t f out other own is (inr e) = all-none (IsApart t f) (Reaches d d dir ForMap at len) (live h) out.pins (λ p. no-reach d d dir ForMap at len t f p own is) e
 
 just-out : (s : Setting) (h : History) (d : DomId) (request : Asked) (step : Step) (seen : Seen) (a : Option Answer) (t f : ℕ) → IsOut h t f → Justified s h d request step → IsForeignAccess t f (stepped d step seen a) → ⊥
-just-out s h d request (ReadBytes dom frame off len) seen a t f out just foreign = range-out h d Read (record { owner = dom; frame = frame; off = off }) len t f out foreign.0 foreign.1.0 foreign.1.1 just.1
-just-out s h d request (WriteBytes dom frame off len) seen a t f out just foreign = range-out h d Write (record { owner = dom; frame = frame; off = off }) len t f out foreign.0 foreign.1.0 foreign.1.1 just.1
+just-out s h d request (ReadBytes dom frame off len) seen a t f out just foreign = range-out h d Read (record { frame = record { owner = dom; number = frame }; off = off }) len t f out foreign.0 foreign.1.0 foreign.1.1 just.1
+just-out s h d request (WriteBytes dom frame off len) seen a t f out just foreign = range-out h d Write (record { frame = record { owner = dom; number = frame }; off = off }) len t f out foreign.0 foreign.1.0 foreign.1.1 just.1
 just-out s h d request (CopyBytes from to len) seen a t f out just foreign = copy-out s h d request from to len t f out foreign.0 just foreign.1
 just-out s h d request step seen a t f out just foreign = absurd foreign.1
 

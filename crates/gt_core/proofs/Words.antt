@@ -74,7 +74,10 @@ pub use Rattle.gt_frames.specs.{Frames.all_rightful, Frames.bytes_at, Frames.pat
 pub use Rattle.gt_frames.specs.{Frames.permits_writing, Frames.suffices, Places.frame_counts}
 pub use Rattle.gt_frames.specs.{Places.frames_of as frames_of_all, Places.is_name, Places.pool_number, Sets.AreKept}
 pub use Rattle.gt_frames.specs.{Sets.FrameSet, Sets.WritesTo, Sets.admits, Sets.all_zeros, Sets.frame_at}
-pub use Rattle.gt_frames.specs.{Sets.has_frame, Sets.has_range, Sets.journal_in, declared.places.FrameName.FrameName}
+pub use Rattle.gt_frames.specs.{Sets.has_frame, Sets.has_range, Sets.journal_in}
+pub use Rattle.gt_types.specs.{declared.places.FrameName.FrameName}
+pub use Rattle.gt_types.specs.{Copies.is_dest_granted, Copies.is_source_granted, declared.copies.CopyArgs.CopyArgs}
+pub use Rattle.gt_types.specs.{declared.copies.End.End, declared.places.Spot.Spot}
 pub use Rattle.gt_frames.specs.{declared.writ.Writ.Writ, declared.writ.WriteRecord.WriteRecord}
 unfoldable pub use Rattle.gt_frames.specs.Bytes.{zeros}
 pub use Rattle.gt_calls.specs.{Asking.IsSaid, Asking.asked, Asking.begun_of, Asking.bytes_given_by, Counting.most_steps}
@@ -95,15 +98,15 @@ pub use Rattle.gt_calls.specs.{Resting.GivesHeld, Resting.Lets, Resting.Rests, R
 pub use Rattle.gt_calls.specs.{Resting.RestsOnRequest, Resting.RestsOnTry, Resting.RestsOnWays, Resting.RestsOnWord}
 pub use Rattle.gt_calls.specs.{Rules.CallerKnowledge, Rules.before_pin, Rules.begun, Rules.control_with}
 pub use Rattle.gt_calls.specs.{Rules.copy_denied, Rules.denied, Rules.entry_in, Rules.first, Rules.first_look}
-pub use Rattle.gt_calls.specs.{Rules.frame_count_of, Rules.own_generation, Rules.is_dest_granted, Rules.is_kind}
-pub use Rattle.gt_calls.specs.{Rules.is_outside_sub, Rules.is_past_owner, Rules.is_source_granted, Rules.knowledge_of}
+pub use Rattle.gt_calls.specs.{Rules.frame_count_of, Rules.own_generation, Rules.is_kind}
+pub use Rattle.gt_calls.specs.{Rules.is_outside_sub, Rules.is_past_owner, Rules.knowledge_of}
 pub use Rattle.gt_calls.specs.{Rules.knows, Rules.map_dir, Rules.pins_of, Rules.refused_when, Rules.rights_to_copy}
 pub use Rattle.gt_calls.specs.{Rules.row_entry, Rules.row_generation, Rules.second_body, Rules.size_of, Rules.stands}
 pub use Rattle.gt_calls.specs.{Rules.via_judged, Standing.HasShown, Standing.IsAt, Standing.IsQuiet, Standing.IsTurn}
 pub use Rattle.gt_calls.specs.{Standing.StandsAt, Standing.held_in, Standing.pins_at, Standing.pins_by_call}
 pub use Rattle.gt_calls.specs.{declared.action.Action.Action, declared.action.Action.TheVariants.Done}
 pub use Rattle.gt_calls.specs.{declared.action.Action.TheVariants.Done as Ends}
-pub use Rattle.gt_calls.specs.{declared.action.Action.TheVariants.Step as Makes, declared.action.Place.Place}
+pub use Rattle.gt_calls.specs.{declared.action.Action.TheVariants.Step as Makes}
 pub use Rattle.gt_calls.specs.{declared.action.Seen.Seen, declared.action.Seen.TheVariants.Missed}
 pub use Rattle.gt_calls.specs.{declared.action.Seen.TheVariants.Nothing, declared.action.Seen.TheVariants.Taken}
 pub use Rattle.gt_calls.specs.{declared.action.Seen.TheVariants.Word, declared.action.Step.Step}
@@ -149,14 +152,14 @@ pub use Rattle.gt_calls.specs.{declared.request.Asked.TheVariants.Promote, decla
 pub use Rattle.gt_calls.specs.{declared.request.Asked.TheVariants.Revoke, declared.request.Asked.TheVariants.Withdraw}
 pub use Rattle.gt_calls.specs.{declared.request.Asked.TheVariants.SetVersion}
 pub use Rattle.gt_calls.specs.{declared.request.Asked.TheVariants.SetupTable, declared.request.Asked.TheVariants.Store}
-pub use Rattle.gt_calls.specs.{declared.request.Asked.TheVariants.Unmap, declared.request.CopyArgs.CopyArgs}
-pub use Rattle.gt_calls.specs.{declared.request.End.End, declared.request.Holder.Holder}
+pub use Rattle.gt_calls.specs.{declared.request.Asked.TheVariants.Unmap}
+pub use Rattle.gt_calls.specs.{declared.request.Holder.Holder}
 pub use Rattle.gt_calls.specs.{declared.request.Holder.TheVariants.Leg as ByLeg}
 pub use Rattle.gt_calls.specs.{declared.request.Holder.TheVariants.Mapping as ByMapping}
 pub use Rattle.gt_calls.specs.{declared.request.Request.Request, declared.call.Start.TheVariants.Open as StartOpen}
 pub use Rattle.gt_calls.specs.{declared.call.Start.Start}
 pub use Rattle.gt_core.specs.{Accesses.AccessedBy, Accesses.IsAdmitted, Accesses.IsLoadOf, Accesses.IsReadable}
-pub use Rattle.gt_core.specs.{Accesses.IsWritOf, Accesses.IsWriting, Accesses.ground_of, Accesses.frame_name_at}
+pub use Rattle.gt_core.specs.{Accesses.IsWritOf, Accesses.IsWriting, Accesses.ground_of}
 pub use Rattle.gt_core.specs.{Accesses.route_of, Alike.AreAlike, Alike.AsksKnown, Alike.HappensKnown, Alike.IsKnown}
 pub use Rattle.gt_core.specs.{Alike.IsOfKnown, Alike.SameElement, Alike.SameEvent, Alike.SameHistory, Alike.ToldItem}
 pub use Rattle.gt_core.specs.{Alike.bare_event, Alike.bare_handle, Alike.bare_happened, Alike.bare_request}
@@ -232,7 +235,5 @@ pub use Rattle.gt_core.specs.{declared.trace.Happened.TheVariants.Stepped, decla
 pub use Rattle.gt_core.specs.{declared.underway.Open.Open, declared.core_state.Begun.TheVariants.Busy as BegunBusy}
 pub use Rattle.gt_core.specs.{declared.core_state.Begun.TheVariants.NoDomain as BegunNoDomain}
 pub use Rattle.gt_core.specs.{declared.pin_counts.CountsChange.CountsChange}
-pub use Rattle.gt_core.specs.{declared.machine.Opening.TheVariants.Open as OpeningOpen}
-pub use Rattle.gt_core.specs.{declared.machine.Opening.Opening}
 unfoldable pub use Rattle.gt_core.specs.{Alike.IsGiven, Alike.IsRun, Alike.told_items, History.body_at, History.entry_at, History.gather, History.live, History.maps_answered_at, History.open_call, History.patches_at, History.raises_at, History.table_at, History.without, FirstRule.looked_at, FirstRule.misses, FirstRule.stood, Legal.IsLegalHistory}
 pub use mathlib.Core.Path.{fun_ext}

@@ -15,7 +15,7 @@ use Rattle.gt_frames.specs.Frames.{FrameState, IsKept, IsWrite, all_rightful, co
 use Rattle.gt_frames.specs.Frames.{with_write}
 use Rattle.gt_frames.specs.Places.{frames_of, is_name, names_of}
 use Rattle.gt_frames.specs.Sets.{AreKept, FrameSet, WritesTo, admits, frame_at, has_range, journal_in, place_in}
-use Rattle.gt_frames.specs.declared.places.FrameName.{FrameName}
+use Rattle.gt_types.specs.declared.places.FrameName.{FrameName}
 use Rattle.gt_frames.specs.declared.writ.Writ.{Writ}
 use Rattle.gt_frames.specs.declared.writ.WriteRecord.{WriteRecord}
 

@@ -7,23 +7,18 @@ use Rattle.gt_calls.specs.declared.held.Route.{Route}
 use Rattle.gt_calls.specs.declared.held.Route.TheVariants.{Own, Direct, Through}
 use Rattle.gt_calls.specs.declared.request.Asked.{Asked}
 use Rattle.gt_calls.specs.declared.request.Asked.TheVariants.{Load, Store, Peek, Copy}
-use Rattle.gt_calls.specs.declared.action.Place.{Place}
 use Rattle.gt_calls.specs.declared.action.Step.{Step}
 use Rattle.gt_calls.specs.declared.action.Step.TheVariants.{Read as ReadBytes, Write as WriteBytes, Copy as CopyBytes}
 use Rattle.gt_calls.specs.declared.call.Call.{Call}
 use Rattle.gt_calls.specs.Holding.{begun_route}
 use Rattle.gt_calls.specs.Standing.{pins_by_call}
-use Rattle.gt_frames.specs.declared.places.FrameName.{FrameName}
+use Rattle.gt_types.specs.declared.places.FrameName.{FrameName}
 use Rattle.gt_frames.specs.declared.writ.Ground.{Ground}
 use Rattle.gt_frames.specs.declared.writ.Ground.TheVariants.{Owned, Granted, Forwarded}
 use Rattle.gt_frames.specs.declared.writ.Writ.{Writ}
 use Rattle.gt_frames.specs.Frames.{bytes_at}
 use Rattle.gt_frames.specs.Sets.{FrameSet, frame_at, has_range, admits, AreKept, WritesTo}
 use Rattle.gt_core.specs.States.{State}
-
--- the name of the frame of a place
-abbrev pub frame_name_at : Place → FrameName
-frame_name_at at = record { owner = at.owner; number = at.frame }
 
 -- the ground of a write by a route: the frame is the writer's own, or the entries of the route's pins let it
 abbrev pub ground_of : Route → Ground
@@ -69,8 +64,8 @@ IsAdmitted fs d call (WriteBytes dom frame off len) =
     (w : Writ) → IsWritOf d call w
     → IsTrue (admits fs (record { owner = dom; number = frame }) w off (length d.given))
 IsAdmitted fs d call (CopyBytes from to len) =
-    IsTrue (has_range fs (frame_name_at from) from.off len)
-    × ((w : Writ) → IsWritOf d call w → IsTrue (admits fs (frame_name_at to) w to.off len))
+    IsTrue (has_range fs from.frame from.off len)
+    × ((w : Writ) → IsWritOf d call w → IsTrue (admits fs to.frame w to.off len))
 IsAdmitted fs d call step = Unit {0}
 
 -- the frames after the domain's call writes these bytes to one of them, by its writ
@@ -84,5 +79,5 @@ abbrev pub AccessedBy : State → Call → Step → FrameSet → FrameSet → Ty
 AccessedBy d call (WriteBytes dom frame off len) old new =
     WritesByRight d call old new (record { owner = dom; number = frame }) off d.given
 AccessedBy d call (CopyBytes from to len) old new =
-    WritesByRight d call old new (frame_name_at to) to.off (bytes_at (frame_at old (frame_name_at from)) from.off len)
+    WritesByRight d call old new to.frame to.off (bytes_at (frame_at old from.frame) from.off len)
 AccessedBy d call step old new = new ≡ old

@@ -1,5 +1,6 @@
 -- What a core does when it begins a call or makes its next step, and when memory can be wanted.
-use Rattle.std.specs.Prelude.{◌≡◌, ◌≢◌, ◌≤◌, ℕ, Bool, true, List, [], Option, Some, None}
+use Rattle.std.specs.Prelude.{◌≡◌, ◌≢◌, ◌≤◌, ℕ, Bool, true, List, [], Option, Some, None, Result}
+use Rattle.std.specs.Prelude.{Ok, Err}
 use Rattle.gt_core.specs.Prelude.{domain_of, DomId, TypeId, Perms, IsWithinLimits, IsFirstFault, StartFault}
 use Rattle.gt_core.specs.Prelude.{ConfigFault, NoMemory, Config, Request, Asked, asked, begun_of, IsSaid, Verdict}
 use Rattle.gt_core.specs.Prelude.{Granted, Given, KeptPin, Refused, Value, Frames, SizeTold, VersionTold, Seen, Action}
@@ -7,7 +8,7 @@ use Rattle.gt_core.specs.Prelude.{Makes, Ends, Call, Answer, Denied, MappedAnswe
 use Rattle.gt_core.specs.Prelude.{FramesAnswer, SizeAnswer, VersionAnswer, Handle, Step, ReadBytes, bytes_at, FrameSet}
 use Rattle.gt_core.specs.Prelude.{frame_at, HandleMap, Held, set, Began, Stepped, Element, Busy, Idle, NoDomain, Did}
 use Rattle.gt_core.specs.Prelude.{Open, Begun, BegunOpen, BegunDone, BegunBusy, BegunNoDomain, Ticked, TickedStep}
-use Rattle.gt_core.specs.Prelude.{TickedDone, TickedIdle, TickedNoDomain, Machine, Opening, OpeningOpen, OpeningDone}
+use Rattle.gt_core.specs.Prelude.{TickedDone, TickedIdle, TickedNoDomain, Machine}
 use Rattle.gt_core.specs.Prelude.{CallerKnowledge, knowledge_of, begun, path, GoesOnWith, first_phase, action_at, Rests}
 use Rattle.gt_core.specs.Prelude.{IsAt, pins_by_call, most_steps, steps_to_come}
 use Rattle.gt_core.specs.declared.trace.Bytes.{Bytes}
@@ -31,9 +32,9 @@ pub record IsOpenCall (k : CallerKnowledge) (dom : DomId) (request : Request) (o
   pub few : steps_to_come o.call ≤ most_steps (asked request)
 
 -- a call begins so: with an answer, or with a first step
-abbrev pub OpensAs : CallerKnowledge → DomId → Request → Opening → Type 0
-OpensAs k dom request (OpeningDone verdict) = begun_of k dom request ≡ Some verdict
-OpensAs k dom request (OpeningOpen o) = IsOpenCall k dom request o
+abbrev pub OpensAs : CallerKnowledge → DomId → Request → Result Open Verdict → Type 0
+OpensAs k dom request (Err verdict) = begun_of k dom request ≡ Some verdict
+OpensAs k dom request (Ok o) = IsOpenCall k dom request o
 
 -- the answer with this value
 abbrev pub answer_with : Value → Answer

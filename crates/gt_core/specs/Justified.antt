@@ -2,7 +2,7 @@
 use Rattle.std.specs.Prelude.{◌≡◌, ◌≤◌, ◌⊎◌, ℕ, Bool, true, false, [], Option, Some, None, Any, ◌+◌, ◌<◌}
 use Rattle.gt_core.specs.Prelude.{resolved, IsAllowed, DomId, FRAME_SIZE, Dir, Read, Write, Use, ForMap, ForCopy}
 use Rattle.gt_core.specs.Prelude.{Invalid, permits, forwards, IsSpelled, FirstHalf, SecondHalf, ByMapping, Asked, Unmap}
-use Rattle.gt_core.specs.Prelude.{Load, Store, Copy, Held, Place, Change, Publish, ToInvalid, ToReadOnly, ToWritable}
+use Rattle.gt_core.specs.Prelude.{Load, Store, Copy, Held, Spot, Change, Publish, ToInvalid, ToReadOnly, ToWritable}
 use Rattle.gt_core.specs.Prelude.{ToWithdrawn, Step, StoreBody, Unpin, Exchange, ReadBytes, WriteBytes, CopyBytes}
 use Rattle.gt_core.specs.Prelude.{Taken, Item, Happened, Stepped, rights_to_map, rights_to_copy, frame_count_of}
 use Rattle.gt_core.specs.Prelude.{is_source_granted, is_dest_granted, GivesHeld}
@@ -11,10 +11,10 @@ use Rattle.gt_core.specs.History.{frame_of, mappings_at, mapping_of}
 
 -- The live pin lets domain d reach this range of a frame: it was taken from an entry of the frame that permitted the
 -- domain judged this direction, purpose and range; for writing it is a write pin
-pub record Reaches (d judged : DomId) (dir : Dir) (purpose : Use) (at : Place) (len : ℕ) (p : Pin) : Type 0 where
+pub record Reaches (d judged : DomId) (dir : Dir) (purpose : Use) (at : Spot) (len : ℕ) (p : Pin) : Type 0 where
   pub of_actor : p.actor ≡ d.0
-  pub of_owner : p.held.dom.0 ≡ at.owner.0
-  pub of_frame : frame_of p.held.entry ≡ at.frame
+  pub of_owner : p.held.dom.0 ≡ at.frame.owner.0
+  pub of_frame : frame_of p.held.entry ≡ at.frame.number
   pub permitted : permits p.held.entry judged dir purpose at.off len ≡ true
   pub writes : (dir ≡ Write) → p.held.dir ≡ Write
 
@@ -36,12 +36,12 @@ abbrev pub MayCopy : Setting → DomId × DomId → Type 0
 MayCopy s pair = IsAllowed s.may (rights_to_copy (known_at s [] pair.0) pair.0 pair.1)
 
 -- the frame is one of the domain's, and the range is inside it
-abbrev pub IsInFrame : Setting → Place → ℕ → Type 0
-IsInFrame s at len = (at.frame < frame_count_of s.domains at.owner) × (at.off + len ≤ FRAME_SIZE)
+abbrev pub IsInFrame : Setting → Spot → ℕ → Type 0
+IsInFrame s at len = (at.frame.number < frame_count_of s.domains at.frame.owner) × (at.off + len ≤ FRAME_SIZE)
 
 -- the domain's own frame, or a range that a live pin of a mapping's kind reaches
-abbrev pub MayAccess : History → DomId → Dir → Place → ℕ → Type 0
-MayAccess before d dir at len = (at.owner.0 ≡ d.0) ⊎ Any (Reaches d d dir ForMap at len) (live before)
+abbrev pub MayAccess : History → DomId → Dir → Spot → ℕ → Type 0
+MayAccess before d dir at len = (at.frame.owner.0 ≡ d.0) ⊎ Any (Reaches d d dir ForMap at len) (live before)
 
 -- the policy allows what the pin of this mapping is for; there is such a mapping (XSM FLASK)
 abbrev pub MayUseMapping : Setting → DomId → Option Held → Type 0
@@ -57,7 +57,7 @@ MayAsk s before d request = Unit {0}
 
 -- two live pins reach this range: one of a Via of the domain named, and one of the entry that it leads to, which
 -- permitted the Via's owner
-abbrev pub ReachesThrough : History → DomId → Dir → Place → ℕ → DomId → Type 0
+abbrev pub ReachesThrough : History → DomId → Dir → Spot → ℕ → DomId → Type 0
 ReachesThrough before d dir at len named =
     Any (λ p. Any (λ via. Forwards d dir named p via × Reaches d named dir ForCopy at len p) (live before))
     (live before)
@@ -65,35 +65,35 @@ ReachesThrough before d dir at len named =
 -- an end of a copy: if it was given by a frame number, in a frame of the domain's own; else reached by a pin on an
 -- entry of the domain named, or through a Via of that domain if the policy allows the copy between the owners,
 -- whosever the frame is
-abbrev pub EndIsJustified : Setting → History → DomId → Bool → Dir → Place → ℕ → DomId → DomId × DomId → Type 0
+abbrev pub EndIsJustified : Setting → History → DomId → Bool → Dir → Spot → ℕ → DomId → DomId × DomId → Type 0
 EndIsJustified s before d granted dir at len named owners =
-    ((granted ≡ false) × (at.owner ≡ d))
-    ⊎ ((granted ≡ true) × (at.owner ≡ named) × Any (Reaches d d dir ForCopy at len) (live before))
+    ((granted ≡ false) × (at.frame.owner ≡ d))
+    ⊎ ((granted ≡ true) × (at.frame.owner ≡ named) × Any (Reaches d d dir ForCopy at len) (live before))
     ⊎ ((granted ≡ true) × ReachesThrough before d dir at len named × MayCopy s owners)
 
 -- a copy's access is of the call's two ends, each justified, and the policy allows the copy between the domains named;
 -- a Via of the source asks for its owner's domain and the destination named, one of the destination for the owners of
 -- both frames
-abbrev pub CopyIsJustified : Setting → History → DomId → Asked → Place → Place → ℕ → Type 0
+abbrev pub CopyIsJustified : Setting → History → DomId → Asked → Spot → Spot → ℕ → Type 0
 CopyIsJustified s before d (Copy c) from to len =
     IsInFrame s from len × IsInFrame s to len × MayCopy s (resolved d c.source.domid, resolved d c.dest.domid)
     × EndIsJustified s before d (is_source_granted c) Read from len (resolved d c.source.domid)
-    (from.owner, resolved d c.dest.domid)
-    × EndIsJustified s before d (is_dest_granted c) Write to len (resolved d c.dest.domid) (from.owner, to.owner)
+    (from.frame.owner, resolved d c.dest.domid)
+    × EndIsJustified s before d (is_dest_granted c) Write to len (resolved d c.dest.domid) (from.frame.owner, to.frame.owner)
 CopyIsJustified s before d request from to len = ⊥
 
 -- an access of one range is inside a frame, of the domain's own or reached by a pin, and the policy allows what its
 -- call asks
-abbrev pub AccessIsJustified : Setting → History → DomId → Asked → Dir → Place → ℕ → Type 0
+abbrev pub AccessIsJustified : Setting → History → DomId → Asked → Dir → Spot → ℕ → Type 0
 AccessIsJustified s before d request dir at len =
     IsInFrame s at len × MayAccess before d dir at len × MayAsk s before d request
 
 -- an access is justified, and a mapping is given up only by the unmap that asked for its handle
 abbrev pub Justified : Setting → History → DomId → Asked → Step → Type 0
 Justified s before d request (ReadBytes dom frame off len) =
-    AccessIsJustified s before d request Read (record { owner = dom; frame = frame; off = off }) len
+    AccessIsJustified s before d request Read (record { frame = record { owner = dom; number = frame }; off = off }) len
 Justified s before d request (WriteBytes dom frame off len) =
-    AccessIsJustified s before d request Write (record { owner = dom; frame = frame; off = off }) len
+    AccessIsJustified s before d request Write (record { frame = record { owner = dom; number = frame }; off = off }) len
 Justified s before d request (CopyBytes from to len) = CopyIsJustified s before d request from to len
 Justified s before d request (Unpin p (ByMapping handle)) = request ≡ Unmap handle
 Justified s before d request _ = Unit {0}

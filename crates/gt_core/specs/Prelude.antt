@@ -9,13 +9,13 @@ pub use Rattle.gt_calls.specs.Path.{dest_pair, end_leg, entry_refusal, map_leg, 
 pub use Rattle.gt_calls.specs.Path.{source_pair}
 pub use Rattle.gt_calls.specs.Resting.{GivesHeld, Rests}
 pub use Rattle.gt_calls.specs.Rules.{CallerKnowledge, before_pin, begun, control_with, entry_in, first, first_body}
-pub use Rattle.gt_calls.specs.Rules.{first_look, frame_count_of, own_generation, is_dest_granted, is_kind}
-pub use Rattle.gt_calls.specs.Rules.{is_source_granted}
+pub use Rattle.gt_calls.specs.Rules.{first_look, frame_count_of, own_generation, is_kind}
+pub use Rattle.gt_types.specs.Copies.{is_dest_granted, is_source_granted}
 pub use Rattle.gt_calls.specs.Rules.{knowledge_of, rights_to_copy, rights_to_map, size_of, stands, via_judged}
 pub use Rattle.gt_calls.specs.Standing.{IsAt, StandsAt, held_in, pins_at, pins_by_call}
 pub use Rattle.gt_calls.specs.declared.action.Action.{Action}
 pub use Rattle.gt_calls.specs.declared.action.Action.TheVariants.{Done as Ends, Step as Makes}
-pub use Rattle.gt_calls.specs.declared.action.Place.{Place}
+pub use Rattle.gt_types.specs.declared.places.Spot.{Spot}
 pub use Rattle.gt_calls.specs.declared.action.Seen.{Seen}
 pub use Rattle.gt_calls.specs.declared.action.Seen.TheVariants.{Missed, Nothing, Taken, Word}
 pub use Rattle.gt_calls.specs.declared.action.Step.{Step}
@@ -44,7 +44,7 @@ pub use Rattle.gt_calls.specs.declared.leg.TheConstants.{MORE_TRIES}
 pub use Rattle.gt_calls.specs.declared.request.Asked.{Asked}
 pub use Rattle.gt_calls.specs.declared.request.Asked.TheVariants.{Copy, Demote, GetVersion, Load, Map, Peek, Poke}
 pub use Rattle.gt_calls.specs.declared.request.Asked.TheVariants.{QuerySize, SetVersion, SetupTable, Store, Unmap}
-pub use Rattle.gt_calls.specs.declared.request.CopyArgs.{CopyArgs}
+pub use Rattle.gt_types.specs.declared.copies.CopyArgs.{CopyArgs}
 pub use Rattle.gt_calls.specs.declared.request.Holder.{Holder}
 pub use Rattle.gt_calls.specs.declared.request.Holder.TheVariants.{Leg as ByLeg, Mapping as ByMapping}
 pub use Rattle.gt_calls.specs.declared.request.Request.{Request}
@@ -55,8 +55,6 @@ pub use Rattle.gt_core.specs.declared.core_state.Ticked.{Ticked}
 pub use Rattle.gt_core.specs.declared.core_state.Ticked.TheVariants.{Done as TickedDone, Idle as TickedIdle}
 pub use Rattle.gt_core.specs.declared.core_state.Ticked.TheVariants.{NoDomain as TickedNoDomain, Step as TickedStep}
 pub use Rattle.gt_core.specs.declared.kept.Machine.{Machine}
-pub use Rattle.gt_core.specs.declared.machine.Opening.{Opening}
-pub use Rattle.gt_core.specs.declared.machine.Opening.TheVariants.{Done as OpeningDone, Open as OpeningOpen}
 pub use Rattle.gt_core.specs.declared.pin_counts.CountsChange.{CountsChange}
 pub use Rattle.gt_core.specs.declared.pin_counts.CountsChange.TheVariants.{Pinned, Stored, Unpinned}
 pub use Rattle.gt_core.specs.declared.pin_counts.PinCounts.{PinCounts}
@@ -91,7 +89,7 @@ pub use Rattle.gt_frames.specs.Bytes.{Patch, written}
 pub use Rattle.gt_frames.specs.Frames.{bytes_at, patches}
 pub use Rattle.gt_frames.specs.Places.{frame_counts}
 pub use Rattle.gt_frames.specs.Sets.{AreKept, FrameSet, frame_at}
-pub use Rattle.gt_frames.specs.declared.places.FrameName.{FrameName}
+pub use Rattle.gt_types.specs.declared.places.FrameName.{FrameName}
 pub use Rattle.gt_handles.specs.Handles.{HandleMap, Updates, count_of, value_of, value_of as mapping_under}
 pub use Rattle.gt_handles.specs.declared.handles.Handle.{Handle}
 pub use Rattle.gt_types.specs.Config.{IsFirstFault, IsWithinLimits}

@@ -72,7 +72,7 @@ IsForeignAccess t f i = (i.actor.0 ≢ t) × touches i.happened
     touches (Stepped (ReadBytes dom frame off len) seen) = (dom.0 ≡ t) × (frame ≡ f)
     touches (Stepped (WriteBytes dom frame off len) seen) = (dom.0 ≡ t) × (frame ≡ f)
     touches (Stepped (CopyBytes from to len) seen) =
-        ((from.owner.0 ≡ t) × (from.frame ≡ f)) ⊎ ((to.owner.0 ≡ t) × (to.frame ≡ f))
+        ((from.frame.owner.0 ≡ t) × (from.frame.number ≡ f)) ⊎ ((to.frame.owner.0 ≡ t) × (to.frame.number ≡ f))
     touches _ = ⊥
 
 -- a page that an owner takes back is not readable by anybody from then on, nor writable, until it grants it again

@@ -2,26 +2,13 @@
 ghost use Rattle.std.specs.Prelude.{◌≡◌, OnOk, OnErr, IsTrue, vec_len};
 ghost use Rattle.gt_frames.specs.Frames.{bytes_at};
 ghost use Rattle.gt_frames.specs.Sets.{frame_at, has_range};
-ghost use Rattle.gt_core.specs.Accesses.{frame_name_at, IsWriting, IsAdmitted, AccessedBy};
+ghost use Rattle.gt_core.specs.Accesses.{IsWriting, IsAdmitted, AccessedBy};
 
 use crate::state::DomainState;
 use crate::underway::Open;
-use gt_calls::{Place, Step};
-use gt_frames::{FrameName, Frames, Spot};
+use gt_calls::Step;
+use gt_frames::{FrameName, Frames};
 use gt_types::Memory;
-
-fn spot(at: Place) -> Spot
-    ensures frame { result.frame ≡ frame_name_at at }
-    ensures off { result.off ≡ at.off }
-{
-    Spot {
-        frame: FrameName {
-            owner: at.owner,
-            number: at.frame,
-        },
-        off: at.off,
-    }
-}
 
 /// Reads the bytes of a frame from `off` on over all of `out`.
 pub fn read_bytes(frames: &Frames, name: FrameName, off: u16, out: Vec<u8>) -> Vec<u8>
@@ -58,7 +45,7 @@ pub fn write_bytes(frames: &mut Frames, domain: &DomainState, underway: Open) ->
             frames.write(name, &domain.writ(underway.call), off, &domain.given)?;
         }
         Step::Copy { from, to, len } => {
-            frames.copy(&domain.writ(underway.call), spot(from), spot(to), len)?;
+            frames.copy(&domain.writ(underway.call), from, to, len)?;
         }
         _ => {}
     }

@@ -28,9 +28,7 @@ mod trace;
 mod underway;
 
 pub use core_state::{Begun, Core, Shown, Ticked, play};
-pub use gt_calls::{
-    Asked, Change, CopyArgs, End, Handle, Held, Holder, Place, Request, Seen, Step,
-};
+pub use gt_calls::{Asked, Change, CopyArgs, End, Handle, Held, Holder, Request, Seen, Spot, Step};
 pub use laws::{
     every_alike_event_does_one_thing, every_alike_run_shows_one_thing, every_call_can_begin,
     every_event_does_one_thing, every_known_handle_has_one_subject,

@@ -36,23 +36,21 @@ use gt_positions::Roster;
 use gt_types::{Allows, Config, DomId, GrantRef, Memory, StartFault};
 use std::alloc::Global;
 
-/// How a call begins in the core.
-#[derive(Clone, Copy)]
-pub enum Opening {
-    Open(Open),
-    Done(Verdict),
-}
-
-fn open_call<P: Allows>(known: &Known<'_, P>, dom: DomId, request: Request<'_>) -> Opening
+// A call that is open, with its first step, or the verdict at its beginning.
+fn open_call<P: Allows>(
+    known: &Known<'_, P>,
+    dom: DomId,
+    request: Request<'_>,
+) -> Result<Open, Verdict>
     ensures { OpensAs (knows P.may known.now) dom request.entry result }
 {
     match Call::begin(dom, request, known) {
-        Start::Done(verdict) => Opening::Done(verdict),
+        Start::Done(verdict) => Err(verdict),
         Start::Open(first) => {
             let mut call = first;
             match call.next(known, Seen::Nothing) {
-                Action::Step(step) => Opening::Open(Open { call, step }),
-                Action::Done(verdict) => Opening::Done(verdict),
+                Action::Step(step) => Ok(Open { call, step }),
+                Action::Done(verdict) => Err(verdict),
             }
         }
     }
@@ -101,7 +99,7 @@ fn given_by<'a>(request: Request<'a>) -> &'a [u8]
 }
 
 impl<P: Allows> Machine<P> {
-    fn open_at(&self, at: usize, dom: DomId, request: Request<'_>) -> Opening
+    fn open_at(&self, at: usize, dom: DomId, request: Request<'_>) -> Result<Open, Verdict>
         requires { at < length self.now.domains.items }
         ensures { (d : State) → slice_get self.now.domains.items at ≡ Some d →
             OpensAs (known_by P.may self.now d) dom request.entry result }
@@ -139,13 +137,13 @@ impl<P: Allows> Machine<P> {
             return Ok(Begun::Busy);
         }
         match self.open_at(at, dom, request) {
-            Opening::Done(verdict) => Ok(Begun::Done(answer_of(verdict))),
-            Opening::Open(open) => {
+            Ok(open) => {
                 asked_fits(open.call.request);
                 let alloc = self.alloc;
                 self.domains[at].begin(alloc, open, given_by(request))?;
                 Ok(Begun::Open)
             }
+            Err(verdict) => Ok(Begun::Done(answer_of(verdict))),
         }
     }
 

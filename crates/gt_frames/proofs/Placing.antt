@@ -7,7 +7,7 @@ use Rattle.std.proofs.lemmas.Option.{same_Some, none-some}
 use Rattle.std.proofs.lemmas.List.{get_or_append_left, get_or-append-add}
 use Rattle.std.proofs.lemmas.List.FromFn.{length-map-range_with_len, get_or-map-range_with_len}
 use Rattle.gt_frames.specs.declared.places.FrameCount.{FrameCount}
-use Rattle.gt_frames.specs.declared.places.FrameName.{FrameName}
+use Rattle.gt_types.specs.declared.places.FrameName.{FrameName}
 use Rattle.gt_frames.specs.Places.{pool_number, frames_of, name_in, names_of}
 
 -- how many frames there are, by name

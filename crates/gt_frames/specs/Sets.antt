@@ -4,7 +4,7 @@ use Rattle.std.specs.Prelude.{unwrap_or, is_some, Option, Some, None}
 use Rattle.std.specs.List.{range_with_len}
 use Rattle.gt_types.specs.declared.limits.TheConstants.{FRAME_SIZE}
 use Rattle.gt_frames.specs.declared.places.FrameCount.{FrameCount}
-use Rattle.gt_frames.specs.declared.places.FrameName.{FrameName}
+use Rattle.gt_types.specs.declared.places.FrameName.{FrameName}
 use Rattle.gt_frames.specs.declared.writ.Writ.{Writ}
 use Rattle.gt_frames.specs.declared.writ.WriteRecord.{WriteRecord}
 use Rattle.gt_frames.specs.Frames.{FrameState, bytes_at, covers, IsKept, IsWrite}

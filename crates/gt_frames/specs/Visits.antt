@@ -1,6 +1,6 @@
 -- What was done to frames under their locks.
 use Rattle.std.specs.Prelude.{◌≡◌, Option, Some, None, List, [], ◌∷◌}
-use Rattle.gt_frames.specs.declared.places.FrameName.{FrameName}
+use Rattle.gt_types.specs.declared.places.FrameName.{FrameName}
 use Rattle.gt_frames.specs.Frames.{FrameState}
 use Rattle.gt_frames.specs.Sets.{name_of}
 

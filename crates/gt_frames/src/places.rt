@@ -2,7 +2,7 @@
 ghost use Rattle.std.specs.Prelude.{◌≡◌, ◌<◌, ◌^◌, IfOk};
 ghost use Rattle.gt_frames.specs.Places.{frame_counts, pool_number, frames_of};
 
-use gt_types::{Config, DomId, Memory};
+use gt_types::{Config, DomId, FrameName, Memory};
 use std::alloc::Global;
 
 /// How many frames a domain has.
@@ -10,20 +10,6 @@ use std::alloc::Global;
 pub struct FrameCount {
     pub owner: DomId,
     pub frames: u32,
-}
-
-/// A frame, by its owner and its number among the owner's frames.
-#[derive(Clone, Copy, Debug, PartialEq, Eq)]
-pub struct FrameName {
-    pub owner: DomId,
-    pub number: u64,
-}
-
-/// A byte of a frame: the frame, and the byte's offset in it.
-#[derive(Clone, Copy, Debug, PartialEq, Eq)]
-pub struct Spot {
-    pub frame: FrameName,
-    pub off: u16,
 }
 
 /// How many frames each domain has, in the order of the configuration.

@@ -1,7 +1,7 @@
 -- The audit of a run, as its trace has it.
 use Rattle.std.specs.Prelude.{◌≡◌, ◌==◌, ◌++◌, ℕ, Bool, true, false, List, [], ◌∷◌, Option, None, Some, if◌then◌else◌}
 use Rattle.std.specs.Prelude.{option_to_list}
-use Rattle.gt_host.specs.Prelude.{DomId, GrantRef, Handle, asked, Asked, End, type_text, line_text, reply_text, CopyEnd}
+use Rattle.gt_host.specs.Prelude.{DomId, GrantRef, Handle, asked, Asked, type_text, line_text, reply_text}
 use Rattle.gt_host.specs.Prelude.{Hypercall, Record, Reply, History, Setting, Underway, open_call, grown, subject_at}
 use Rattle.gt_host.specs.Prelude.{Answer, Element, Happened, Began, Stepped, Item}
 use Rattle.gt_calls.specs.declared.request.Asked.TheVariants as asks
@@ -13,15 +13,11 @@ use Rattle.gt_host.specs.Printing.{answer_text}
 
 -- what a call is recorded as
 
--- an end of a copy
-abbrev pub end_told : End → CopyEnd
-end_told e = record { ptr = e.ptr; dom = e.domid; off = e.offset }
-
 -- what a call is recorded as, if calls of its kind are audited: an unmap by the entry that its handle names
 abbrev pub call_told : (Handle → Option (DomId × GrantRef)) → Asked → Option Hypercall
 call_told subject (asks.Map dom gref flags) = Some (calls.Map dom gref flags)
 call_told subject (asks.Unmap handle) = Some (calls.Unmap (subject handle))
-call_told subject (asks.Copy c) = Some (calls.Copy (end_told c.source) (end_told c.dest) c.len c.flags)
+call_told subject (asks.Copy c) = Some (calls.Copy c.source c.dest c.len c.flags)
 call_told subject (asks.QuerySize dom) = Some (calls.QuerySize dom)
 call_told subject (asks.GetVersion dom) = Some (calls.GetVersion dom)
 call_told subject (asks.SetVersion version) = Some (calls.SetVersion version)

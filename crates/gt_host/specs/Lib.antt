@@ -1,5 +1,4 @@
 pub mod Auditing
-pub mod Copying
 pub mod Faults
 pub mod Labels
 pub mod Naming

@@ -1,12 +1,10 @@
 -- The names of other crates, and of the code, that the definitions here speak of.
 pub use Rattle.gt_audit.specs.Lines.{line_text, reply_text}
-pub use Rattle.gt_audit.specs.declared.record.CopyEnd.{CopyEnd}
 pub use Rattle.gt_audit.specs.declared.record.Hypercall.{Hypercall}
 pub use Rattle.gt_audit.specs.declared.record.Record.{Record}
 pub use Rattle.gt_audit.specs.declared.record.Reply.{Reply}
 pub use Rattle.gt_calls.specs.Asking.{asked}
 pub use Rattle.gt_calls.specs.declared.request.Asked.{Asked}
-pub use Rattle.gt_calls.specs.declared.request.End.{End}
 pub use Rattle.gt_calls.specs.declared.request.Request.{Request}
 pub use Rattle.gt_core.specs.Acting.{setting_of}
 pub use Rattle.gt_core.specs.History.{History, Setting, Underway, open_call}

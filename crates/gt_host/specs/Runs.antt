@@ -8,7 +8,6 @@ use Rattle.gt_lines.specs.declared.calls.ScriptCall.TheVariants as calls
 use Rattle.gt_lines.specs.declared.calls.ScriptAction.TheVariants as actions
 use Rattle.gt_calls.specs.declared.request.Request.TheVariants as requests
 use Rattle.gt_core.specs.declared.trace.Element.TheVariants as elements
-use Rattle.gt_host.specs.Copying.{copy_asked}
 use Rattle.gt_host.specs.Printing.{answer_line, busy_line, idle_line, open_line}
 use Rattle.gt_host.specs.Showing.{show_line}
 
@@ -50,7 +49,7 @@ text_said (calls.Load label off len) = None
 text_said (calls.Store label off hex) = Some hex
 text_said (calls.Peek frame off len) = None
 text_said (calls.Poke frame off hex) = Some hex
-text_said (calls.Copy source dest len) = None
+text_said (calls.Copy c) = None
 text_said (calls.SetVersion version) = None
 text_said (calls.SetupTable frames) = None
 text_said (calls.QuerySize to) = None
@@ -79,7 +78,7 @@ request_of named dom bytes (calls.Load label off len) = requests.Load (handle_of
 request_of named dom bytes (calls.Store label off hex) = requests.Store (handle_of named dom label) off bytes
 request_of named dom bytes (calls.Peek frame off len) = requests.Peek frame off len
 request_of named dom bytes (calls.Poke frame off hex) = requests.Poke frame off bytes
-request_of named dom bytes (calls.Copy source dest len) = requests.Copy (copy_asked source dest len)
+request_of named dom bytes (calls.Copy c) = requests.Copy c
 request_of named dom bytes (calls.SetVersion version) = requests.SetVersion version
 request_of named dom bytes (calls.SetupTable frames) = requests.SetupTable frames
 request_of named dom bytes (calls.QuerySize to) = requests.QuerySize to
@@ -104,7 +103,7 @@ label_given (calls.Load label off len) = None
 label_given (calls.Store label off hex) = None
 label_given (calls.Peek frame off len) = None
 label_given (calls.Poke frame off hex) = None
-label_given (calls.Copy source dest len) = None
+label_given (calls.Copy c) = None
 label_given (calls.SetVersion version) = None
 label_given (calls.SetupTable frames) = None
 label_given (calls.QuerySize to) = None

@@ -1,11 +1,11 @@
 //! The audit of a run: a record of each answer of an audited call.
 ghost use Rattle.std.specs.Prelude.{◌≡◌, ◌++◌, ℕ, List, [], true, OnOk, option_to_list};
 ghost use Rattle.gt_core.specs.Acting.{setting_of};
-ghost use Rattle.gt_host.specs.Auditing.{end_told, reply_told, record_told, record_lines, asked_lines, PrintsAs};
+ghost use Rattle.gt_host.specs.Auditing.{reply_told, record_told, record_lines, asked_lines, PrintsAs};
 ghost use Rattle.gt_host.specs.Recording.{IsAbout};
 
-use gt_audit::{CopyEnd, Hypercall, Record, Reply, push_line};
-use gt_core::{Answer, Core, End, Request};
+use gt_audit::{Hypercall, Record, Reply, push_line};
+use gt_core::{Answer, Core, Request};
 use gt_lines::Text;
 use gt_types::{Allows, DomId};
 use std::alloc::{AllocError, Global};
@@ -16,16 +16,6 @@ use std::alloc::{AllocError, Global};
 pub struct Audit {
     is_on: bool,
     records: Vec<Record>,
-}
-
-fn end_told(end: End) -> CopyEnd
-    ensures { result ≡ end_told end }
-{
-    CopyEnd {
-        ptr: end.ptr,
-        dom: end.domid,
-        off: end.offset,
-    }
 }
 
 // How a call is recorded that the domain is about to make; None if such calls are not audited. An unmap is
@@ -40,8 +30,8 @@ fn call_told<P: Allows>(core: &Core<P>, dom: DomId, request: Request<'_>) -> Opt
             subject: core.subject(dom, handle),
         }),
         Request::Copy(copy) => Some(Hypercall::Copy {
-            source: end_told(copy.source),
-            dest: end_told(copy.dest),
+            source: copy.source,
+            dest: copy.dest,
             len: copy.len,
             flags: copy.flags,
         }),

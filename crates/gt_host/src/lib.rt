@@ -19,7 +19,6 @@
 
 mod answers;
 mod audit;
-mod copying;
 mod fault;
 mod kept;
 mod labels;
@@ -37,4 +36,4 @@ pub use labels::Labels;
 pub use laws::{every_beginning_is_of_the_text, every_script_prints_one_text};
 pub use playing::play;
 pub use rights::Rights;
-pub use run::{bytes_said, label_given, request_of};
+pub use run::{bytes_said, label_given, name_mapping, request_of};

@@ -6,14 +6,13 @@ ghost use Rattle.gt_types.specs.declared.DomId.{DomId};
 ghost use Rattle.gt_core.specs.History.{History};
 ghost use Rattle.gt_core.specs.Standing.{CoreStands, setting_in};
 ghost use Rattle.gt_host.specs.Printing.{answer_line};
-ghost use Rattle.gt_host.specs.Runs.{Named, text_said, bytes_said as said_in, request_of};
+ghost use Rattle.gt_host.specs.Runs.{Named, text_said, bytes_said as said_in, request_of, handle_given, with_name};
 ghost use Rattle.gt_host.specs.Runs.{label_given, label_said, DoLine, BeginLine, TickLine, RunsLine};
 ghost use Rattle.gt_host.specs.Naming.{AreNamed, NamesMapping};
 ghost use Rattle.gt_host.specs.Ticking.{IsReadyToCall, HasCalled, TicksTo, Leads};
 ghost use Rattle.gt_host.specs.declared.fault.Fault.TheVariants as faults;
 
 use crate::answers::{push_answer_line, push_busy_line, push_idle_line};
-use crate::copying::copy_asked;
 use crate::fault::Fault;
 use crate::kept::Kept;
 use crate::labels::Labels;
@@ -43,7 +42,7 @@ fn text_said<'b, 'a>(call: &'b ScriptCall<'a>) -> Option<&'b Text<'a>>
         | ScriptCall::Unmap { .. }
         | ScriptCall::Load { .. }
         | ScriptCall::Peek { .. }
-        | ScriptCall::Copy { .. }
+        | ScriptCall::Copy(_)
         | ScriptCall::SetVersion { .. }
         | ScriptCall::SetupTable { .. }
         | ScriptCall::QuerySize { .. }
@@ -115,7 +114,7 @@ pub fn request_of<'a, 'c>(
             off: *off,
             bytes,
         },
-        ScriptCall::Copy { source, dest, len } => Request::Copy(copy_asked(*source, *dest, *len)),
+        ScriptCall::Copy(copy) => Request::Copy(*copy),
         ScriptCall::SetVersion { version } => Request::SetVersion { version: *version },
         ScriptCall::SetupTable { frames } => Request::SetupTable { frames: *frames },
         ScriptCall::QuerySize { dom } => Request::QuerySize { dom: *dom },
@@ -140,7 +139,7 @@ pub fn label_given<'a>(call: &ScriptCall<'a>) -> Option<&'a [u8]>
         | ScriptCall::Store { .. }
         | ScriptCall::Peek { .. }
         | ScriptCall::Poke { .. }
-        | ScriptCall::Copy { .. }
+        | ScriptCall::Copy(_)
         | ScriptCall::SetVersion { .. }
         | ScriptCall::SetupTable { .. }
         | ScriptCall::QuerySize { .. }
@@ -158,16 +157,17 @@ fn label_in<'a>(action: &ScriptAction<'a>) -> Option<&'a [u8]>
     }
 }
 
-// A map that is answered Ok gives its handle to its label.
-fn name_mapping<'a>(
+/// Gives the handle of an answer, if it is that of a map, to this label.
+pub fn name_mapping<'a>(
     labels: &mut Labels<'a>,
     dom: DomId,
-    step: &ScriptStep<'a>,
+    label: Option<&'a [u8]>,
     answer: &Answer,
 ) -> Result<(), AllocError>
-    ensures { OnOk result (NamesMapping labels.old labels.new dom step.now answer.now) }
+    ensures { OnOk result ((named : List Named) → AreNamed labels.old named → AreNamed labels.new
+        (with_name named dom (option_map (λ l. l.now) label) (handle_given answer.now))) }
 {
-    match (label_in(&step.action), answer) {
+    match (label, answer) {
         (Some(label), Answer::Mapped(handle)) => labels.name(dom, label, *handle),
         _ => Ok(()),
     }
@@ -186,7 +186,7 @@ fn answer_call<'a>(
     ensures named { OnOk result (NamesMapping labels.old labels.new dom step.now answer.now) }
     ensures line { OnOk result (out.new.items ≡ out.old.items ++ answer_line types.now step.now.line dom answer.now) }
 {
-    name_mapping(labels, dom, step, answer)?;
+    name_mapping(labels, dom, label_in(&step.action), answer)?;
     push_answer_line(alloc, out, types, step.line, dom, answer)
 }
 

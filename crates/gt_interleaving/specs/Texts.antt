@@ -14,7 +14,7 @@ use Rattle.gt_lines.specs.declared.calls.ScriptCall.TheVariants as calls
 abbrev pub ReadsNoBytes : ScriptCall → Type 0
 ReadsNoBytes (calls.Load label off len) = ⊥
 ReadsNoBytes (calls.Peek frame off len) = ⊥
-ReadsNoBytes (calls.Copy source dest len) = ⊥
+ReadsNoBytes (calls.Copy c) = ⊥
 ReadsNoBytes call = Unit {0}
 
 -- Each call of the duty's list reads no bytes and copies none, and what it asks has the numbers that its types can hold,

@@ -29,7 +29,7 @@ fn lines_of<'t>(alloc: Global, text: &'t [u8]) -> Result<Vec<&'t [u8]>, AllocErr
 
 // Appends the members of words.
 fn push_pieces(out: &mut Vec<u8>, printed: Printed, words: &[&[u8]]) -> Result<(), AllocError>
-    ensures { OnOk result (out.new.items ≡ out.old.items ++ pieces (start printed) (map (λ w. w.now) json_words.now)) }
+    ensures { OnOk result (out.new.items ≡ out.old.items ++ pieces (start printed) (map (λ w. w.now) words.now)) }
 {
     let mut place = printed.start();
     'words: for word in words {

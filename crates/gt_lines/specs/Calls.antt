@@ -1,7 +1,8 @@
 -- What the words of a call say: REF, DOM and the others as in Fields.
-use Rattle.std.specs.Prelude.{ℕ, List, [], ◌∷◌, Option, Some, None, if◌then◌else◌, codes}
+use Rattle.std.specs.Prelude.{ℕ, ◌+◌, List, [], ◌∷◌, Option, Some, None, if◌then◌else◌, codes}
 use Rattle.std.specs.Option.{option_map, option_or}
 use Rattle.std.specs.Str.{bytes_eq}
+use Rattle.gt_types.specs.declared.copies.End.{End}
 use Rattle.gt_types.specs.declared.DomId.{DomId}
 use Rattle.gt_types.specs.declared.GrantRef.{GrantRef}
 use Rattle.gt_entry.specs.declared.entry.Entry.{Entry}
@@ -9,8 +10,6 @@ use Rattle.gt_entry.specs.declared.entry.Entry.TheVariants as entries
 use Rattle.gt_lines.specs.Fields.{◌>>=◌, u16_word, u32_word, u64_word, reference_word, domain_word, mode_word}
 use Rattle.gt_lines.specs.Fields.{flags_word, tick_word, label_word, text_where}
 use Rattle.gt_lines.specs.Hexadecimal.{hex_word}
-use Rattle.gt_lines.specs.declared.calls.ScriptCopyEnd.{ScriptCopyEnd}
-use Rattle.gt_lines.specs.declared.calls.ScriptCopyEnd.TheVariants as ends
 use Rattle.gt_lines.specs.declared.calls.ScriptCall.{ScriptCall}
 use Rattle.gt_lines.specs.declared.calls.ScriptCall.TheVariants as calls
 use Rattle.gt_lines.specs.declared.calls.ScriptAction.{ScriptAction}
@@ -121,25 +120,31 @@ poke_of (frame ∷ off ∷ digits ∷ []) = do
   Some (calls.Poke f o h)
 poke_of _ = None
 
--- an end of a copy: `gref` DOM REF OFF, or `frame` DOM FRAME OFF
-unfoldable pub end_of : List ℕ → List ℕ → List ℕ → List ℕ → Option ScriptCopyEnd
+-- an end of a copy: `gref` DOM REF OFF, or `frame` DOM FRAME OFF; its number is the reference, or the frame's
+-- (grant_table.h)
+unfoldable pub end_of : List ℕ → List ℕ → List ℕ → List ℕ → Option End
 end_of kind dom place off = if bytes_eq kind (codes "gref") then (do
   d ← domain_word dom
   r ← reference_word place
   o ← u16_word off
-  Some (ends.Granted d r o)) else (if bytes_eq kind (codes "frame") then (do
+  Some (record { ptr = r.0; domid = d; offset = o })) else (if bytes_eq kind (codes "frame") then (do
     d ← domain_word dom
     f ← u64_word place
     o ← u16_word off
-    Some (ends.Frame d f o)) else None)
+    Some (record { ptr = f; domid = d; offset = o })) else None)
 
--- what follows `copy`: END END LEN, the source first
+-- this flag if the end is given by a grant reference, and none if it is given by a frame (grant_table.h)
+unfoldable pub grant_flag : List ℕ → ℕ → ℕ
+grant_flag kind flag = if bytes_eq kind (codes "gref") then flag else 0
+
+-- what follows `copy`: END END LEN, the source first; flag 1 says that the source is given by a reference, flag 2 the
+-- same of the destination (grant_table.h)
 unfoldable pub copy_of : List (List ℕ) → Option ScriptCall
 copy_of (from_kind ∷ from_dom ∷ from ∷ from_off ∷ to_kind ∷ to_dom ∷ to ∷ to_off ∷ len ∷ []) = do
   s ← end_of from_kind from_dom from from_off
   d ← end_of to_kind to_dom to to_off
   n ← u16_word len
-  Some (calls.Copy s d n)
+  Some (calls.Copy (record { source = s; dest = d; len = n; flags = grant_flag from_kind 1 + grant_flag to_kind 2 }))
 copy_of _ = None
 
 -- what follows `revoke`, `withdraw`, `demote`, `promote`, and `show` and its domain: REF

@@ -1,7 +1,7 @@
 //! The calls that a script can ask for.
-ghost use Rattle.std.specs.Prelude.{◌≡◌, map};
+ghost use Rattle.std.specs.Prelude.{◌≡◌, ◌≤◌, map};
 ghost use Rattle.gt_lines.specs.Calls.{page_of, sub_of, via_of, granted, grant_of, map_of, unmap_of, load_of};
-ghost use Rattle.gt_lines.specs.Calls.{store_of, peek_of, poke_of, end_of, copy_of, bytes_of};
+ghost use Rattle.gt_lines.specs.Calls.{store_of, peek_of, poke_of, end_of, grant_flag, copy_of, bytes_of};
 ghost use Rattle.gt_lines.specs.Calls.{only_reference, only_number, only_domain, table_of, access_of, call_of};
 ghost use Rattle.gt_lines.specs.Calls.{tick_of, action_of};
 
@@ -11,24 +11,14 @@ use crate::fields::{
 use crate::hexadecimal::hex_text;
 use crate::texts::Text;
 use gt_entry::Entry;
-use gt_types::{DomId, GrantRef};
+use gt_types::{CopyArgs, DomId, End, GrantRef};
 
-/// An end of a copy: bytes from `off` on.
-#[derive(Clone, Copy, Debug, PartialEq, Eq)]
-pub enum ScriptCopyEnd {
-    /// `gref DOM REF OFF`: of what the entry `gref` of the domain's table grants.
-    Granted {
-        dom: DomId,
-        gref: GrantRef,
-        off: u16,
-    },
-    /// `frame DOM FRAME OFF`: of a frame of the domain's own.
-    Frame {
-        dom: DomId,
-        frame: u64,
-        off: u16,
-    },
-}
+/// The flag of a copy whose source is given by a grant reference: `GNTCOPY_source_gref` of the public header
+/// `grant_table.h`.
+const SOURCE_GREF: u16 = 1;
+
+/// The flag of a copy whose destination is given by a grant reference: `GNTCOPY_dest_gref` of the same header.
+const DEST_GREF: u16 = 2;
 
 /// A call as it is written. A domain written `self` is the number 32752. A label names the handle of the last map of that
 /// label.
@@ -95,12 +85,10 @@ pub enum ScriptCall<'a> {
         off: u16,
         hex: Text<'a>,
     },
-    /// `copy END END LEN`: `len` bytes from the source, which comes first, to the destination.
-    Copy {
-        source: ScriptCopyEnd,
-        dest: ScriptCopyEnd,
-        len: u16,
-    },
+    /// `copy END END LEN`: `len` bytes from the source, which comes first, to the destination. An end is
+    /// `gref DOM REF OFF`, of what the entry of the domain's table grants, or `frame DOM FRAME OFF`, of a frame of the
+    /// domain's own.
+    Copy(CopyArgs),
     /// `version V`: any number of 32 bits, also one of no version.
     SetVersion {
         version: u32,
@@ -302,24 +290,33 @@ fn read_poke<'a>(args: &[&'a [u8]]) -> Option<ScriptCall<'a>>
 }
 
 #[tactic(auto, unfolding(crate::specs::Calls::end_of))]
-fn read_end(kind: &[u8], dom: &[u8], place: &[u8], off: &[u8]) -> Option<ScriptCopyEnd>
+fn read_end(kind: &[u8], dom: &[u8], place: &[u8], off: &[u8]) -> Option<End>
     ensures { result ≡ end_of kind.now dom.now place.now off.now }
 {
     if is(kind, "gref") {
-        Some(ScriptCopyEnd::Granted {
-            dom: domain(dom)?,
-            gref: reference(place)?,
-            off: u16_of(off)?,
+        Some(End {
+            domid: domain(dom)?,
+            ptr: u64::from(reference(place)?.0),
+            offset: u16_of(off)?,
         })
     } else if is(kind, "frame") {
-        Some(ScriptCopyEnd::Frame {
-            dom: domain(dom)?,
-            frame: u64_of(place)?,
-            off: u16_of(off)?,
+        Some(End {
+            domid: domain(dom)?,
+            ptr: u64_of(place)?,
+            offset: u16_of(off)?,
         })
     } else {
         None
     }
+}
+
+// The flag, if the end is given by a grant reference.
+#[tactic(auto, unfolding(crate::specs::Calls::grant_flag))]
+fn grant_flag(kind: &[u8], flag: u16) -> u16
+    ensures is { result ≡ grant_flag kind.now flag }
+    ensures most { result ≤ flag }
+{
+    if is(kind, "gref") { flag } else { 0 }
 }
 
 #[tactic(auto, unfolding(crate::specs::Calls::copy_of))]
@@ -338,11 +335,12 @@ fn read_copy<'a>(args: &[&'a [u8]]) -> Option<ScriptCall<'a>>
             to_off,
             len,
         ] => {
-            Some(ScriptCall::Copy {
+            Some(ScriptCall::Copy(CopyArgs {
                 source: read_end(from_kind, from_dom, from, from_off)?,
                 dest: read_end(to_kind, to_dom, to, to_off)?,
                 len: u16_of(len)?,
-            })
+                flags: grant_flag(from_kind, SOURCE_GREF) + grant_flag(to_kind, DEST_GREF),
+            }))
         }
         _ => None,
     }

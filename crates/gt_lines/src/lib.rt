@@ -20,7 +20,7 @@ mod signals;
 mod texts;
 mod words;
 
-pub use calls::{ScriptAction, ScriptCall, ScriptCopyEnd};
+pub use calls::{ScriptAction, ScriptCall};
 pub use fields::is;
 pub use hexadecimal::hex_bytes;
 pub use laws::every_hex_text_says_its_bytes;

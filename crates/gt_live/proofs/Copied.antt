@@ -23,7 +23,7 @@ use Rattle.gt_words.specs.declared.view.View.{View}
 use Rattle.gt_frames.specs.Receipts.{Copying}
 use Rattle.gt_access.specs.Accesses.{copying_at}
 use Rattle.gt_access.specs.Routes.{MayCopyBy, MayCopyEach, ReachesBy, named_by, pair_beyond}
-use Rattle.gt_calls.specs.declared.action.Place.{Place}
+use Rattle.gt_types.specs.declared.places.Spot.{Spot}
 use Rattle.gt_calls.specs.declared.action.Step.TheVariants.{Copy as CopyBytes}
 use Rattle.gt_calls.specs.declared.action.Verdict.{Verdict}
 use Rattle.gt_calls.specs.declared.action.Verdict.TheVariants.{Granted, Refused}
@@ -32,8 +32,8 @@ use Rattle.gt_calls.specs.declared.held.Held.{Held}
 use Rattle.gt_calls.specs.declared.held.Pins.{Pins}
 use Rattle.gt_calls.specs.declared.held.Route.{Route}
 use Rattle.gt_calls.specs.declared.held.Route.TheVariants.{Own, Direct, Through}
-use Rattle.gt_calls.specs.declared.request.CopyArgs.{CopyArgs}
-use Rattle.gt_calls.specs.declared.request.End.{End}
+use Rattle.gt_types.specs.declared.copies.CopyArgs.{CopyArgs}
+use Rattle.gt_types.specs.declared.copies.End.{End}
 use Rattle.gt_calls.specs.Holding.{frame_by, held_by, last_first, owner_by}
 use Rattle.gt_calls.specs.Opening.{IsAllowed, IsOwnEnd, OpensCopy, opens}
 use Rattle.gt_calls.specs.Path.{Continuation, dest_pair, give_back, path, place_of, source_pair}
@@ -43,10 +43,11 @@ use Rattle.gt_calls.specs.declared.request.Asked.TheVariants as asks
 use Rattle.gt_calls.specs.declared.call.Phase.TheVariants.{Accessing}
 use Rattle.gt_calls.specs.CopyCalls.{copy_call}
 use Rattle.gt_calls.specs.Resting.{IsReached, RestsOnWays}
-use Rattle.gt_calls.specs.Rules.{CallerKnowledge, begun, copy_begun, denied, first, is_dest_granted, is_source_granted}
+use Rattle.gt_calls.specs.Rules.{CallerKnowledge, begun, copy_begun, denied, first}
+use Rattle.gt_types.specs.Copies.{is_dest_granted, is_source_granted}
 use Rattle.gt_calls.specs.Rules.{label_of, refused_when, rights_to_copy, via_judged}
 use Rattle.gt_calls.specs.Standing.{pins_by_call}
-use Rattle.gt_live.specs.Accesses.{Accessed, AnsweredAtAccess, IsCopiedBy, IsOfAccess, frame_named, onward, spot_of}
+use Rattle.gt_live.specs.Accesses.{Accessed, AnsweredAtAccess, IsCopiedBy, IsOfAccess, frame_named, onward}
 use Rattle.gt_live.specs.Underway.{AreOfRun, AtAccess, GivesBack, HasTaken}
 use Rattle.gt_live.specs.Walks.{Called, all_shown}
 use Rattle.gt_live.proofs.Accessing.{of-its-frame, serves}
@@ -140,7 +141,7 @@ may-copy c caller a pins opens source dest =
     )
 
 -- a copy that came to its access and gave its pins back is whole
-pub whole-copy : (c : CallerKnowledge) (k : Layout) (call : Call) (from to : Place) (len : ℕ) (v mid w : View) → AtAccess c k call from to len v mid → GivesBack k (pins_by_call call) mid w
+pub whole-copy : (c : CallerKnowledge) (k : Layout) (call : Call) (from to : Spot) (len : ℕ) (v mid w : View) → AtAccess c k call from to len v mid → GivesBack k (pins_by_call call) mid w
     → Accessed k (path c call.caller call.request) (CopyBytes from to len) v w × KeepsPins v w
 whole-copy c k call from to len v mid w a g =
     let way = path c call.caller call.request in
@@ -152,31 +153,31 @@ whole-copy c k call from to len v mid w a g =
     )
 
 -- a copy that came to its access and gave its pins back
-pub made-whole : (c : CallerKnowledge) (k : Layout) (call : Call) (from to : Place) (len : ℕ) (v mid w : View) (way : Continuation) (writer : DomId) (result : Result Copying Denial) → AtAccess c k call from to len v mid → GivesBack k (pins_by_call call) mid w → way ≡ path c call.caller call.request
-    → IfOk result (λ (r : Copying). r ≡ copying_at (spot_of from) (spot_of to) len writer) → IfErr result IsOfAccess → AnsweredAtAccess k way (IsCopiedBy writer) result v w
+pub made-whole : (c : CallerKnowledge) (k : Layout) (call : Call) (from to : Spot) (len : ℕ) (v mid w : View) (way : Continuation) (writer : DomId) (result : Result Copying Denial) → AtAccess c k call from to len v mid → GivesBack k (pins_by_call call) mid w → way ≡ path c call.caller call.request
+    → IfOk result (λ (r : Copying). r ≡ copying_at from to len writer) → IfErr result IsOfAccess → AnsweredAtAccess k way (IsCopiedBy writer) result v w
 made-whole c k call from to len v mid w way writer result a g same ok err = subst (λ (y : Continuation). AnsweredAtAccess k y (IsCopiedBy writer) result v w) (sym same) (by result ok err)
   where
     whole : Accessed k (path c call.caller call.request) (CopyBytes from to len) v w
     whole = (whole-copy c k call from to len v mid w a g).0
 
-    by : (r : Result Copying Denial) → IfOk r (λ (x : Copying). x ≡ copying_at (spot_of from) (spot_of to) len writer) → IfErr r IsOfAccess → AnsweredAtAccess k (path c call.caller call.request) (IsCopiedBy writer) r v w
+    by : (r : Result Copying Denial) → IfOk r (λ (x : Copying). x ≡ copying_at from to len writer) → IfErr r IsOfAccess → AnsweredAtAccess k (path c call.caller call.request) (IsCopiedBy writer) r v w
     by (Ok r) o e = (CopyBytes from to len, whole, o)
     by (Err denial) o e = inr (CopyBytes from to len, whole, e)
 
 -- what the routes to both ends reach
-pub reaches-source : (c : CallerKnowledge) (k : Layout) (s : SeatOf) (request : Asked) (pins : Pins) (from to : Place) (len : ℕ) (v : View) → RestsOnWays c s.dom request pins from to len → HasTaken k (last_first pins) v s.view → AreOfRun k (last_first pins)
-    → ReachesBy k s Read ForCopy (frame_named from.owner from.frame) from.off len pins.source
+pub reaches-source : (c : CallerKnowledge) (k : Layout) (s : SeatOf) (request : Asked) (pins : Pins) (from to : Spot) (len : ℕ) (v : View) → RestsOnWays c s.dom request pins from to len → HasTaken k (last_first pins) v s.view → AreOfRun k (last_first pins)
+    → ReachesBy k s Read ForCopy from.frame from.off len pins.source
 reaches-source c k s request pins from to len v r x all =
     let at = reaches-end c k s (is_source_granted r.copy) r.copy.source Read r.copy.len (source_pair s.dom r.copy) pins.source (last_first pins) v r.source_reached x all (λ p is. in-source p (held_by pins.dest) (held_by pins.source) is) in
-    subst (λ (n : ℕ). ReachesBy k s Read ForCopy (frame_named from.owner from.frame) from.off n pins.source) (sym r.len_is)
-    (subst (λ (p : Place). ReachesBy k s Read ForCopy (frame_named p.owner p.frame) p.off r.copy.len pins.source) (sym r.from_is) at)
+    subst (λ (n : ℕ). ReachesBy k s Read ForCopy from.frame from.off n pins.source) (sym r.len_is)
+    (subst (λ (p : Spot). ReachesBy k s Read ForCopy p.frame p.off r.copy.len pins.source) (sym r.from_is) at)
 
-pub reaches-dest : (c : CallerKnowledge) (k : Layout) (s : SeatOf) (request : Asked) (pins : Pins) (from to : Place) (len : ℕ) (v : View) → RestsOnWays c s.dom request pins from to len → HasTaken k (last_first pins) v s.view → AreOfRun k (last_first pins)
-    → ReachesBy k s Write ForCopy (frame_named to.owner to.frame) to.off len pins.dest
+pub reaches-dest : (c : CallerKnowledge) (k : Layout) (s : SeatOf) (request : Asked) (pins : Pins) (from to : Spot) (len : ℕ) (v : View) → RestsOnWays c s.dom request pins from to len → HasTaken k (last_first pins) v s.view → AreOfRun k (last_first pins)
+    → ReachesBy k s Write ForCopy to.frame to.off len pins.dest
 reaches-dest c k s request pins from to len v r x all =
     let at = reaches-end c k s (is_dest_granted r.copy) r.copy.dest Write r.copy.len (dest_pair s.dom pins.source) pins.dest (last_first pins) v r.dest_reached x all (λ p is. in-dest p (held_by pins.dest) (held_by pins.source) is) in
-    subst (λ (n : ℕ). ReachesBy k s Write ForCopy (frame_named to.owner to.frame) to.off n pins.dest) (sym r.len_is)
-    (subst (λ (p : Place). ReachesBy k s Write ForCopy (frame_named p.owner p.frame) p.off r.copy.len pins.dest) (sym r.to_is) at)
+    subst (λ (n : ℕ). ReachesBy k s Write ForCopy to.frame to.off n pins.dest) (sym r.len_is)
+    (subst (λ (p : Spot). ReachesBy k s Write ForCopy p.frame p.off r.copy.len pins.dest) (sym r.to_is) at)
 
 -- a copy of this caller at its access, with these pins
 abbrev pub Access : CallerKnowledge → Layout → DomId → CopyArgs → Pins → View → View → Type 0
@@ -186,26 +187,26 @@ Access c k caller copy pins v w =
 
 module _ (c : CallerKnowledge) (k : Layout) (s : SeatOf) (caller : DomId) (copy : CopyArgs) (pins : Pins) (v : View)
     (me : s.dom ≡ caller) (a : Access c k caller copy pins v s.view) where
-  abbrev pub from_place : Place
+  abbrev pub from_place : Spot
   from_place = place_of caller copy.source pins.source
 
-  abbrev pub to_place : Place
+  abbrev pub to_place : Spot
   to_place = place_of caller copy.dest pins.dest
 
   access-rests : RestsOnWays c s.dom (asks.Copy copy) pins from_place to_place copy.len
   access-rests =
       subst (λ (x : DomId). RestsOnWays c x (asks.Copy copy) pins from_place to_place copy.len) (sym me) a.rests
 
-  pub access-source : (at : Place) → at ≡ from_place
-      → ReachesBy k s Read ForCopy (frame_named at.owner at.frame) at.off copy.len pins.source
+  pub access-source : (at : Spot) → at ≡ from_place
+      → ReachesBy k s Read ForCopy at.frame at.off copy.len pins.source
   access-source at e =
-      subst (λ (p : Place). ReachesBy k s Read ForCopy (frame_named p.owner p.frame) p.off copy.len pins.source) (sym e)
+      subst (λ (p : Spot). ReachesBy k s Read ForCopy p.frame p.off copy.len pins.source) (sym e)
       (reaches-source c k s (asks.Copy copy) pins from_place to_place copy.len v access-rests a.taken a.of_run)
 
-  pub access-dest : (at : Place) → at ≡ to_place
-      → ReachesBy k s Write ForCopy (frame_named at.owner at.frame) at.off copy.len pins.dest
+  pub access-dest : (at : Spot) → at ≡ to_place
+      → ReachesBy k s Write ForCopy at.frame at.off copy.len pins.dest
   access-dest at e =
-      subst (λ (p : Place). ReachesBy k s Write ForCopy (frame_named p.owner p.frame) p.off copy.len pins.dest) (sym e)
+      subst (λ (p : Spot). ReachesBy k s Write ForCopy p.frame p.off copy.len pins.dest) (sym e)
       (reaches-dest c k s (asks.Copy copy) pins from_place to_place copy.len v access-rests a.taken a.of_run)
 
   pub access-may : copy_begun c caller copy ≡ None → MayCopyBy c.domains c.may s.dom pins
@@ -216,10 +217,10 @@ module _ (c : CallerKnowledge) (k : Layout) (s : SeatOf) (caller : DomId) (copy 
       (subst (λ (x : Asked). begun c caller x ≡ None) r.of_copy none) in
       may-copy c s.dom r.copy pins (opens c s.dom (asks.Copy r.copy) here) r.source_reached r.dest_reached
 
-  pub access-source-range : (at : Place) → at ≡ from_place → at.off + copy.len ≤ 4096
+  pub access-source-range : (at : Spot) → at ≡ from_place → at.off + copy.len ≤ 4096
   access-source-range at e =
-      let r = access-rests in subst (λ (p : Place). p.off + copy.len ≤ 4096) (sym (e ∙ r.from_is)) r.source_range
+      let r = access-rests in subst (λ (p : Spot). p.off + copy.len ≤ 4096) (sym (e ∙ r.from_is)) r.source_range
 
-  pub access-dest-range : (at : Place) → at ≡ to_place → at.off + copy.len ≤ 4096
+  pub access-dest-range : (at : Spot) → at ≡ to_place → at.off + copy.len ≤ 4096
   access-dest-range at e =
-      let r = access-rests in subst (λ (p : Place). p.off + copy.len ≤ 4096) (sym (e ∙ r.to_is)) r.dest_range
+      let r = access-rests in subst (λ (p : Spot). p.off + copy.len ≤ 4096) (sym (e ∙ r.to_is)) r.dest_range

@@ -38,7 +38,7 @@ use Rattle.gt_words.specs.declared.view.EntryRecord.{EntryRecord}
 use Rattle.gt_words.specs.History.{Moment}
 use Rattle.gt_words.specs.declared.view.View.{View}
 use Rattle.gt_calls.specs.declared.action.Action.TheVariants.{Step as Makes}
-use Rattle.gt_calls.specs.declared.action.Place.{Place}
+use Rattle.gt_types.specs.declared.places.Spot.{Spot}
 use Rattle.gt_calls.specs.declared.action.Seen.{Seen}
 use Rattle.gt_calls.specs.declared.action.Seen.TheVariants.{Nothing, Word, Taken, Missed}
 use Rattle.gt_calls.specs.declared.action.Step.{Step}
@@ -62,8 +62,8 @@ use Rattle.gt_calls.specs.declared.leg.LegPhase.{LegPhase}
 use Rattle.gt_calls.specs.declared.leg.LegPhase.TheVariants.{Header, Look, Body, Second, Pinning, Relook}
 use Rattle.gt_calls.specs.declared.request.Asked.{Asked}
 use Rattle.gt_calls.specs.declared.request.Asked.TheVariants as asks
-use Rattle.gt_calls.specs.declared.request.CopyArgs.{CopyArgs}
-use Rattle.gt_calls.specs.declared.request.End.{End}
+use Rattle.gt_types.specs.declared.copies.CopyArgs.{CopyArgs}
+use Rattle.gt_types.specs.declared.copies.End.{End}
 use Rattle.gt_calls.specs.declared.request.Holder.TheVariants.{Mapping as ByHandle, Leg as ByLeg}
 use Rattle.gt_handles.specs.declared.handles.Handle.{Handle}
 use Rattle.gt_calls.specs.Holding.{held_by, last_first, pins_so_far, without_last}
@@ -76,7 +76,8 @@ use Rattle.gt_calls.specs.Path.{Continuation, dest_pair, end_leg, entry_refusal,
 use Rattle.gt_calls.specs.Path.{second_leg, source_pair}
 use Rattle.gt_calls.specs.Resting.{HasRead, HasSeenTable, IsLegFor, IsForwarded, IsMapped, IsOnFrom, IsOfRun as IsNamed}
 use Rattle.gt_calls.specs.Resting.{Lets, Rests, RestsOnTry}
-use Rattle.gt_calls.specs.Rules.{CallerKnowledge, first_look, is_dest_granted, via_judged}
+use Rattle.gt_calls.specs.Rules.{CallerKnowledge, first_look, via_judged}
+use Rattle.gt_types.specs.Copies.{is_dest_granted}
 use Rattle.gt_live.specs.Driving.{CanMake, Knows}
 use Rattle.gt_live.specs.Mappings.{HasPin, entry_record_of}
 use Rattle.gt_live.specs.Underway.{AreOfRun, HasTaken, StandsInCopy, StandsWell}
@@ -262,7 +263,7 @@ module _ (c : CallerKnowledge) (k : Layout) (caller : DomId) (v : View) (knows :
 
   -- the step that comes next can be made, where it is no access
   pub can-walk : (request : Asked) → IsCopy request → (held : HeldPins) (steps : List Moment) (s : Step) → IsWalk k (path c caller request) v steps → HasTaken k (last_first held) v (view_after steps v) → AreOfRun k (last_first held)
-      → Rests c caller request held (all_shown steps) (Makes s) → ((from to : Place) (len : ℕ) → s ≡ CopyBytes from to len → ⊥) → CanMake k (view_after steps v) s
+      → Rests c caller request held (all_shown steps) (Makes s) → ((from to : Spot) (len : ℕ) → s ≡ CopyBytes from to len → ⊥) → CanMake k (view_after steps v) s
   can-walk request copies held steps (LookHeader d) walk x all r other = named-run c k caller v knows d r.1
   can-walk request copies held steps (LookControl d q) walk x all r other = by r.1
     where
@@ -422,7 +423,7 @@ module _ (c : CallerKnowledge) (k : Layout) (caller : DomId) (v : View) (knows :
     end-stands pins denial p ps place Taken m e st = absurd m
     end-stands pins denial p ps place (Missed n) m e st = absurd m
 
-    no-access : (from to : Place) (len : ℕ) (x : Seen) → Made k (CopyBytes from to len) x u w → ⊥
+    no-access : (from to : Spot) (len : ℕ) (x : Seen) → Made k (CopyBytes from to len) x u w → ⊥
     no-access from to len Nothing m = absurd m
     no-access from to len (Word n) m = absurd m
     no-access from to len Taken m = absurd m

@@ -59,7 +59,7 @@ use Rattle.gt_calls.specs.declared.leg.Leg.{Leg}
 use Rattle.gt_calls.specs.declared.leg.TheConstants.{MORE_TRIES}
 use Rattle.gt_calls.specs.declared.request.Asked.{Asked}
 use Rattle.gt_calls.specs.declared.request.Asked.TheVariants as asks
-use Rattle.gt_calls.specs.declared.request.CopyArgs.{CopyArgs}
+use Rattle.gt_types.specs.declared.copies.CopyArgs.{CopyArgs}
 use Rattle.gt_calls.specs.declared.request.Holder.TheVariants.{Leg as ByLeg}
 use Rattle.gt_calls.specs.declared.request.Request.{Request}
 use Rattle.gt_calls.specs.Asking.{asked, begun_by, begun_of, bytes_of, field_refused, plainly_asked}
@@ -72,7 +72,8 @@ use Rattle.gt_calls.specs.Path.{reads_body, reads_second, refused_at, refused_ho
 use Rattle.gt_calls.specs.Path.{source_pair, steps_of, stores_second, to_dest, told_to, tries, try_pin, turn, turns}
 use Rattle.gt_calls.specs.Path.{unless_refused}
 use Rattle.gt_calls.specs.Rules.{CallerKnowledge, before_pin, begun, copy_denied, denied, first, first_look}
-use Rattle.gt_calls.specs.Rules.{is_dest_granted, is_source_granted, refused_when, stands, via_judged, is_invalid}
+use Rattle.gt_calls.specs.Rules.{refused_when, stands, via_judged, is_invalid}
+use Rattle.gt_types.specs.Copies.{is_dest_granted, is_source_granted}
 use Rattle.gt_live.specs.Tries.{AreReads, AreUnpins, BeginsTries, FourTriesWereMissed, FoundAnother, GaveUp}
 use Rattle.gt_live.specs.Tries.{IsMissedTry, MissedTries, in_order}
 use Rattle.gt_live.specs.Walks.{Called, IsWalk, Made, MakesStep, view_after, all_shown, shown_by, seen_in_step}

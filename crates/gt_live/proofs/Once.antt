@@ -28,11 +28,12 @@ use Rattle.gt_calls.specs.declared.request.Request.TheVariants as requests
 use Rattle.gt_calls.specs.Asking.{asked, begun_of, field_refused}
 use Rattle.gt_entry.specs.Bytes.{first_refused}
 use Rattle.gt_types.specs.declared.denial.Field.{Field}
-use Rattle.gt_calls.specs.declared.request.CopyArgs.{CopyArgs}
+use Rattle.gt_types.specs.declared.copies.CopyArgs.{CopyArgs}
 use Rattle.gt_types.specs.declared.denial.Denial.{Denial}
 use Rattle.gt_calls.specs.declared.action.Verdict.TheVariants.{Given, Mapped}
 use Rattle.gt_calls.specs.Rules.{copy_begun, ends_framed, ends_named, ends_owned, ends_ranged, frame_count_of}
-use Rattle.gt_calls.specs.Rules.{is_dest_granted, is_for_reading, is_foreign, is_past_frames, is_source_granted}
+use Rattle.gt_calls.specs.Rules.{is_for_reading, is_foreign, is_past_frames}
+use Rattle.gt_types.specs.Copies.{is_dest_granted, is_source_granted}
 use Rattle.gt_calls.specs.Rules.{own_access_begun, rights_to_copy, via_judged, CallerKnowledge, cannot_stand}
 use Rattle.gt_calls.specs.Rules.{change_begun, query_begun, denied, first, given_when, granted_when, has_valid}
 use Rattle.gt_calls.specs.Rules.{is_already, is_invalid, is_version, map_dir, refused_when, rights_to_map}

@@ -17,7 +17,7 @@ use Rattle.gt_calls.specs.declared.leg.LegNext.{LegNext}
 use Rattle.gt_calls.specs.declared.leg.LegNext.TheVariants.{Going}
 use Rattle.gt_calls.specs.declared.leg.LegPhase.TheVariants.{Header}
 use Rattle.gt_calls.specs.declared.held.Pins.{Pins}
-use Rattle.gt_calls.specs.declared.request.CopyArgs.{CopyArgs}
+use Rattle.gt_types.specs.declared.copies.CopyArgs.{CopyArgs}
 use Rattle.gt_calls.specs.CopyCalls.{CopyBeginsAs, CopyGoesOnAs, copy_call, unmoved_copy}
 use Rattle.gt_calls.specs.Holding.{no_pins}
 use Rattle.gt_calls.specs.Machine.{action_at, after_leg, at_source, phase_after}

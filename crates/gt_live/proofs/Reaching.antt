@@ -20,12 +20,13 @@ use Rattle.gt_calls.specs.declared.leg.Leg.{Leg}
 use Rattle.gt_calls.specs.declared.leg.LegNext.{LegNext}
 use Rattle.gt_calls.specs.declared.leg.LegNext.TheVariants.{Refused as LegRefused, Pinned as LegPinned}
 use Rattle.gt_calls.specs.declared.leg.LegPhase.TheVariants.{Header}
-use Rattle.gt_calls.specs.declared.request.CopyArgs.{CopyArgs}
+use Rattle.gt_types.specs.declared.copies.CopyArgs.{CopyArgs}
 use Rattle.gt_calls.specs.Holding.{pins_so_far}
 use Rattle.gt_calls.specs.Machine.{after_dest_pin, after_leg, after_source_pin, at_dest, at_source, through_via}
 use Rattle.gt_calls.specs.Machine.{where_via}
 use Rattle.gt_calls.specs.Path.{dest_pair, end_leg, second_leg, source_pair}
-use Rattle.gt_calls.specs.Rules.{CallerKnowledge, is_dest_granted, is_source_granted, via_judged}
+use Rattle.gt_calls.specs.Rules.{CallerKnowledge, via_judged}
+use Rattle.gt_types.specs.Copies.{is_dest_granted, is_source_granted}
 use Rattle.gt_live.specs.Copies.{dest_leg, source_leg}
 use Rattle.gt_live.specs.Domains.{denial_in}
 use Rattle.gt_live.specs.Legs.{CanWalkLeg, WalksLeg}

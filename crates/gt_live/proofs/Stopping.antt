@@ -10,7 +10,7 @@ use Rattle.gt_words.specs.Rule.{Layout}
 use Rattle.gt_words.specs.declared.view.View.{View}
 use Rattle.gt_calls.specs.declared.action.Action.{Action}
 use Rattle.gt_calls.specs.declared.action.Action.TheVariants.{Step as Makes, Done}
-use Rattle.gt_calls.specs.declared.action.Place.{Place}
+use Rattle.gt_types.specs.declared.places.Spot.{Spot}
 use Rattle.gt_calls.specs.declared.action.Seen.{Seen}
 use Rattle.gt_calls.specs.declared.action.Seen.TheVariants.{Nothing}
 use Rattle.gt_calls.specs.declared.action.Step.{Step}
@@ -31,7 +31,7 @@ use Rattle.gt_calls.specs.declared.leg.LegPhase.{LegPhase}
 use Rattle.gt_calls.specs.declared.leg.LegPhase.TheVariants.{Header, Look, Body, Second, Pinning, Relook}
 use Rattle.gt_calls.specs.declared.request.Asked.{Asked}
 use Rattle.gt_calls.specs.declared.request.Asked.TheVariants as asks
-use Rattle.gt_calls.specs.declared.request.CopyArgs.{CopyArgs}
+use Rattle.gt_types.specs.declared.copies.CopyArgs.{CopyArgs}
 use Rattle.gt_calls.specs.Counting.{steps_to_come}
 use Rattle.gt_calls.specs.Following.{FitsNext, Goes}
 use Rattle.gt_calls.specs.Holding.{last_first}
@@ -40,7 +40,8 @@ use Rattle.gt_calls.specs.Legs.{leg_step}
 use Rattle.gt_calls.specs.Machine.{standing_after}
 use Rattle.gt_calls.specs.Path.{end_leg, give_back, path}
 use Rattle.gt_calls.specs.Resting.{Rests}
-use Rattle.gt_calls.specs.Rules.{CallerKnowledge, is_source_granted}
+use Rattle.gt_calls.specs.Rules.{CallerKnowledge}
+use Rattle.gt_types.specs.Copies.{is_source_granted}
 use Rattle.gt_calls.specs.Standing.{IsAt, IsFreshCall, held_in, pins_at, pins_by_call}
 use Rattle.gt_live.specs.Driving.{CanMake, Knows}
 use Rattle.gt_live.specs.Underway.{AreOfRun, AtAccess, EndsRefused, HasTaken, StandsWell, IsUnderway}
@@ -91,7 +92,7 @@ starts c k v call call' action copy knows fresh is callers requests goes =
     subst (λ (z : Call). IsUnderway c k v v z action) same here
 
 -- its next step can be made, where it is no access
-pub makes-copy : (c : CallerKnowledge) (k : Layout) (v w : View) (call : Call) (s : Step) → Knows c k call.caller v → IsUnderway c k v w call (Makes s) → ((from to : Place) (len : ℕ) → s ≡ CopyBytes from to len → ⊥) → CanMake k w s
+pub makes-copy : (c : CallerKnowledge) (k : Layout) (v w : View) (call : Call) (s : Step) → Knows c k call.caller v → IsUnderway c k v w call (Makes s) → ((from to : Spot) (len : ℕ) → s ≡ CopyBytes from to len → ⊥) → CanMake k w s
 makes-copy c k v w call s knows u other =
     let held = held-there call u.phase u.there in
     subst (λ (z : View). CanMake k z s) (sym u.view)
@@ -167,7 +168,7 @@ ends-refused c k v w call verdict u = by u.phase u.acts u.stands
     by (Last step other) a well = absurd well.stays
 
 -- no leg makes an access
-pub no-leg : (l : Leg) (at : LegPhase) (from to : Place) (len : ℕ) → Makes (CopyBytes from to len) ≡ Makes (leg_step l at) → ⊥
+pub no-leg : (l : Leg) (at : LegPhase) (from to : Spot) (len : ℕ) → Makes (CopyBytes from to len) ≡ Makes (leg_step l at) → ⊥
 no-leg l Header from to len e = cc
 no-leg l (Look more) from to len e = cc
 no-leg l (Body more word) from to len e = cc
@@ -175,12 +176,12 @@ no-leg l (Second more word body) from to len e = cc
 no-leg l (Pinning more word body second) from to len e = cc
 no-leg l (Relook more word rule) from to len e = cc
 
-no-end : (ps : List Held) (verdict : Verdict) (from to : Place) (len : ℕ) → Makes (CopyBytes from to len) ≡ next_to_give ps verdict → ⊥
+no-end : (ps : List Held) (verdict : Verdict) (from to : Spot) (len : ℕ) → Makes (CopyBytes from to len) ≡ next_to_give ps verdict → ⊥
 no-end [] verdict from to len e = cc
 no-end (p ∷ ps) verdict from to len e = cc
 
 -- a copy that comes to its access
-pub comes-there : (c : CallerKnowledge) (k : Layout) (v w : View) (call : Call) (from to : Place) (len : ℕ) → IsUnderway c k v w call (Makes (CopyBytes from to len)) → AtAccess c k call from to len v w
+pub comes-there : (c : CallerKnowledge) (k : Layout) (v w : View) (call : Call) (from to : Spot) (len : ℕ) → IsUnderway c k v w call (Makes (CopyBytes from to len)) → AtAccess c k call from to len v w
 comes-there c k v w call from to len u = by u.phase u.there u.acts u.stands
   where
     here : (copy : CopyArgs) (source dest : Route) → call.phase ≡ Some (Accessing copy source dest) → StandsWell k v w u.steps (Accessing copy source dest) → AtAccess c k call from to len v w

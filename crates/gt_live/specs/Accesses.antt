@@ -1,7 +1,7 @@
 -- Calls with an access to bytes: the way to it, the access, and the way on to the end.
 use Rattle.std.specs.Prelude.{◌≡◌, ◌⊎◌, ℕ, List, [], ◌∷◌, ◌++◌, Some, Result, Ok, Err}
 use Rattle.gt_live.specs.Prelude.{DomId, Denial, N16, N26, NoFacts, denial_of, Layout, Moment, View, Copying, Reading}
-use Rattle.gt_live.specs.Prelude.{Writing, FrameName, Spot, IsReadOf, copying_at, writing_at, Makes, Place, Seen}
+use Rattle.gt_live.specs.Prelude.{Writing, FrameName, IsReadOf, copying_at, writing_at, Makes, Seen}
 use Rattle.gt_live.specs.Prelude.{Nothing, Step, ReadBytes, WriteBytes, CopyBytes, Granted, Refused, Continuation}
 use Rattle.gt_live.specs.Walks.{AreMoments, Called, IsWalk, view_after, all_shown}
 pub use Rattle.gt_calls.specs.Standing.{IsAccess}
@@ -53,10 +53,6 @@ AnsweredAtAccess k way tells (Err denial) v w =
 abbrev pub frame_named : DomId → ℕ → FrameName
 frame_named owner number = record { owner = owner; number = number }
 
--- the byte at this place
-abbrev pub spot_of : Place → Spot
-spot_of place = record { frame = frame_named place.owner place.frame; off = place.off }
-
 -- these are bytes of just the frame and range that the access reads
 abbrev pub IsReadBy : Step → Reading → Type 0
 IsReadBy (ReadBytes dom frame off len) r = IsReadOf r (frame_named dom frame) off len
@@ -69,5 +65,5 @@ IsWrittenBy writer bytes step r = ⊥
 
 -- this writer copied just between the places and so many bytes as the access says
 abbrev pub IsCopiedBy : DomId → Step → Copying → Type 0
-IsCopiedBy writer (CopyBytes from to len) r = r ≡ copying_at (spot_of from) (spot_of to) len writer
+IsCopiedBy writer (CopyBytes from to len) r = r ≡ copying_at from to len writer
 IsCopiedBy writer step r = ⊥

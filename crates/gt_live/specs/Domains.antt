@@ -1,6 +1,6 @@
 -- What a domain keeps, how that agrees with what its seat did, and how its calls are answered.
 use Rattle.std.specs.Prelude.{◌≡◌, ◌⊎◌, ℕ, ◌<◌, Bool, length, List, [], ◌∷◌, Option, Some, None, Result, Ok, Err}
-use Rattle.gt_live.specs.Prelude.{DomId, TypeId, GrantRef, Size, CopyEnd, Hypercall, Record, Reply, Perms, Config}
+use Rattle.gt_live.specs.Prelude.{DomId, TypeId, GrantRef, Size, Hypercall, Record, Reply, Perms, Config}
 use Rattle.gt_live.specs.Prelude.{Denial, N16, N26, NoFacts, TABLE_ENTRIES, denial_of, Board, IsSameSeat, IsSeatOf}
 use Rattle.gt_live.specs.Prelude.{KeepsPins, Unpins, generation_of, Moment, Layout, position_in, last_of, own_table}
 use Rattle.gt_live.specs.Prelude.{live_pins, steps_on, View, HandleMap, value_of, Handle, Verdict, Granted, Given}
@@ -225,15 +225,11 @@ subject_of d handle = subject_in (value_of d.mappings handle)
 abbrev pub copy_reply : Result Copying Denial → Reply
 copy_reply result = reply_of (outcome_of result)
 
--- what a record keeps of an end of a copy
-abbrev pub told_end : End → CopyEnd
-told_end end = record { ptr = end.ptr; dom = end.domid; off = end.offset }
-
 -- the record of a copy that this domain asked, and that was answered so
 abbrev pub told_copy : Domain → CopyArgs → Result Copying Denial → Record
 told_copy d c result =
     record {
       dom = d.seat.dom;
-      call = hypercalls.Copy (told_end c.source) (told_end c.dest) c.len c.flags;
+      call = hypercalls.Copy c.source c.dest c.len c.flags;
       reply = copy_reply result;
     }

@@ -1,18 +1,18 @@
 -- A copy in two halves: the way to its access, which the monitor's caller makes, and the way from there to its end.
 use Rattle.std.specs.Prelude.{◌≡◌, ◌+◌, ◌≤◌, ℕ}
 use Rattle.gt_live.specs.Prelude.{Read, Write, ForCopy, IsSameSeat, KeepsPins, Layout, View, MayCopyBy, ReachesBy}
-use Rattle.gt_live.specs.Prelude.{Hypercall, Record, Place, CopyBytes, Call, CopyArgs, path, path_of, CallerKnowledge}
+use Rattle.gt_live.specs.Prelude.{Hypercall, Record, Spot, CopyBytes, Call, CopyArgs, path, path_of, CallerKnowledge}
 use Rattle.gt_live.specs.Prelude.{pins_by_call, Domain, Halfway, Monitor}
 use Rattle.gt_audit.specs.declared.record.Hypercall.TheVariants as hypercalls
 use Rattle.gt_audit.specs.declared.record.Reply.TheVariants as replies
 use Rattle.gt_calls.specs.declared.request.Request.TheVariants as requests
-use Rattle.gt_live.specs.Accesses.{Accessed, spot_of}
-use Rattle.gt_live.specs.Domains.{AllowRelation, BelongsTo, IsUnsettled, known_on, told_end}
+use Rattle.gt_live.specs.Accesses.{Accessed}
+use Rattle.gt_live.specs.Domains.{AllowRelation, BelongsTo, IsUnsettled, known_on}
 use Rattle.gt_live.specs.Underway.{AtAccess, GivesBack}
 
 -- what a record keeps of a copy
 abbrev pub copy_told : CopyArgs → Hypercall
-copy_told c = hypercalls.Copy (told_end c.source) (told_end c.dest) c.len c.flags
+copy_told c = hypercalls.Copy c.source c.dest c.len c.flags
 
 -- the record of a copy that this domain ended, which is Ok
 abbrev pub done_copy : Domain → CopyArgs → Record
@@ -27,9 +27,9 @@ pub record ComesHalfway {P : Type 0} (may : P → AllowRelation) (m : Monitor P)
   pub way : path_of (known_on may m d) d.seat.dom (requests.Copy copy)
       ≡ path (known_on may m d) h.call.caller h.call.request
   pub access : AtAccess (known_on may m d) m.words.layout h.call h.from h.to h.len d.seat.view e.seat.view
-  pub source : ReachesBy m.words.layout e.seat Read ForCopy (spot_of h.from).frame h.from.off h.len
+  pub source : ReachesBy m.words.layout e.seat Read ForCopy h.from.frame h.from.off h.len
       (pins_by_call h.call).source
-  pub dest : ReachesBy m.words.layout e.seat Write ForCopy (spot_of h.to).frame h.to.off h.len
+  pub dest : ReachesBy m.words.layout e.seat Write ForCopy h.to.frame h.to.off h.len
       (pins_by_call h.call).dest
   pub allowed : MayCopyBy m.config.domains.items (may m.rights) e.seat.dom (pins_by_call h.call)
   pub source_range : h.from.off + h.len ≤ 4096
@@ -52,6 +52,6 @@ pub record EndsHalfway (k : Layout) (h : Halfway) (e f : Domain) : Type 0 where
 -- and after the one access, and the pins are those of before
 abbrev pub TwoHalvesMakeACopy : Type 0
 TwoHalvesMakeACopy =
-    (c : CallerKnowledge) (k : Layout) (call : Call) (from to : Place) (len : ℕ) (v mid w : View)
+    (c : CallerKnowledge) (k : Layout) (call : Call) (from to : Spot) (len : ℕ) (v mid w : View)
     → AtAccess c k call from to len v mid → GivesBack k (pins_by_call call) mid w
     → Accessed k (path c call.caller call.request) (CopyBytes from to len) v w × KeepsPins v w

@@ -5,7 +5,7 @@ use Rattle.gt_types.specs.declared.DomId.{DomId}
 use Rattle.gt_words.specs.Rule.{Layout}
 use Rattle.gt_words.specs.declared.view.View.{View}
 use Rattle.gt_calls.specs.declared.action.Action.TheVariants.{Step as Makes}
-use Rattle.gt_calls.specs.declared.action.Place.{Place}
+use Rattle.gt_types.specs.declared.places.Spot.{Spot}
 use Rattle.gt_calls.specs.declared.action.Seen.{Seen}
 use Rattle.gt_calls.specs.declared.action.Step.{Step}
 use Rattle.gt_calls.specs.declared.action.Step.TheVariants.{Copy as CopyBytes}
@@ -35,4 +35,4 @@ Runs c k caller start v phase w = (xs : List PhaseStep) × RunsBy c k caller sta
 abbrev pub CanRun : CallerKnowledge → Layout → DomId → Phase → View → Type 0
 CanRun c k caller start v =
     (at : Phase) (w : View) (step : Step) → Runs c k caller start v at w → action_at caller at ≡ Makes step
-    → ((from to : Place) (len : ℕ) → step ≡ CopyBytes from to len → ⊥) → CanMake k w step
+    → ((from to : Spot) (len : ℕ) → step ≡ CopyBytes from to len → ⊥) → CanMake k w step

@@ -3,7 +3,6 @@ pub use Rattle.gt_access.specs.Accesses.{IsReadOf, copying_at, writing_at}
 pub use Rattle.gt_access.specs.Routes.{MayCopyBy, ReachesBy}
 pub use Rattle.gt_access.specs.declared.by.Refused.{Refused as NotMade}
 pub use Rattle.gt_access.specs.declared.by.Refused.TheVariants.{Gone, Memory as OutOfMemory}
-pub use Rattle.gt_audit.specs.declared.record.CopyEnd.{CopyEnd}
 pub use Rattle.gt_audit.specs.declared.record.Hypercall.{Hypercall}
 pub use Rattle.gt_audit.specs.declared.record.Record.{Record}
 pub use Rattle.gt_audit.specs.declared.record.Reply.{Reply}
@@ -23,7 +22,6 @@ pub use Rattle.gt_calls.specs.Rules.{map_perms, triples}
 pub use Rattle.gt_calls.specs.Standing.{IsAt, IsFreshCall, held_by_call, held_in, pins_by_call}
 pub use Rattle.gt_calls.specs.declared.action.Action.{Action}
 pub use Rattle.gt_calls.specs.declared.action.Action.TheVariants.{Done, Step as Makes}
-pub use Rattle.gt_calls.specs.declared.action.Place.{Place}
 pub use Rattle.gt_calls.specs.declared.action.Seen.{Seen}
 pub use Rattle.gt_calls.specs.declared.action.Seen.TheVariants.{Missed, Nothing, Taken, Word}
 pub use Rattle.gt_calls.specs.declared.action.Step.{Step}
@@ -47,8 +45,8 @@ pub use Rattle.gt_calls.specs.declared.leg.LegPhase.TheVariants.{Header}
 pub use Rattle.gt_calls.specs.declared.leg.TheConstants.{MORE_TRIES}
 pub use Rattle.gt_calls.specs.declared.request.Asked.{Asked}
 pub use Rattle.gt_calls.specs.declared.request.Asked.TheVariants.{Copy}
-pub use Rattle.gt_calls.specs.declared.request.CopyArgs.{CopyArgs}
-pub use Rattle.gt_calls.specs.declared.request.End.{End}
+pub use Rattle.gt_types.specs.declared.copies.CopyArgs.{CopyArgs}
+pub use Rattle.gt_types.specs.declared.copies.End.{End}
 pub use Rattle.gt_calls.specs.declared.request.Holder.TheVariants.{Leg as ByLeg}
 pub use Rattle.gt_calls.specs.declared.request.Request.{Request}
 pub use Rattle.gt_entry.specs.Entries.{frame_of}
@@ -61,8 +59,8 @@ pub use Rattle.gt_entry.specs.declared.change.Half.TheVariants.{First as FirstHa
 pub use Rattle.gt_entry.specs.declared.control.Kind.TheVariants.{Sub}
 pub use Rattle.gt_entry.specs.declared.entry.Entry.TheVariants.{Invalid}
 pub use Rattle.gt_frames.specs.Receipts.{Copying, Reading, Writing}
-pub use Rattle.gt_frames.specs.declared.places.FrameName.{FrameName}
-pub use Rattle.gt_frames.specs.declared.places.Spot.{Spot}
+pub use Rattle.gt_types.specs.declared.places.FrameName.{FrameName}
+pub use Rattle.gt_types.specs.declared.places.Spot.{Spot}
 pub use Rattle.gt_handles.specs.Handles.{HandleMap, KeepsSpent, value_of}
 pub use Rattle.gt_handles.specs.Listing.{IsInserted, IsTaken, count_passing}
 pub use Rattle.gt_handles.specs.declared.handles.Handle.{Handle}

@@ -2,7 +2,7 @@
 -- representation. It is in specs/ because contracts cite it.
 use Rattle.std.specs.Prelude.{◌≡◌, ℕ, ◌<◌, ◌==◌, ◌&&◌, Bool, cond, List, [], ◌∷◌, ◌++◌, Some}
 use Rattle.gt_live.specs.Prelude.{Denial, TABLE_ENTRIES, HasDomain, Layout, position_in, LivePin, last_of, live_pins}
-use Rattle.gt_live.specs.Prelude.{steps_on, Moment, View, Action, Place, Nothing, CopyBytes, Verdict, Granted, Refused}
+use Rattle.gt_live.specs.Prelude.{steps_on, Moment, View, Action, Spot, Nothing, CopyBytes, Verdict, Granted, Refused}
 use Rattle.gt_live.specs.Prelude.{Call, Phase, Accessing, Ending, Walking, Source, Dest, Held, Pins, CopyArgs, Copy}
 use Rattle.gt_live.specs.Prelude.{GoesOnWith, last_first, action_at, give_back, path, Rests, RestsOnWays}
 use Rattle.gt_live.specs.Prelude.{CallerKnowledge}
@@ -70,7 +70,7 @@ pub record IsUnderway (c : CallerKnowledge) (k : Layout) (v w : View) (call : Ca
 
 -- a copy came to its access: it holds the pins of the routes to its ends, which the access
 -- rests on, and gives them back on the way from there to its end
-pub record AtAccess (c : CallerKnowledge) (k : Layout) (call : Call) (from to : Place) (len : ℕ)
+pub record AtAccess (c : CallerKnowledge) (k : Layout) (call : Call) (from to : Spot) (len : ℕ)
     (v w : View) : Type 0 where
   pub comes : ComesTo k (path c call.caller call.request) (CopyBytes from to len) v w
   pub copy : CopyArgs

@@ -1,7 +1,7 @@
 -- What the calls of a domain do to frames under their locks.
 use Rattle.std.specs.Prelude.{◌≡◌, Option, Result, Ok, Err, List, [], ◌∷◌, ◌++◌, length}
 use Rattle.gt_types.specs.declared.denial.Denial.{Denial}
-use Rattle.gt_frames.specs.declared.places.Spot.{Spot}
+use Rattle.gt_types.specs.declared.places.Spot.{Spot}
 use Rattle.gt_frames.specs.declared.writ.Writ.{Writ}
 use Rattle.gt_frames.specs.Frames.{IsWrite}
 use Rattle.gt_frames.specs.Receipts.{Copying, End, Reading, Writing, reading_of, writing_of}

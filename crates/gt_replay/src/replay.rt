@@ -82,7 +82,7 @@ fn start(alloc: Global, script: &Script) -> Result<Core<Rights>, ReplayFault>
 
 // So many flags, of which none is raised.
 fn no_flags(alloc: Global, count: usize) -> Result<Vec<bool>, AllocError>
-    ensures { IfOk result (λ contents_told. All (λ t. t ≡ false) contents_told.items) }
+    ensures { IfOk result (λ told. All (λ t. t ≡ false) told.items) }
 {
     let mut told = Vec::new(alloc);
     'flags: for _ in 0..count {
@@ -93,7 +93,7 @@ fn no_flags(alloc: Global, count: usize) -> Result<Vec<bool>, AllocError>
 
 // A domain raises a flag. Answers whether there is such a flag.
 fn raise(told: &mut Vec<bool>, flag: usize) -> bool
-    ensures { IsTrue result → contents_told.new.items ≡ slice_set contents_told.old.items flag true }
+    ensures { IsTrue result → told.new.items ≡ slice_set told.old.items flag true }
 {
     if flag >= told.len() {
         return false;
@@ -104,7 +104,7 @@ fn raise(told: &mut Vec<bool>, flag: usize) -> bool
 
 // A flag is raised.
 fn is_raised(told: &[bool], flag: usize) -> bool
-    ensures { IsTrue result → get_or contents_told.now flag false ≡ true }
+    ensures { IsTrue result → get_or told.now flag false ≡ true }
 {
     flag < told.len() && told[flag]
 }

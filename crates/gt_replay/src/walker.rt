@@ -1,13 +1,13 @@
 //! A domain on its list.
 ghost use Rattle.std.specs.Prelude.{◌≡◌, List, IfOk, OnOk};
-ghost use Rattle.gt_host.specs.Naming.{AreNamed};
-ghost use Rattle.gt_host.specs.Runs.{Named, handle_given, label_given as label_to_give, with_name};
 ghost use Rattle.gt_replay.specs.Orders.{given_up, held_after, without};
 
 use crate::fault::ReplayFault;
 use crate::replay::Moved;
 use gt_core::{Answer, Begun, Core, Handle, Request, Ticked};
-use gt_host::{Labels, Rights, bytes_said, label_given, push_answer_line, request_of};
+use gt_host::{
+    Labels, Rights, bytes_said, label_given, name_mapping, push_answer_line, request_of,
+};
 use gt_lines::{ScriptCall, Text};
 use gt_script::Task;
 use gt_types::DomId;
@@ -63,22 +63,6 @@ fn without(alloc: Global, held: &[Handle], handle: Handle) -> Result<Vec<Handle>
         }
     }
     Ok(left)
-}
-
-// A map that is answered Ok gives its handle to its label.
-fn name_mapping<'a>(
-    labels: &mut Labels<'a>,
-    dom: DomId,
-    call: &ScriptCall<'a>,
-    answer: &Answer,
-) -> Result<(), AllocError>
-    ensures { OnOk result ((named : List Named) → AreNamed labels.old named → AreNamed labels.new
-        (with_name named dom (label_to_give call.now) (handle_given answer.now))) }
-{
-    match (label_given(call), answer) {
-        (Some(label), Answer::Mapped(handle)) => labels.name(dom, label, *handle),
-        _ => Ok(()),
-    }
 }
 
 // What a domain holds after this answer.
@@ -215,7 +199,7 @@ impl<'s, 'a> Walker<'s, 'a> {
     ) -> Result<(), AllocError>
         ensures { OnOk result (AnswersLine types.now line call.now gone answer.now self.old self.new) }
     {
-        name_mapping(&mut self.labels, self.dom, call, answer)?;
+        name_mapping(&mut self.labels, self.dom, label_given(call), answer)?;
         hold(alloc, &mut self.held, gone, answer)?;
         push_answer_line(alloc, &mut self.text, types, line, self.dom, answer)?;
         self.doing = Doing::Nothing;

@@ -1,13 +1,12 @@
 //! A domain beside the monitor that it came with, so that it can move into a thread.
 ghost use Rattle.std.specs.Prelude.{◌≡◌};
-ghost use Rattle.gt_run.specs.Asking.{IsReadAnswer, frames_answer, mapped_answer, plain_answer, size_answer};
-ghost use Rattle.gt_run.specs.Asking.{version_answer};
+ghost use Rattle.gt_run.specs.Asking.{IsReadAnswer, plain_answer};
 
 use gt_audit::Trail;
-use gt_core::{Answer, Bytes, Handle, Request};
+use gt_core::{Answer, Bytes, Request};
 use gt_frames::{Copied, Read, Written};
 use gt_live::{Domain, Left, Monitor};
-use gt_types::{Allows, Denial, Size};
+use gt_types::{Allows, Denial};
 use std::marker::Model;
 use std::sync::Wait;
 
@@ -43,42 +42,6 @@ fn done(answer: Result<(), Denial>) -> Answer
 {
     match answer {
         Ok(()) => Answer::Done,
-        Err(denial) => Answer::Denied(denial),
-    }
-}
-
-fn mapped(answer: Result<Handle, Denial>) -> Answer
-    ensures { result ≡ mapped_answer answer }
-{
-    match answer {
-        Ok(handle) => Answer::Mapped(handle),
-        Err(denial) => Answer::Denied(denial),
-    }
-}
-
-fn frames_told(answer: Result<u32, Denial>) -> Answer
-    ensures { result ≡ frames_answer answer }
-{
-    match answer {
-        Ok(frames) => Answer::Frames(frames),
-        Err(denial) => Answer::Denied(denial),
-    }
-}
-
-fn size_told(answer: Result<Size, Denial>) -> Answer
-    ensures { result ≡ size_answer answer }
-{
-    match answer {
-        Ok(size) => Answer::Size(size),
-        Err(denial) => Answer::Denied(denial),
-    }
-}
-
-fn version_told(answer: Result<u32, Denial>) -> Answer
-    ensures { result ≡ version_answer answer }
-{
-    match answer {
-        Ok(version) => Answer::Version(version),
         Err(denial) => Answer::Denied(denial),
     }
 }
@@ -154,16 +117,22 @@ impl<'m, P: Allows> Running<'m, P> {
             Request::Demote { gref } => done(self.domain.demote(self.monitor, gref)),
             Request::Promote { gref } => done(self.domain.promote(self.monitor, gref)),
             Request::Map { dom, gref, flags } => {
-                mapped(self.domain.map(self.monitor, dom, gref, flags))
+                let mapped = self.domain.map(self.monitor, dom, gref, flags);
+                mapped.map_or_else(Answer::Denied, Answer::Mapped)
             }
             Request::Unmap { handle } => done(self.domain.unmap(self.monitor, handle)),
             Request::SetVersion { version } => done(self.domain.set_version(self.monitor, version)),
             Request::SetupTable { frames } => {
-                frames_told(self.domain.setup_table(self.monitor, frames))
+                let has = self.domain.setup_table(self.monitor, frames);
+                has.map_or_else(Answer::Denied, Answer::Frames)
             }
-            Request::QuerySize { dom } => size_told(self.domain.query_size(self.monitor, dom)),
+            Request::QuerySize { dom } => {
+                let size = self.domain.query_size(self.monitor, dom);
+                size.map_or_else(Answer::Denied, Answer::Size)
+            }
             Request::GetVersion { dom } => {
-                version_told(self.domain.get_version(self.monitor, dom))
+                let version = self.domain.get_version(self.monitor, dom);
+                version.map_or_else(Answer::Denied, Answer::Version)
             }
             Request::Load { handle, off, len } => {
                 read(self.domain.load(rt, self.monitor, handle, off, len))

@@ -1,7 +1,5 @@
 //! One domain's list, from its first line to its last.
-ghost use Rattle.std.specs.Prelude.{◌≡◌, ◌++◌, List, [], false, IfOk, IsOk, IsTrue, OnOk};
-ghost use Rattle.gt_host.specs.Naming.{AreNamed};
-ghost use Rattle.gt_host.specs.Runs.{handle_given, label_given as label_to_give, with_name, Named};
+ghost use Rattle.std.specs.Prelude.{◌≡◌, ◌++◌, [], false, IfOk, IsOk, IsTrue};
 ghost use Rattle.gt_run.specs.Printing.{CameOf};
 ghost use Rattle.gt_run.specs.Serving.{gate_line, Calls, IsReady, Makes, Serves, StartsTold};
 
@@ -10,7 +8,7 @@ use crate::lists::Duty;
 use crate::running::Running;
 use crate::telling::{Teller, tell_next, teller_for};
 use gt_core::Answer;
-use gt_host::{Labels, bytes_said, label_given, push_answer_line, request_of};
+use gt_host::{Labels, bytes_said, label_given, name_mapping, push_answer_line, request_of};
 use gt_lines::ScriptCall;
 use gt_script::Deed;
 use gt_texts::{push_number, push_text};
@@ -31,22 +29,6 @@ pub struct Output {
     pub lost: u64,
 }
 
-// A map that is answered Ok gives its handle to its label.
-fn name_mapping<'a>(
-    labels: &mut Labels<'a>,
-    dom: DomId,
-    call: &ScriptCall<'a>,
-    answer: &Answer,
-) -> Result<(), AllocError>
-    ensures { OnOk result ((named : List Named) → AreNamed labels.old named → AreNamed labels.new
-        (with_name named dom (label_to_give call.now) (handle_given answer.now))) }
-{
-    match (label_given(call), answer) {
-        (Some(label), Answer::Mapped(handle)) => labels.name(dom, label, *handle),
-        _ => Ok(()),
-    }
-}
-
 // Makes the call of a line. A map that is answered Ok gives its handle to its label.
 fn make_call<'a, R: Wait, P: Allows>(
     rt: &R,
@@ -64,7 +46,7 @@ fn make_call<'a, R: Wait, P: Allows>(
     let bytes = bytes_said(alloc, call)?;
     let dom = duty.part.dom;
     let answer = domain.ask(rt, request_of(labels, dom, bytes.as_slice(), call));
-    name_mapping(labels, dom, call, &answer)?;
+    name_mapping(labels, dom, label_given(call), &answer)?;
     Ok(answer)
 }
 

@@ -2,7 +2,7 @@
 use crate::fault::SearchFault;
 use crate::pages;
 use crate::scene::{Scene, World};
-use gt_calls::{Half, Place, Seen, Step};
+use gt_calls::{Half, Seen, Spot, Step};
 use gt_entry::Header;
 use gt_types::{DomId, GrantRef};
 
@@ -131,17 +131,24 @@ impl<'s, 'a> Scene<'s, 'a> {
     pub fn copy(
         &self,
         world: &mut World<'a>,
-        from: Place,
-        to: Place,
+        from: Spot,
+        to: Spot,
         len: u16,
     ) -> Result<(), SearchFault> {
         let pages = world.pages.as_slice();
-        let bytes = pages::read(self.alloc, pages, from.owner, from.frame, from.off, len)?;
+        let bytes = pages::read(
+            self.alloc,
+            pages,
+            from.frame.owner,
+            from.frame.number,
+            from.off,
+            len,
+        )?;
         pages::write(
             self.alloc,
             &mut world.pages,
-            to.owner,
-            to.frame,
+            to.frame.owner,
+            to.frame.number,
             to.off,
             bytes.as_slice(),
         )?;

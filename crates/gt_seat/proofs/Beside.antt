@@ -3,7 +3,7 @@ use Rattle.std.proofs.Common.{◌≡◌, ◌∙◌, ap, subst, sym, Option, Some
 use Rattle.gt_live.specs.declared.domain.Domain.{Domain}
 use Rattle.gt_live.specs.declared.domain.copies.Halfway.{Halfway}
 use Rattle.gt_live.specs.declared.monitor.Monitor.{Monitor}
-use Rattle.gt_calls.specs.declared.request.CopyArgs.{CopyArgs}
+use Rattle.gt_types.specs.declared.copies.CopyArgs.{CopyArgs}
 use Rattle.gt_live.specs.Domains.{AllowRelation, BelongsTo}
 use Rattle.gt_live.specs.Halves.{ComesHalfway, IsHalfway}
 use Rattle.gt_seat.specs.Seated.{Seated, StandsBy}

@@ -1,11 +1,11 @@
 -- How a record is laid out for C.
 use Rattle.std.specs.Prelude.{ℕ, Some, None}
-use Rattle.gt_audit.specs.declared.record.CopyEnd.{CopyEnd as Told}
 use Rattle.gt_audit.specs.declared.record.Hypercall.{Hypercall}
 use Rattle.gt_audit.specs.declared.record.Hypercall.TheVariants as calls
 use Rattle.gt_audit.specs.declared.record.Record.{Record as Kept}
 use Rattle.gt_audit.specs.declared.record.Reply.{Reply}
 use Rattle.gt_audit.specs.declared.record.Reply.TheVariants as replies
+use Rattle.gt_types.specs.declared.copies.End.{End}
 use Rattle.gt_seat.specs.Encoding.{encoded}
 use Rattle.gt_seat.specs.declared.answer.Outcome.{Outcome}
 use Rattle.gt_seat.specs.declared.answer.Outcome.TheVariants as outcomes
@@ -21,8 +21,8 @@ outcome_of_reply (replies.Version version) = outcomes.Version version
 outcome_of_reply (replies.Denied denial) = outcomes.Denied denial
 
 -- an end of a copy
-abbrev pub end_recorded : Told → CopyEnd
-end_recorded end = record { ptr = end.ptr; dom = end.dom.0; off = end.off }
+abbrev pub end_recorded : End → CopyEnd
+end_recorded end = record { ptr = end.ptr; dom = end.domid.0; off = end.offset }
 
 -- an end of no copy
 abbrev pub no_end : CopyEnd

@@ -3,7 +3,7 @@ use Rattle.std.specs.Prelude.{◌≡◌, Option, Some, None, Result, Ok, Err}
 use Rattle.gt_types.specs.declared.denial.Denial.{Denial}
 use Rattle.gt_audit.specs.Telling.{Tells}
 use Rattle.gt_calls.specs.declared.action.Verdict.TheVariants.{Refused}
-use Rattle.gt_calls.specs.declared.request.CopyArgs.{CopyArgs}
+use Rattle.gt_types.specs.declared.copies.CopyArgs.{CopyArgs}
 use Rattle.gt_calls.specs.declared.request.Request.TheVariants as requests
 use Rattle.gt_live.specs.declared.domain.Domain.{Domain}
 use Rattle.gt_live.specs.declared.domain.copies.Halfway.{Halfway}

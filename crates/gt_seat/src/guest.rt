@@ -4,7 +4,7 @@ ghost use Rattle.gt_live.specs.Domains.{BelongsTo};
 ghost use Rattle.gt_seat.specs.Seated.{StandsBy};
 
 use gt_audit::Record;
-use gt_calls::{CopyArgs, Handle, Held, Place};
+use gt_calls::{CopyArgs, Handle, Held, Spot};
 use gt_entry::Entry;
 use gt_live::{Domain, Halfway, Left, Monitor};
 use gt_types::{Allows, Denial, DomId, GrantRef, Memory, Size};
@@ -15,8 +15,8 @@ use std::sync::Arc;
 /// Where a copy at its access may read and write: so many bytes from the one place to the other.
 #[derive(Clone, Copy)]
 pub struct Places {
-    pub from: Place,
-    pub to: Place,
+    pub from: Spot,
+    pub to: Spot,
     pub len: u16,
 }
 

@@ -4,6 +4,7 @@ ghost use Rattle.gt_seat.specs.Recording.{end_recorded, record_kept, outcome_of_
 
 use crate::answer::{Answer, Outcome};
 use gt_audit::{Hypercall, Reply};
+use gt_types::End;
 
 /// One end of a copy as it was asked: a reference of the domain, or the number of a frame.
 #[repr(C)]
@@ -56,13 +57,13 @@ fn replied(reply: Reply) -> Outcome
     }
 }
 
-fn end_recorded(end: gt_audit::CopyEnd) -> CopyEnd
+fn end_recorded(end: End) -> CopyEnd
     ensures { result ≡ end_recorded end }
 {
     CopyEnd {
         ptr: end.ptr,
-        dom: end.dom.0,
-        off: end.off,
+        dom: end.domid.0,
+        off: end.offset,
     }
 }
 

@@ -1,6 +1,6 @@
 //! The lines of worked calls.
-use gt_audit::{CopyEnd, Hypercall, Record, Reply, line, push_lost};
-use gt_types::{DOMID_SELF, Denial, DomId, Facts, Field, GrantRef, Perms, Rule, Size, TypeId};
+use gt_audit::{Hypercall, Record, Reply, line, push_lost};
+use gt_types::{DOMID_SELF, Denial, DomId, End, Facts, Field, GrantRef, Perms, Rule, Size, TypeId};
 use std::test::Fail;
 
 // How a call was answered.
@@ -13,10 +13,10 @@ enum Said {
 const OK: Said = Said::With(Reply::Done);
 
 // A frame of the caller's own.
-const OWN: CopyEnd = CopyEnd {
+const OWN: End = End {
     ptr: 3,
-    dom: DomId(DOMID_SELF),
-    off: 0,
+    domid: DomId(DOMID_SELF),
+    offset: 0,
 };
 
 // The domain, its call, the answer, and the line. In refusals by the policy type 1 is the source and type 0 the target.
@@ -110,10 +110,10 @@ const CALLS: [(u16, Hypercall, Said, &str); 17] = [
     (
         2,
         Hypercall::Copy {
-            source: CopyEnd {
+            source: End {
                 ptr: 5,
-                dom: DomId(1),
-                off: 0,
+                domid: DomId(1),
+                offset: 0,
             },
             dest: OWN,
             len: 1,
@@ -125,10 +125,10 @@ const CALLS: [(u16, Hypercall, Said, &str); 17] = [
     (
         2,
         Hypercall::Copy {
-            source: CopyEnd {
+            source: End {
                 ptr: 0,
-                dom: DomId(1),
-                off: 7,
+                domid: DomId(1),
+                offset: 7,
             },
             dest: OWN,
             len: 4096,
@@ -141,10 +141,10 @@ const CALLS: [(u16, Hypercall, Said, &str); 17] = [
         3,
         Hypercall::Copy {
             source: OWN,
-            dest: CopyEnd {
+            dest: End {
                 ptr: 0,
-                dom: DomId(2),
-                off: 9,
+                domid: DomId(2),
+                offset: 9,
             },
             len: 1,
             flags: 2,

@@ -3,9 +3,9 @@ use crate::script::Part::{
     Body, Control, Ends, Header, Leg, LongLeg, Refused, RefusedAt, Step, Try, Unpin,
 };
 use crate::script::{CALLER, HEADER, MIDDLE, OWNER, Part, Row};
-use gt_calls::{CopyArgs, End, Held, Place, Request, Seen, Step as CallStep, Verdict};
+use gt_calls::{CopyArgs, End, Held, Request, Seen, Spot, Step as CallStep, Verdict};
 use gt_entry::Entry;
-use gt_types::{Dir, DomId, Facts, GrantRef, Perms, Rule, TypeId};
+use gt_types::{Dir, DomId, Facts, FrameName, GrantRef, Perms, Rule, TypeId};
 
 const SELF: DomId = DomId(0x7FF0);
 
@@ -53,15 +53,19 @@ const THROUGH_MIDDLE: Request = Request::Copy(CopyArgs {
     flags: 3,
 });
 
-const CALLERS_3: Place = Place {
-    owner: CALLER,
-    frame: 3,
+const CALLERS_3: Spot = Spot {
+    frame: FrameName {
+        owner: CALLER,
+        number: 3,
+    },
     off: 0,
 };
 
-const OWNERS_6: Place = Place {
-    owner: OWNER,
-    frame: 6,
+const OWNERS_6: Spot = Spot {
+    frame: FrameName {
+        owner: OWNER,
+        number: 6,
+    },
     off: 0,
 };
 
@@ -252,9 +256,11 @@ const SUB_BEHIND_DEST: Held = Held {
 // The access.
 const COPIES_PAGE: Part = Step(
     CallStep::Copy {
-        from: Place {
-            owner: OWNER,
-            frame: 5,
+        from: Spot {
+            frame: FrameName {
+                owner: OWNER,
+                number: 5,
+            },
             off: 0,
         },
         to: CALLERS_3,
@@ -322,8 +328,11 @@ pub const COPIES: [Row; 15] = [
             Step(
                 CallStep::Copy {
                     from: CALLERS_3,
-                    to: Place {
-                        frame: 4,
+                    to: Spot {
+                        frame: FrameName {
+                            number: 4,
+                            ..CALLERS_3.frame
+                        },
                         ..CALLERS_3
                     },
                     len: 4,
@@ -349,9 +358,11 @@ pub const COPIES: [Row; 15] = [
             Leg(PAGE),
             Step(
                 CallStep::Copy {
-                    from: Place {
-                        owner: OWNER,
-                        frame: 5,
+                    from: Spot {
+                        frame: FrameName {
+                            owner: OWNER,
+                            number: 5,
+                        },
                         off: 4_096,
                     },
                     to: CALLERS_3,
@@ -465,8 +476,11 @@ pub const COPIES: [Row; 15] = [
             Leg(PAGE_OF_CALLER),
             Step(
                 CallStep::Copy {
-                    from: Place {
-                        frame: 6,
+                    from: Spot {
+                        frame: FrameName {
+                            number: 6,
+                            ..CALLERS_3.frame
+                        },
                         ..CALLERS_3
                     },
                     to: CALLERS_3,
@@ -517,8 +531,11 @@ pub const COPIES: [Row; 15] = [
             Step(
                 CallStep::Copy {
                     from: OWNERS_6,
-                    to: Place {
-                        frame: 7,
+                    to: Spot {
+                        frame: FrameName {
+                            number: 7,
+                            ..OWNERS_6.frame
+                        },
                         ..OWNERS_6
                     },
                     len: 4,

@@ -1,6 +1,6 @@
 //! What is done to a machine in a test, and what comes of it, in words.
 use gt_core::{
-    Answer, Begun, Core, Element, Event, Handle, Happened, Item, Place, Request, Seen, Shown, Step,
+    Answer, Begun, Core, Element, Event, Handle, Happened, Item, Request, Seen, Shown, Spot, Step,
     Ticked,
 };
 use gt_entry::{Control, status_word};
@@ -258,8 +258,11 @@ fn letter_said(alloc: Global, step: Step) -> Result<String, AllocError> {
     }
 }
 
-fn place_said(alloc: Global, place: Place) -> Result<String, AllocError> {
-    format!(in alloc; "{} {} {}", place.owner.0, place.frame, place.off)
+fn place_said(alloc: Global, place: Spot) -> Result<String, AllocError> {
+    format!(in alloc;
+        "{} {} {}",
+        place.frame.owner.0, place.frame.number, place.off
+    )
 }
 
 /// What comes of it.

@@ -3,7 +3,7 @@ use Rattle.gt_core.proofs.Words.{◌≡◌, ◌≢◌, ◌≤◌, ◌<◌, ◌+�
 use Rattle.gt_core.proofs.Words.{None, sym, ap, ◌∙◌, arith, subst, reverse, eqb-true, none-some, same_Some, Any}
 use Rattle.gt_core.proofs.Words.{resolved, DomId, Dir, Read, Write, ForMap, ForCopy, FRAME_SIZE, Entry, frame_of}
 use Rattle.gt_core.proofs.Words.{permits, forwards, Handle, Held, Route, Direct, Through, Pins, End, Asked, Load, Store}
-use Rattle.gt_core.proofs.Words.{Peek, Poke, Copy, Holder, ByMapping, Place, ReadBytes, WriteBytes, last_first}
+use Rattle.gt_core.proofs.Words.{Peek, Poke, Copy, Holder, ByMapping, Spot, ReadBytes, WriteBytes, last_first}
 use Rattle.gt_core.proofs.Words.{CallerKnowledge, begun, frame_count_of, via_judged, rights_to_copy, is_source_granted}
 use Rattle.gt_core.proofs.Words.{is_dest_granted, source_pair, dest_pair, opens, RestsOnRequest, RestsOnWays, IsReached}
 use Rattle.gt_core.proofs.Words.{GivesHeld, State, History, Setting, Pin, live, known_at, legs_at, mappings_at}
@@ -77,12 +77,12 @@ mapping-pin s h xs d handle m st found = let a = gathered-any mapping_named mapp
 
 -- an access by a mapping, where its kind allows the direction, and one to a frame of the domain's own
 access-mapped : (s : Setting) (h : History) (xs : List State) (d : DomId) (r : Asked) (dir : Dir) (handle : Handle) (dom : DomId) (frame off len : ℕ) → DomainsStand s h xs → (a : IsMapped (known_at s h d) handle dom frame)
-    → ((dir ≡ Write) → a.mapping.dir ≡ Write) → off + len ≤ FRAME_SIZE → (MayUseMapping s d (mapping_of (mappings_at h d.0) handle) → MayAsk s h d r) → AccessIsJustified s h d r dir (record { owner = dom; frame = frame; off = off }) len
+    → ((dir ≡ Write) → a.mapping.dir ≡ Write) → off + len ≤ FRAME_SIZE → (MayUseMapping s d (mapping_of (mappings_at h d.0) handle) → MayAsk s h d r) → AccessIsJustified s h d r dir (record { frame = record { owner = dom; number = frame }; off = off }) len
 access-mapped s h xs d r dir handle dom frame off len st a writes inside ask = let m = a.mapping in
     let pin = mapping-pin s h xs d handle m st a.found in
-    let at : Place = record { owner = m.dom; frame = frame_of m.entry; off = off } in
-    subst (λ (z : DomId). AccessIsJustified s h d r dir (record { owner = z; frame = frame; off = off }) len) (sym a.of_dom)
-    (subst (λ (n : ℕ). AccessIsJustified s h d r dir (record { owner = m.dom; frame = n; off = off }) len) (sym a.of_frame) (
+    let at : Spot = record { frame = record { owner = m.dom; number = frame_of m.entry }; off = off } in
+    subst (λ (z : DomId). AccessIsJustified s h d r dir (record { frame = record { owner = z; number = frame }; off = off }) len) (sym a.of_dom)
+    (subst (λ (n : ℕ). AccessIsJustified s h d r dir (record { frame = record { owner = m.dom; number = n }; off = off }) len) (sym a.of_frame) (
       (pin.4.lets.2, inside),
       inr (any-map (IsRightful s d m) (Reaches d d dir ForMap at len) (live h) (λ p b. record {
         of_actor = b.own;
@@ -95,7 +95,7 @@ access-mapped s h xs d r dir handle dom frame off len st a writes inside ask = l
     ))
 
 access-own : (s : Setting) (h : History) (d : DomId) (r : Asked) (dir : Dir) (dom : DomId) (frame off len : ℕ) → dom ≡ d → frame < frame_count_of s.domains d → off + len ≤ FRAME_SIZE → MayAsk s h d r
-    → AccessIsJustified s h d r dir (record { owner = dom; frame = frame; off = off }) len
+    → AccessIsJustified s h d r dir (record { frame = record { owner = dom; number = frame }; off = off }) len
 access-own s h d r dir dom frame off len own framed range ask = grind arith
 
 pub same-held : (k : CallerKnowledge) (handle : Handle) (a b : Held) → k.mapping handle ≡ Some a → k.mapping handle ≡ Some b → a ≡ b
@@ -137,7 +137,7 @@ reached-frame : (s : Setting) (h : History) (d : DomId) (granted : Bool) (end : 
 reached-frame s h d granted end dir len pair route a range = grind arith
 
 reaches-by : (s : Setting) (h : History) (d judged : DomId) (dir : Dir) (off len : ℕ) (p : Held) (q : Pin) → IsPermitted (known_at s h d) p judged dir off len → IsOwnPin d p q
-    → Reaches d judged dir ForCopy (record { owner = p.dom; frame = frame_of p.entry; off = off }) len q
+    → Reaches d judged dir ForCopy (record { frame = record { owner = p.dom; number = frame_of p.entry }; off = off }) len q
 reaches-by s h d judged dir off len p q a own = grind arith
 
 -- the pins of a route are among these
@@ -175,7 +175,7 @@ end-justified s h d granted end dir len pair owners (Through via p) has a same =
 routes-held : (a b : Route) → let legs = numbered 0 (reverse (last_first (record { source = a; dest = b }))) in HasRoute legs a × HasRoute legs b
 routes-held a b = grind arith
 
-pub copy-justified : (s : Setting) (h : History) (d : DomId) (r : Asked) (pins : Pins) (from to : Place) (len : ℕ) → begun (known_at s h d) d r ≡ None → legs_at h d.0 ≡ numbered 0 (reverse (last_first pins))
+pub copy-justified : (s : Setting) (h : History) (d : DomId) (r : Asked) (pins : Pins) (from to : Spot) (len : ℕ) → begun (known_at s h d) d r ≡ None → legs_at h d.0 ≡ numbered 0 (reverse (last_first pins))
     → RestsOnWays (known_at s h d) d r pins from to len → CopyIsJustified s h d r from to len
 copy-justified s h d r pins from to len none legs a = let k = known_at s h d in let c = a.copy in
     let has = subst (λ (l : List (ℕ × Held)). HasRoute l pins.source × HasRoute l pins.dest) (sym legs) (routes-held pins.source pins.dest) in let o = opens k d (Copy c) (none-of k d r (Copy c) a.of_copy none) in
@@ -184,11 +184,11 @@ copy-justified s h d r pins from to len none legs a = let k = known_at s h d in 
       reached-frame s h d (is_source_granted c) c.source Read c.len (source_pair d c) pins.source a.source_reached o.source_range,
       reached-frame s h d (is_dest_granted c) c.dest Write c.len (dest_pair d pins.source) pins.dest a.dest_reached o.dest_range,
       o.allowed,
-      end-justified s h d (is_source_granted c) c.source Read c.len (source_pair d c) (f.owner, resolved d c.dest.domid) pins.source has.0 a.source_reached
+      end-justified s h d (is_source_granted c) c.source Read c.len (source_pair d c) (f.frame.owner, resolved d c.dest.domid) pins.source has.0 a.source_reached
           (λ p via e. ap (λ (z : Route). (owner_by d z, resolved d c.dest.domid)) (sym e)),
-      end-justified s h d (is_dest_granted c) c.dest Write c.len (dest_pair d pins.source) (f.owner, t.owner) pins.dest has.1 a.dest_reached
-          (λ p via e. ap (λ (z : Route). (f.owner, owner_by d z)) (sym e)),
+      end-justified s h d (is_dest_granted c) c.dest Write c.len (dest_pair d pins.source) (f.frame.owner, t.frame.owner) pins.dest has.1 a.dest_reached
+          (λ p via e. ap (λ (z : Route). (f.frame.owner, owner_by d z)) (sym e)),
     ) in subst (λ (z : Asked). CopyIsJustified s h d z from to len) (sym a.of_copy)
-    (subst (λ (z : Place). CopyIsJustified s h d (Copy c) z to len) (sym a.from_is)
-    (subst (λ (z : Place). CopyIsJustified s h d (Copy c) f z len) (sym a.to_is)
+    (subst (λ (z : Spot). CopyIsJustified s h d (Copy c) z to len) (sym a.from_is)
+    (subst (λ (z : Spot). CopyIsJustified s h d (Copy c) f z len) (sym a.to_is)
     (subst (λ (n : ℕ). CopyIsJustified s h d (Copy c) f t n) (sym a.len_is) fits)))

@@ -4,7 +4,7 @@ use Rattle.gt_core.proofs.Words.{replicate, length, take, drop, Option, Some, No
 use Rattle.gt_core.proofs.Words.{eqb-true, eq-eqb, and_parts, and_from, append-nil, map-append, length-append}
 use Rattle.gt_core.proofs.Words.{length-drop, length-take-le, length-replicate, ◌==◌, ◌&&◌, nat_lt, is_some, IsTrue}
 use Rattle.gt_core.proofs.Words.{DomId, Write, ForMap, DomainConfig, FRAME_SIZE, Entry, frame_of, permits, Handle}
-use Rattle.gt_core.proofs.Words.{value_of, Held, Route, Direct, End, Request, Asked, Store, Poke, Place, Seen, Step}
+use Rattle.gt_core.proofs.Words.{value_of, Held, Route, Direct, End, Request, Asked, Store, Poke, Spot, Seen, Step}
 use Rattle.gt_core.proofs.Words.{ReadBytes, WriteBytes, CopyBytes, Makes, Call, CallerKnowledge, begun, frame_count_of}
 use Rattle.gt_core.proofs.Words.{is_dest_granted, dest_pair, opens, Rests, RestsOnRequest, RestsOnWays, IsReached}
 use Rattle.gt_core.proofs.Words.{pins_at, Patch, written, bytes_at, frame_counts, FrameSet, frame_at, has_range}
@@ -15,8 +15,7 @@ use Rattle.gt_core.proofs.Words.{given_in, open_call, Underway, values, known_at
 use Rattle.gt_core.proofs.Words.{DomainsStand, FramesStand, StateStands, OpenAgrees, FitsGiven, begun_element, le-leb}
 use Rattle.gt_core.proofs.Words.{unwrap_or, overlay, replay, zeros, FrameState, patch_of, patches, permits_writing}
 use Rattle.gt_core.proofs.Words.{suffices, all_rightful, pool_number, frames_of_all, is_name, has_frame, admits}
-use Rattle.gt_core.proofs.Words.{WritesTo, journal_in, frame_name_at, ground_of, begun_route, route_of, IsWritOf}
-use Rattle.gt_core.proofs.Words.{FrameName}
+use Rattle.gt_core.proofs.Words.{WritesTo, journal_in, ground_of, begun_route, route_of, IsWritOf, FrameName}
 use Rattle.gt_core.proofs.Words.{Writ, WriteRecord, BegunBusy, BegunNoDomain, cond_both}
 use Rattle.gt_core.proofs.{Starting.get-replicate, Steps.Observers.stepped, Phases.call-is, Phases.none-of}
 use Rattle.gt_core.proofs.{Steps.Access.permits-as, Steps.Access.mapping-pin, Steps.Access.same-held}
@@ -40,8 +39,8 @@ frame-numbered (d ∷ ds) t f at below = grind (arith, frame-numbered ds t f (at
 frame-there : (s : Setting) (h : History) (fs : FrameSet) (name : FrameName) → FramesStand s h fs → name.number < frame_count_of s.domains name.owner → has_frame fs name ≡ true
 frame-there s h fs name fr below = grind (arith, frame-numbered)
 
-range-there : (s : Setting) (h : History) (fs : FrameSet) (at : Place) (len : ℕ) → FramesStand s h fs → IsInFrame s at len → IsTrue (has_range fs (frame_name_at at) at.off len)
-range-there s h fs at len fr a = and_from _ _ (frame-there s h fs (frame_name_at at) fr a.0) (le-leb (at.off + len) FRAME_SIZE a.1)
+range-there : (s : Setting) (h : History) (fs : FrameSet) (at : Spot) (len : ℕ) → FramesStand s h fs → IsInFrame s at len → IsTrue (has_range fs at.frame at.off len)
+range-there s h fs at len fr a = and_from _ _ (frame-there s h fs at.frame fr a.0) (le-leb (at.off + len) FRAME_SIZE a.1)
 
 -- writs
 
@@ -96,14 +95,14 @@ open-admitted s h xs fs x o c st fr a call here = subst (λ (z : Call). IsAdmitt
       (eq-eqb x.id.0 dom.0 (ap (λ (z : DomId). z.0) (sym own)))
 
   -- a copy writes by the pins of its destination
-  copies : (from to : Place) (len : ℕ) → begun k x.id c.request ≡ None → RestsOnWays k x.id c.request (pins_at here.phase) from to len → IsAdmitted fs x now (CopyBytes from to len)
+  copies : (from to : Spot) (len : ℕ) → begun k x.id c.request ≡ None → RestsOnWays k x.id c.request (pins_at here.phase) from to len → IsAdmitted fs x now (CopyBytes from to len)
   copies from to len none w = let c' = w.copy in let pins = pins_at here.phase in
       let inside = subst (λ (q : Asked). CopyIsJustified s h x.id q from to len) w.of_copy (copy-justified s h x.id c.request pins from to len none here.held w) in
       let t = place_of x.id c'.dest pins.dest in
-      let right : suffices (ground_of pins.dest) x.id t.owner t.frame t.off c'.len ≡ true = way-covers k x.id (is_dest_granted c') c'.dest c'.len (dest_pair x.id pins.source) pins.dest w.dest_reached in
-      let right_to : suffices (ground_of pins.dest) x.id to.owner to.frame to.off len ≡ true = subst (λ (z : Place). suffices (ground_of pins.dest) x.id z.owner z.frame z.off len ≡ true) (sym w.to_is)
-      (subst (λ (n : ℕ). suffices (ground_of pins.dest) x.id t.owner t.frame t.off n ≡ true) (sym w.len_is) right) in
-      (range-there s h fs from len fr inside.0, admitted-by fs x now (frame_name_at to) to.off len pins.dest (frame-there s h fs (frame_name_at to) fr inside.1.0) inside.1.1 (ap (λ (q : Asked). route_of x.mappings (asked_so q)) w.of_copy) right_to)
+      let right : suffices (ground_of pins.dest) x.id t.frame.owner t.frame.number t.off c'.len ≡ true = way-covers k x.id (is_dest_granted c') c'.dest c'.len (dest_pair x.id pins.source) pins.dest w.dest_reached in
+      let right_to : suffices (ground_of pins.dest) x.id to.frame.owner to.frame.number to.off len ≡ true = subst (λ (z : Spot). suffices (ground_of pins.dest) x.id z.frame.owner z.frame.number z.off len ≡ true) (sym w.to_is)
+      (subst (λ (n : ℕ). suffices (ground_of pins.dest) x.id t.frame.owner t.frame.number t.off n ≡ true) (sym w.len_is) right) in
+      (range-there s h fs from len fr inside.0, admitted-by fs x now to.frame to.off len pins.dest (frame-there s h fs to.frame fr inside.1.0) inside.1.1 (ap (λ (q : Asked). route_of x.mappings (asked_so q)) w.of_copy) right_to)
 
   by : (step : Step) → Rests k x.id c.request (pins_at here.phase) (values c) (Makes step) → IsAdmitted fs x now step
   by (WriteBytes dom frame off len) r = writes dom frame off len r.0 r.1
@@ -119,7 +118,7 @@ open-readable s h xs fs x o c st fr here = by o.step here.rests where
 
   by : (step : Step) → Rests (known_at s h x.id) x.id c.request (pins_at here.phase) (values c) (Makes step) → IsReadable fs o.call step
   by (ReadBytes dom frame off len) r = let just = read-justified s h xs x.id c.request dom frame off len st r.0 r.1 in
-      (range-there s h fs (record { owner = dom; frame = frame; off = off }) len fr just.0, long dom frame off len r.1)
+      (range-there s h fs (record { frame = record { owner = dom; number = frame }; off = off }) len fr just.0, long dom frame off len r.1)
   by step r = tt
 
 -- the size of a frame
@@ -155,33 +154,33 @@ nothing-written : (s : Setting) (h : History) (fs : FrameSet) (i : Item) → Wri
 nothing-written s h fs i none fr = grind (arith, filled-by, append-nil, patches-more)
 
 -- an item that writes these bytes to a frame by this writ
-written-once : (s : Setting) (h : History) (fs gs : FrameSet) (i : Item) (at : Place) (w : Writ) (bytes : List ℕ) → WritingOf i h ≡ Some (record { at = at; bytes = bytes }) → FramesStand s h fs → WritesTo fs gs (frame_name_at at) w at.off bytes → AreKept gs
+written-once : (s : Setting) (h : History) (fs gs : FrameSet) (i : Item) (at : Spot) (w : Writ) (bytes : List ℕ) → WritingOf i h ≡ Some (record { at = at; bytes = bytes }) → FramesStand s h fs → WritesTo fs gs at.frame w at.off bytes → AreKept gs
     → FramesStand s (i ∷ h) gs
 written-once s h fs gs i at w bytes wrote fr to kept = record { counts = to.domains ∙ fr.counts; writes = writes; kept = kept; filled = filled-by (i ∷ h) gs writes kept }
   where
     patch : Patch
     patch = record { off = at.off; bytes = bytes }
 
-    elsewhere : (name : FrameName) → is_name name (frame_name_at at) ≡ false → patches (frame_at gs name).journal ≡ patches_at h name.owner.0 name.number ++ []
+    elsewhere : (name : FrameName) → is_name name at.frame ≡ false → patches (frame_at gs name).journal ≡ patches_at h name.owner.0 name.number ++ []
     elsewhere name apart = ap (λ (z : FrameState). patches z.journal) (to.others name apart) ∙ fr.writes name ∙ sym (append-nil (patches_at h name.owner.0 name.number))
 
-    here : patches (frame_at gs (frame_name_at at)).journal ≡ patches_at h at.owner.0 at.frame ++ patch ∷ []
+    here : patches (frame_at gs at.frame).journal ≡ patches_at h at.frame.owner.0 at.frame.number ++ patch ∷ []
     here = ap (λ (z : FrameState). patches z.journal) to.write.journal
-        ∙ map-append patch_of (frame_at fs (frame_name_at at)).journal (record { writ = w; off = at.off; bytes = bytes } ∷ [])
-        ∙ ap (λ (ps : List Patch). ps ++ patch ∷ []) (fr.writes (frame_name_at at))
+        ∙ map-append patch_of (frame_at fs at.frame).journal (record { writ = w; off = at.off; bytes = bytes } ∷ [])
+        ∙ ap (λ (ps : List Patch). ps ++ patch ∷ []) (fr.writes at.frame)
 
-    named : (name : FrameName) → at.owner.0 ≡ name.owner.0 → at.frame ≡ name.number → frame_name_at at ≡ name
-    named name a b = ap (λ (n : ℕ). record { owner = record { 0 = n }; number = at.frame }) a ∙ ap (λ (n : ℕ). record { owner = name.owner; number = n }) b
+    named : (name : FrameName) → at.frame.owner.0 ≡ name.owner.0 → at.frame.number ≡ name.number → at.frame ≡ name
+    named name a b = ap (λ (n : ℕ). record { owner = record { 0 = n }; number = at.frame.number }) a ∙ ap (λ (n : ℕ). record { owner = name.owner; number = n }) b
 
     swap : (a b : ℕ) → (a == b) ≡ (b == a)
     swap a b = both_ways (a == b) (b == a) (λ e. eq-eqb b a (sym (eqb-true a b e))) (λ e. eq-eqb a b (sym (eqb-true b a e)))
 
     writes : (name : FrameName) → patches (frame_at gs name).journal ≡ patches_at (i ∷ h) name.owner.0 name.number
     writes name = let was = patches_at h name.owner.0 name.number in
-        cond_both ((at.owner.0 == name.owner.0) && (at.frame == name.number)) (patch ∷ []) [] (λ ps. patches (frame_at gs name).journal ≡ was ++ ps)
-        (λ is. let e = and_parts (at.owner.0 == name.owner.0) (at.frame == name.number) is in
-        subst (λ (z : FrameName). patches (frame_at gs z).journal ≡ patches_at h z.owner.0 z.number ++ patch ∷ []) (named name (eqb-true at.owner.0 name.owner.0 e.0) (eqb-true at.frame name.number e.1)) here)
-        (λ off. elsewhere name (ap (λ (b : Bool). b && (name.number == at.frame)) (swap name.owner.0 at.owner.0) ∙ ap (λ (b : Bool). (at.owner.0 == name.owner.0) && b) (swap name.number at.frame) ∙ off))
+        cond_both ((at.frame.owner.0 == name.owner.0) && (at.frame.number == name.number)) (patch ∷ []) [] (λ ps. patches (frame_at gs name).journal ≡ was ++ ps)
+        (λ is. let e = and_parts (at.frame.owner.0 == name.owner.0) (at.frame.number == name.number) is in
+        subst (λ (z : FrameName). patches (frame_at gs z).journal ≡ patches_at h z.owner.0 z.number ++ patch ∷ []) (named name (eqb-true at.frame.owner.0 name.owner.0 e.0) (eqb-true at.frame.number name.number e.1)) here)
+        (λ off. elsewhere name (ap (λ (b : Bool). b && (name.number == at.frame.number)) (swap name.owner.0 at.frame.owner.0) ∙ ap (λ (b : Bool). (at.frame.owner.0 == name.owner.0) && b) (swap name.number at.frame.number) ∙ off))
         ∙ ap (λ (z : Option WriteMade). was ++ patches_by z name.owner.0 name.number) (sym wrote) ∙ sym (patches-more i h name.owner.0 name.number)
 
 -- the frames after a step, which wrote what its call was given or what its source held
@@ -190,11 +189,11 @@ pub frames-stepped : (s : Setting) (h : History) (fs gs : FrameSet) (x : State) 
 frames-stepped s h fs gs x call step seen answer c under given fr = by step where
   by : (z : Step) → AccessedBy x call z fs gs → FramesStand s (stepped x.id z seen answer ∷ h) gs
   by (WriteBytes dom frame off len) a =
-      written-once s h fs gs (stepped x.id (WriteBytes dom frame off len) seen answer) (record { owner = dom; frame = frame; off = off }) a.0 x.given
-      (ap (λ (u : Option Underway). Some (record { at = record { owner = dom; frame = frame; off = off }; bytes = given_in u })) under ∙ ap (λ (l : List ℕ). Some (record { at = record { owner = dom; frame = frame; off = off }; bytes = l })) (sym given)) fr a.2 a.3
+      written-once s h fs gs (stepped x.id (WriteBytes dom frame off len) seen answer) (record { frame = record { owner = dom; number = frame }; off = off }) a.0 x.given
+      (ap (λ (u : Option Underway). Some (record { at = record { frame = record { owner = dom; number = frame }; off = off }; bytes = given_in u })) under ∙ ap (λ (l : List ℕ). Some (record { at = record { frame = record { owner = dom; number = frame }; off = off }; bytes = l })) (sym given)) fr a.2 a.3
   by (CopyBytes from to len) a =
-      written-once s h fs gs (stepped x.id (CopyBytes from to len) seen answer) to a.0 (bytes_at (frame_at fs (frame_name_at from)) from.off len)
-      (ap (λ (l : List ℕ). Some (record { at = to; bytes = l })) (sym (bytes-held s h fs from.owner from.frame from.off len fr))) fr a.2 a.3
+      written-once s h fs gs (stepped x.id (CopyBytes from to len) seen answer) to a.0 (bytes_at (frame_at fs from.frame) from.off len)
+      (ap (λ (l : List ℕ). Some (record { at = to; bytes = l })) (sym (bytes-held s h fs from.frame.owner from.frame.number from.off len fr))) fr a.2 a.3
   by z a = subst (FramesStand s (stepped x.id z seen answer ∷ h)) (sym a) (nothing-written s h fs (stepped x.id z seen answer) refl fr)
 
 -- a beginning writes nothing

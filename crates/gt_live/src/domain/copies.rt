@@ -11,9 +11,9 @@ ghost use Rattle.gt_calls.specs.declared.action.Verdict.TheVariants.{Refused};
 ghost use Rattle.gt_calls.specs.declared.request.Request.TheVariants as requests;
 ghost use Rattle.gt_calls.specs.Holding.{last_first, no_pins};
 ghost use Rattle.gt_calls.specs.Rules.{copy_begun};
-ghost use Rattle.gt_live.specs.Accesses.{IsCopiedBy, IsOfAccess, spot_of};
+ghost use Rattle.gt_live.specs.Accesses.{IsCopiedBy, IsOfAccess};
 ghost use Rattle.gt_live.specs.Domains.{Accesses, Answered, BelongsTo, IsUnsettled, KeepsPinned, known_on};
-ghost use Rattle.gt_live.specs.Domains.{told_copy, told_end};
+ghost use Rattle.gt_live.specs.Domains.{told_copy};
 ghost use Rattle.gt_live.specs.Halves.{copy_told};
 ghost use Rattle.gt_live.specs.Copies.{StopsSo, filled, halfway_with};
 ghost use Rattle.gt_live.specs.Halves.{ComesHalfway, EndsHalfway, IsHalfway, done_copy};
@@ -25,38 +25,14 @@ use super::{Domain, refusal_of, tell_done, tell_refusal};
 use crate::monitor::Monitor;
 use crate::routes::{drive_copy, give_back};
 use gt_access::{Run, copy_by};
-use gt_audit::{CopyEnd, Hypercall, Record, Reply};
+use gt_audit::{Hypercall, Record, Reply};
 use gt_calls::{
-    Asked, Call, CopyArgs, End, Known, Phase, Pins, Place, Route, Verdict, judge_copy, place_of,
+    Asked, Call, CopyArgs, Known, Phase, Pins, Route, Spot, Verdict, judge_copy, place_of,
 };
-use gt_frames::{Copied, FrameName, Spot, Visits};
+use gt_frames::{Copied, Visits};
 use gt_types::{Allows, Denial, DomId};
 use gt_words::Seat;
 use std::sync::Wait;
-
-// The byte at this place.
-fn spot_of(place: Place) -> Spot
-    ensures { result ≡ spot_of place }
-{
-    Spot {
-        frame: FrameName {
-            owner: place.owner,
-            number: place.frame,
-        },
-        off: place.off,
-    }
-}
-
-// What a record keeps of an end of a copy.
-fn told_end(end: End) -> CopyEnd
-    ensures { result ≡ told_end end }
-{
-    CopyEnd {
-        ptr: end.ptr,
-        dom: end.domid,
-        off: end.offset,
-    }
-}
 
 // Copies between places that these routes lead to.
 fn copy_through<R: Wait, P: Allows>(
@@ -65,19 +41,19 @@ fn copy_through<R: Wait, P: Allows>(
     seat: &Seat,
     visits: &mut Visits,
     routes: &Pins,
-    from: Place,
-    to: Place,
+    from: Spot,
+    to: Spot,
     len: u16,
 ) -> Result<Copied, Denial>
     requires seat { IsSeatOf monitor.now.words seat.now }
     requires source { ReachesBy monitor.now.words.layout seat.now dirs.Read uses.Copy
-        (spot_of from).frame from.off len routes.now.source }
+        from.frame from.off len routes.now.source }
     requires dest { ReachesBy monitor.now.words.layout seat.now dirs.Write uses.Copy
-        (spot_of to).frame to.off len routes.now.dest }
+        to.frame to.off len routes.now.dest }
     requires may { MayCopyBy monitor.now.config.domains.items (P.may monitor.now.rights) seat.now.dom routes.now }
     requires source_range { from.off + len ≤ 4096 }
     requires dest_range { to.off + len ≤ 4096 }
-    ensures copied { IfOk result (λ r. r ≡ copying_at (spot_of from) (spot_of to) len seat.now.dom) }
+    ensures copied { IfOk result (λ r. r ≡ copying_at from to len seat.now.dom) }
     ensures refused { IfErr result IsOfAccess }
     ensures visited { HasVisited WasCopied result visits.old visits.new }
 {
@@ -87,7 +63,6 @@ fn copy_through<R: Wait, P: Allows>(
         rights: &monitor.rights,
         pool: &monitor.pool,
     };
-    let (from, to) = (spot_of(from), spot_of(to));
     match copy_by(rt, &run, seat, visits, routes, from, to, len) {
         Ok(copied) => Ok(copied),
         Err(refused) => Err(not_made(refused)),
@@ -100,8 +75,8 @@ fn copy_through<R: Wait, P: Allows>(
 pub struct Halfway {
     call: Call,
     copy: CopyArgs,
-    pub from: Place,
-    pub to: Place,
+    pub from: Spot,
+    pub to: Spot,
     pub len: u16,
 }
 
@@ -143,8 +118,8 @@ fn copy_told(copy: CopyArgs) -> Hypercall
     ensures { result ≡ copy_told copy }
 {
     Hypercall::Copy {
-        source: told_end(copy.source),
-        dest: told_end(copy.dest),
+        source: copy.source,
+        dest: copy.dest,
         len: copy.len,
         flags: copy.flags,
     }

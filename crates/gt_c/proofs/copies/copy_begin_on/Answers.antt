@@ -1,5 +1,5 @@
 use Rattle.std.proofs.Common.{ap, subst, ◌∙◌}
-use Rattle.gt_calls.specs.declared.request.CopyArgs.{CopyArgs}
+use Rattle.gt_types.specs.declared.copies.CopyArgs.{CopyArgs}
 use Rattle.gt_seat.specs.Encoding.{encoded}
 use Rattle.gt_seat.specs.Seated.{BeginsAccess}
 use Rattle.gt_c.specs.Calling.{may}

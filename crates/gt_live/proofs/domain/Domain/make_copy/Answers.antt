@@ -1,6 +1,6 @@
 use Rattle.std.proofs.Common.{◌≡◌, ◌∙◌, refl, sym, ap, subst, inl}
 use Rattle.gt_types.specs.declared.DomId.{DomId}
-use Rattle.gt_calls.specs.declared.action.Place.{Place}
+use Rattle.gt_types.specs.declared.places.Spot.{Spot}
 use Rattle.gt_calls.specs.declared.held.Held.{Held}
 use Rattle.gt_calls.specs.declared.request.Request.TheVariants as requests
 use Rattle.gt_calls.specs.Path.{path_of, place_of}
@@ -11,7 +11,7 @@ use Rattle.gt_calls.specs.declared.call.Phase.TheVariants.{Accessing}
 use Rattle.gt_calls.specs.CopyCalls.{copy_call}
 use Rattle.gt_frames.specs.Receipts.{Copying}
 use Rattle.gt_access.specs.Accesses.{copying_at}
-use Rattle.gt_live.specs.Accesses.{IsCopiedBy, spot_of}
+use Rattle.gt_live.specs.Accesses.{IsCopiedBy}
 use Rattle.gt_live.proofs.Accessing.{refused-access}
 use Rattle.gt_live.proofs.Copied.{access-dest, access-dest-range, access-may, access-source, access-source-range}
 use Rattle.gt_live.proofs.Copied.{made-whole}
@@ -122,13 +122,13 @@ returns-clause-answered g c =
     (place_of d.seat.dom copy.source pins.source) (place_of d.seat.dom copy.dest pins.dest) copy.len d.seat.view
     f.seat.view e.seat.view (path_of c0 d.seat.dom (requests.Copy copy)) d.seat.dom c.copy_through-copied.result
     c.in-Ok.ensures.stops c.give_back.ensures.gives refl
-    (subst (λ (q : Place). IfOk c.copy_through-copied.result
-    (λ (r : Copying). r ≡ copying_at (spot_of (place_of d.seat.dom copy.source pins.source)) (spot_of q) copy.len d.seat.dom))
+    (subst (λ (q : Spot). IfOk c.copy_through-copied.result
+    (λ (r : Copying). r ≡ copying_at (place_of d.seat.dom copy.source pins.source) q copy.len d.seat.dom))
     to_is
-    (subst (λ (p : Place). IfOk c.copy_through-copied.result
-    (λ (r : Copying). r ≡ copying_at (spot_of p) (spot_of c.place_of-to.result) copy.len d.seat.dom)) from_is
+    (subst (λ (p : Spot). IfOk c.copy_through-copied.result
+    (λ (r : Copying). r ≡ copying_at p c.place_of-to.result copy.len d.seat.dom)) from_is
     (subst (λ (x : DomId). IfOk c.copy_through-copied.result
-    (λ (r : Copying). r ≡ copying_at (spot_of c.place_of-from.result) (spot_of c.place_of-to.result) copy.len x)) me
+    (λ (r : Copying). r ≡ copying_at c.place_of-from.result c.place_of-to.result copy.len x)) me
     c.copy_through-copied.ensures.copied)))
     c.copy_through-copied.ensures.refused
 

@@ -1,4 +1,28 @@
+use Rattle.std.proofs.Common.{◌≡◌, ℕ, Ok, Err}
+use Rattle.std.specs.Prelude.{MatchResult, Result}
+use Rattle.gt_types.specs.declared.Size.{Size}
+use Rattle.gt_types.specs.declared.denial.Denial.{Denial}
+use Rattle.gt_handles.specs.declared.handles.Handle.{Handle}
+use Rattle.gt_core.specs.declared.trace.Answer.{Answer}
+use Rattle.gt_core.specs.declared.trace.Answer.TheVariants as answers
+use Rattle.gt_run.specs.Asking.{frames_answer, mapped_answer, size_answer, version_answer}
 use Rattle.gt_run.proofs.running.Running.ask.Goals as goal
+
+mapped : (r : Result Handle Denial) (a : Answer) → MatchResult r (λ h. a ≡ answers.Mapped h) (λ e. a ≡ answers.Denied e) → a ≡ mapped_answer r
+mapped (Ok h) a is = is
+mapped (Err e) a is = is
+
+has : (r : Result ℕ Denial) (a : Answer) → MatchResult r (λ n. a ≡ answers.Frames n) (λ e. a ≡ answers.Denied e) → a ≡ frames_answer r
+has (Ok n) a is = is
+has (Err e) a is = is
+
+sized : (r : Result Size Denial) (a : Answer) → MatchResult r (λ s. a ≡ answers.Size s) (λ e. a ≡ answers.Denied e) → a ≡ size_answer r
+sized (Ok s) a is = is
+sized (Err e) a is = is
+
+versioned : (r : Result ℕ Denial) (a : Answer) → MatchResult r (λ n. a ≡ answers.Version n) (λ e. a ≡ answers.Denied e) → a ≡ version_answer r
+versioned (Ok n) a is = is
+versioned (Err e) a is = is
 
 pub returns-in-Grant-clause-asked : goal.returns-in-Grant-clause-asked
 returns-in-Grant-clause-asked g c =
@@ -81,7 +105,7 @@ returns-in-Promote-clause-asked g c =
 pub returns-in-Map-clause-asked : goal.returns-in-Map-clause-asked
 returns-in-Map-clause-asked g c =
     rw (← c.self.view_is, c.in-Map.is)
-    (c.map.ensures.seat.dom, (c.map.result, c.mapped.ensures, c.map.ensures.answered, c.map.ensures.told, c.map.ensures.untouched), c.map.ensures.mine, c.map.ensures.seat)
+    (c.map-mapped.ensures.seat.dom, (c.map-mapped.result, mapped _ _ c.map_or_else.ensures, c.map-mapped.ensures.answered, c.map-mapped.ensures.told, c.map-mapped.ensures.untouched), c.map-mapped.ensures.mine, c.map-mapped.ensures.seat)
 
 pub returns-in-Unmap-clause-asked : goal.returns-in-Unmap-clause-asked
 returns-in-Unmap-clause-asked g c =
@@ -116,40 +140,40 @@ returns-in-SetVersion-clause-asked g c =
 pub returns-in-SetupTable-clause-asked : goal.returns-in-SetupTable-clause-asked
 returns-in-SetupTable-clause-asked g c =
     rw (← c.self.view_is, c.in-SetupTable.is) (
-      c.setup_table.ensures.seat.dom,
+      c.setup_table-has.ensures.seat.dom,
       (
-        c.setup_table.result,
-        c.frames_told.ensures,
-        (c.setup_table.ensures.answered, c.setup_table.ensures.kept, c.setup_table.ensures.told, c.setup_table.ensures.untouched),
+        c.setup_table-has.result,
+        has _ _ c.map_or_else-in-SetupTable.ensures,
+        (c.setup_table-has.ensures.answered, c.setup_table-has.ensures.kept, c.setup_table-has.ensures.told, c.setup_table-has.ensures.untouched),
       ),
-      c.setup_table.ensures.mine,
-      c.setup_table.ensures.seat,
+      c.setup_table-has.ensures.mine,
+      c.setup_table-has.ensures.seat,
     )
 
 pub returns-in-QuerySize-clause-asked : goal.returns-in-QuerySize-clause-asked
 returns-in-QuerySize-clause-asked g c =
     rw (← c.self.view_is, c.in-QuerySize.is) (
-      c.query_size.ensures.seat.dom,
+      c.query_size-size.ensures.seat.dom,
       (
-        c.query_size.result,
-        c.size_told.ensures,
-        (c.query_size.ensures.answered, c.query_size.ensures.kept, c.query_size.ensures.told, c.query_size.ensures.untouched),
+        c.query_size-size.result,
+        sized _ _ c.map_or_else-in-QuerySize.ensures,
+        (c.query_size-size.ensures.answered, c.query_size-size.ensures.kept, c.query_size-size.ensures.told, c.query_size-size.ensures.untouched),
       ),
-      c.query_size.ensures.mine,
-      c.query_size.ensures.seat,
+      c.query_size-size.ensures.mine,
+      c.query_size-size.ensures.seat,
     )
 
 pub returns-in-GetVersion-clause-asked : goal.returns-in-GetVersion-clause-asked
 returns-in-GetVersion-clause-asked g c =
     rw (← c.self.view_is, c.in-GetVersion.is) (
-      c.get_version.ensures.seat.dom,
+      c.get_version-version.ensures.seat.dom,
       (
-        c.get_version.result,
-        c.version_told.ensures,
-        (c.get_version.ensures.answered, c.get_version.ensures.kept, c.get_version.ensures.told, c.get_version.ensures.untouched),
+        c.get_version-version.result,
+        versioned _ _ c.map_or_else-in-GetVersion.ensures,
+        (c.get_version-version.ensures.answered, c.get_version-version.ensures.kept, c.get_version-version.ensures.told, c.get_version-version.ensures.untouched),
       ),
-      c.get_version.ensures.mine,
-      c.get_version.ensures.seat,
+      c.get_version-version.ensures.mine,
+      c.get_version-version.ensures.seat,
     )
 
 pub returns-in-Load-clause-asked : goal.returns-in-Load-clause-asked
