@@ -55,8 +55,8 @@ read_rows : (mode : Mode) (given : Given) (rows : List Row) → rows ≡ end (us
 read_rows mode given rows is = ap (λ (rs : List Row). read mode (λ id. first_of id rs)) is ∙ by mode
   where
     by : (m : Mode) → read m (λ id. first_of id (end (usage_of m) given)) ≡ read m (value_of given)
-    by Play = rw (value_at_end (usage_of Play) given (codes "format") refl, flag_at_end (usage_of Play) given (codes "audit"), value_at_end (usage_of Play) given (codes "file") refl) refl
-    by Run = rw (value_at_end (usage_of Run) given (codes "format") refl, flag_at_end (usage_of Run) given (codes "audit"), value_at_end (usage_of Run) given (codes "file") refl) refl
+    by Play = rw (value_at_end (usage_of Play) given (codes "format") refl, flag_at_end (usage_of Play) given (codes "audit"), flag_at_end (usage_of Play) given (codes "verbose"), value_at_end (usage_of Play) given (codes "file") refl) refl
+    by Run = rw (value_at_end (usage_of Run) given (codes "format") refl, flag_at_end (usage_of Run) given (codes "audit"), flag_at_end (usage_of Run) given (codes "verbose"), value_at_end (usage_of Run) given (codes "file") refl) refl
     by Explore = rw (
       value_at_end (usage_of Explore) given (codes "find") refl,
       value_at_end (usage_of Explore) given (codes "witness") refl,

@@ -31,10 +31,14 @@ one name = name ∷ []
 abbrev pub file_usage : Usage
 file_usage = record { flags = []; options = []; words = one (codes "file"); needed = [] }
 
+-- what the commands take that run a script (own)
+abbrev pub runner_usage : Usage
+runner_usage = record file_usage { flags = codes "audit" ∷ codes "verbose" ∷ []; options = one (codes "format") }
+
 -- what each command takes (own)
 abbrev pub usage_of : Mode → Usage
-usage_of Play = record file_usage { flags = one (codes "audit"); options = one (codes "format") }
-usage_of Run = record file_usage { flags = one (codes "audit"); options = one (codes "format") }
+usage_of Play = runner_usage
+usage_of Run = runner_usage
 usage_of Explore = record file_usage { options = codes "find" ∷ codes "witness" ∷ codes "states" ∷ [] }
 usage_of Policy = record file_usage { options = one (codes "format") }
 usage_of Rules = file_usage
@@ -84,8 +88,8 @@ gthost_app = with_mode (with_mode (with_mode listers_app Check) Why) Entries
 -- say why a policy allows something, or to tell the entries of a dump: with the options and the FILE, none for standard
 -- input; help; the version; or nothing that the program does (own)
 pub data Request : Type 0 where
-  to_play : Bool → Format → Option Text → Request
-  to_run : Bool → Format → Option Text → Request
+  to_play : Bool → Bool → Format → Option Text → Request
+  to_run : Bool → Bool → Format → Option Text → Request
   to_explore : Option Text → Option ℕ → ℕ → Option Text → Request
   to_list : Format → Option Text → Request
   to_tell_rules : Option Text → Request
@@ -136,13 +140,13 @@ abbrev pub states_of : Option Text → Option ℕ
 states_of None = Some 100000
 states_of (Some word) = number_up_to 18446744073709551615 word
 
-abbrev pub play_with : Option Format → Bool → Option Text → Request
-play_with None audit file = nothing
-play_with (Some format) audit file = to_play audit format file
+abbrev pub play_with : Option Format → Bool → Bool → Option Text → Request
+play_with None audit verbose file = nothing
+play_with (Some format) audit verbose file = to_play audit verbose format file
 
-abbrev pub run_with : Option Format → Bool → Option Text → Request
-run_with None audit file = nothing
-run_with (Some format) audit file = to_run audit format file
+abbrev pub run_with : Option Format → Bool → Bool → Option Text → Request
+run_with None audit verbose file = nothing
+run_with (Some format) audit verbose file = to_run audit verbose format file
 
 -- not both the texts with a word and the script for one of them (own)
 abbrev pub explore_by : Option Text → Option ℕ → ℕ → Option Text → Request
@@ -176,8 +180,10 @@ entries_with (Some version) (Some script) (Some format) hex every file =
 
 -- what a command asks for, by the values that were given: nothing where one of them is none that it takes (own)
 abbrev pub read : Mode → (Text → Option Text) → Request
-read Play value = play_with (format_of (value (codes "format"))) (is_true (value (codes "audit"))) (value (codes "file"))
-read Run value = run_with (format_of (value (codes "format"))) (is_true (value (codes "audit"))) (value (codes "file"))
+read Play value = play_with (format_of (value (codes "format"))) (is_true (value (codes "audit")))
+    (is_true (value (codes "verbose"))) (value (codes "file"))
+read Run value = run_with (format_of (value (codes "format"))) (is_true (value (codes "audit")))
+    (is_true (value (codes "verbose"))) (value (codes "file"))
 read Explore value = explore_with (value (codes "find")) (witness_of (value (codes "witness")))
     (states_of (value (codes "states"))) (value (codes "file"))
 read Policy value = list_with (format_of (value (codes "format"))) (value (codes "file"))
@@ -232,8 +238,8 @@ refusals _ = []
 
 -- what a plan asks for (own)
 abbrev pub asked_by_plan : Invocation → Request
-asked_by_plan (plans.Play audit format file) = to_play audit format (option_map (λ f. f.now) file)
-asked_by_plan (plans.Run audit format file) = to_run audit format (option_map (λ f. f.now) file)
+asked_by_plan (plans.Play audit verbose format file) = to_play audit verbose format (option_map (λ f. f.now) file)
+asked_by_plan (plans.Run audit verbose format file) = to_run audit verbose format (option_map (λ f. f.now) file)
 asked_by_plan (plans.Explore find witness states file) =
     to_explore (option_map (λ f. f.now) find) witness states (option_map (λ f. f.now) file)
 asked_by_plan (plans.Policy format file) = to_list format (option_map (λ f. f.now) file)

@@ -33,14 +33,16 @@ pub enum Format {
 /// A command with its options. `file` is the FILE, none for the standard input.
 #[derive(Debug, PartialEq, Eq, Drop)]
 pub enum Invocation<'a> {
-    /// `audit`: the audit lines are wanted too.
+    /// `audit`: the audit lines are wanted too; `verbose`: and the reasons of faults and refusals.
     Play {
         audit: bool,
+        verbose: bool,
         format: Format,
         file: Option<&'a str>,
     },
     Run {
         audit: bool,
+        verbose: bool,
         format: Format,
         file: Option<&'a str>,
     },

@@ -81,6 +81,17 @@ fn audit_flag<'a>(alloc: Global) -> Arg<'a>
     )
 }
 
+fn verbose_flag<'a>(alloc: Global) -> Arg<'a>
+    ensures rule { rule_of result ≡ flag_rule (codes "verbose") }
+    ensures local { result.global ≡ false }
+{
+    flag(
+        alloc,
+        "verbose",
+        "Tells on standard error why there is a fault, or why the policy refused; also -v",
+    )
+}
+
 fn format_option<'a>(alloc: Global, help: &'a str) -> Arg<'a>
     ensures rule { rule_of result ≡ free_option (codes "format") }
     ensures local { result.global ≡ false }
@@ -95,6 +106,7 @@ fn play_command<'a>(alloc: Global) -> Result<Command<'a>, AllocError>
         .about("Runs a script line by line, and prints a line for each answer")
         .arg(file_word(alloc, "The script; standard input if it is left out"))?
         .arg(audit_flag(alloc))?
+        .arg(verbose_flag(alloc))?
         .arg(format_option(alloc, ANSWERS_AS))
 }
 
@@ -111,6 +123,7 @@ fn run_command<'a>(alloc: Global) -> Result<Command<'a>, AllocError>
         )
         .arg(file)?
         .arg(audit_flag(alloc))?
+        .arg(verbose_flag(alloc))?
         .arg(format_option(alloc, ANSWERS_AS))
 }
 
@@ -126,7 +139,9 @@ fn explore_of_script<'a>(alloc: Global) -> Result<Command<'a>, AllocError>
         "Prints only the texts with this word; the exit status is 1 if no text has it",
     );
     Command::new(alloc, "explore")
-        .about("Finds each text that a script for run may give, over all orders of its domains' moves")
+        .about(
+            "Finds each text that a script for run may give, over all orders of its domains' moves",
+        )
         .arg(file_word(
             alloc,
             "The script, with the lines of each domain; standard input if it is left out",

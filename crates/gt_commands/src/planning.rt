@@ -60,13 +60,15 @@ fn is_set(matches: &ArgMatches<'_>, id: &str) -> bool
 fn play_with<'a>(
     format: Option<Format>,
     audit: bool,
+    verbose: bool,
     file: Option<&'a str>,
 ) -> Option<Invocation<'a>>
-    ensures { asked_by_some result ≡ play_with format audit (option_map (λ v. v.now) file.entry) }
+    ensures { asked_by_some result ≡ play_with format audit verbose (option_map (λ v. v.now) file.entry) }
 {
     match format {
         Some(format) => Some(Invocation::Play {
             audit,
+            verbose,
             format,
             file,
         }),
@@ -77,13 +79,15 @@ fn play_with<'a>(
 fn run_with<'a>(
     format: Option<Format>,
     audit: bool,
+    verbose: bool,
     file: Option<&'a str>,
 ) -> Option<Invocation<'a>>
-    ensures { asked_by_some result ≡ run_with format audit (option_map (λ v. v.now) file.entry) }
+    ensures { asked_by_some result ≡ run_with format audit verbose (option_map (λ v. v.now) file.entry) }
 {
     match format {
         Some(format) => Some(Invocation::Run {
             audit,
+            verbose,
             format,
             file,
         }),
@@ -205,8 +209,18 @@ fn read<'a>(mode: Mode, matches: &ArgMatches<'a>) -> Option<Invocation<'a>>
     let file = value_of(matches, "file");
     let format = format_of(value_of(matches, "format"));
     match mode {
-        Mode::Play => play_with(format, is_set(matches, "audit"), file),
-        Mode::Run => run_with(format, is_set(matches, "audit"), file),
+        Mode::Play => play_with(
+            format,
+            is_set(matches, "audit"),
+            is_set(matches, "verbose"),
+            file,
+        ),
+        Mode::Run => run_with(
+            format,
+            is_set(matches, "audit"),
+            is_set(matches, "verbose"),
+            file,
+        ),
         Mode::Explore => explore_with(
             value_of(matches, "find"),
             witness_of(value_of(matches, "witness")),

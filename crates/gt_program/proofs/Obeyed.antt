@@ -79,8 +79,8 @@ wrong kind other old new status fits is memory help version =
 
 -- memory was refused
 out_of_memory : (request : Request) (file : List ℕ → Option (List ℕ)) (input old new : Option (List ℕ)) (status : ℕ) → status ≡ 1 → Keeps old new → Obeys request file input old new status
-out_of_memory (to_play audited format name) file input old new status is kept = no_memory (Plays format audited) (known_text file input name) old new status is kept
-out_of_memory (to_run audited format name) file input old new status is kept = no_memory (RunsDomains format audited) (known_text file input name) old new status is kept
+out_of_memory (to_play audited verbose format name) file input old new status is kept = no_memory (Plays format audited) (known_text file input name) old new status is kept
+out_of_memory (to_run audited verbose format name) file input old new status is kept = no_memory (RunsDomains format audited) (known_text file input name) old new status is kept
 out_of_memory (to_explore find witness states name) file input old new status is kept = no_memory (Seeks find witness states) (known_text file input name) old new status is kept
 out_of_memory (to_list format name) file input old new status is kept = no_memory (Lists format) (known_text file input name) old new status is kept
 out_of_memory (to_tell_rules name) file input old new status is kept = omega arith
@@ -107,10 +107,10 @@ wrong_line other file input old new error status is memory help version fits =
 -- it was refused
 pub refused : (request : Request) (file : List ℕ → Option (List ℕ)) (input old new : Option (List ℕ)) (error : Error) (status : ℕ) → HasKind (refusals request) error → FitsKind (kind_of error) old new status
     → Obeys request file input old new status
-refused (to_play audited format name) file input old new error status (inl memory) fits = by_memory (to_play audited format name) file input old new error status memory fits
-refused (to_play audited format name) file input old new error status (inr none) fits = absurd none
-refused (to_run audited format name) file input old new error status (inl memory) fits = by_memory (to_run audited format name) file input old new error status memory fits
-refused (to_run audited format name) file input old new error status (inr none) fits = absurd none
+refused (to_play audited verbose format name) file input old new error status (inl memory) fits = by_memory (to_play audited verbose format name) file input old new error status memory fits
+refused (to_play audited verbose format name) file input old new error status (inr none) fits = absurd none
+refused (to_run audited verbose format name) file input old new error status (inl memory) fits = by_memory (to_run audited verbose format name) file input old new error status memory fits
+refused (to_run audited verbose format name) file input old new error status (inr none) fits = absurd none
 refused (to_explore find witness states name) file input old new error status (inl memory) fits = by_memory (to_explore find witness states name) file input old new error status memory fits
 refused (to_explore find witness states name) file input old new error status (inr none) fits = absurd none
 refused (to_list format name) file input old new error status (inl memory) fits = by_memory (to_list format name) file input old new error status memory fits

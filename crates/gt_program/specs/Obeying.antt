@@ -165,9 +165,9 @@ Seeks find witness states input old new r =
 -- refused, the status is 1 for all of them. (own)
 abbrev pub Obeys : Request → (List ℕ → Option (List ℕ)) → Option (List ℕ) → Option (List ℕ) → Option (List ℕ) → ℕ
     → Type 0
-Obeys (to_play audited format name) file input old new status =
+Obeys (to_play audited verbose format name) file input old new status =
     Works (Plays format audited) (known_text file input name) old new status
-Obeys (to_run audited format name) file input old new status =
+Obeys (to_run audited verbose format name) file input old new status =
     Works (RunsDomains format audited) (known_text file input name) old new status
 Obeys (to_explore find witness states name) file input old new status =
     Works (Seeks find witness states) (known_text file input name) old new status

@@ -12,12 +12,15 @@
 //! of the programs above this crate, show that an error comes only if there is one.
 #![tactic(auto)]
 
+mod copying;
 mod failure;
 mod formats;
 mod obeying;
+mod reasons;
 mod rules;
 mod system;
 mod texts;
+mod told;
 
 pub use failure::{Failure, exit_status};
 pub use obeying::{Work, obey};
