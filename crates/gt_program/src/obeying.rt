@@ -187,16 +187,7 @@ fn run_logged<R: Threads + Wait + Sync, I: Read, W: Write, G: Gate + Sync>(
         RanAs format audit input (W.contents out.old) (W.contents out.new) result) }
 {
     if audit {
-        run_told(
-            rt,
-            alloc,
-            format,
-            reader,
-            out,
-            Some(log),
-            gate,
-            reasons,
-        )
+        run_told(rt, alloc, format, reader, out, Some(log), gate, reasons)
     } else {
         run_told(rt, alloc, format, reader, out, None, gate, reasons)
     }

@@ -18,7 +18,11 @@ pub(crate) struct Reasons<'a> {
 
 // The name that reasons begin with, if they are asked for.
 fn named<'a>(verbose: bool, file: Option<&'a str>) -> Option<&'a str> {
-    if verbose { Some(shown_name(file)) } else { None }
+    if verbose {
+        Some(shown_name(file))
+    } else {
+        None
+    }
 }
 
 // Why the script of these bytes was refused; or the rules that come near, if it was played and this is its text.
