@@ -19,8 +19,8 @@ _gthost() {
     "entries --format") mapfile -t COMPREPLY < <(compgen -W "text json" -- "$word"); return ;;
   esac
   case "${COMP_WORDS[1]}" in
-    play) words="--audit --format --help" ;;
-    run) words="--audit --format --help" ;;
+    play) words="--audit --verbose --format --help" ;;
+    run) words="--audit --verbose --format --help" ;;
     explore) words="--find --witness --states --help" ;;
     policy) words="--format --help" ;;
     rules) words="--help" ;;

@@ -27,9 +27,10 @@ const MORE: &str =
     "A script says what the policy allows, which domains there are and what they call.
 An answer such as `N19 -1` names the rule that refused the call, and its status: see `gthost rules`.
 The exit status is 0 for success, 1 for a fault of script, policy, file, memory or thread, for a policy
-with an error and for a denied question, and 2 for a wrong command line.
+with an error, a denied question and a word that no text has, and 2 for a wrong command line.
 Try: gthost play examples/first.gt
      gthost run examples/ring.gt
+     gthost explore examples/revoke_race.gt
      gthost policy examples/split_driver.te";
 
 // The FILE of a command.

@@ -373,8 +373,8 @@ fn follow<R: Threads + Wait + Sync, T: Texts, W: Write, E: Eprint>(
 /// its reasons after it.
 ///
 /// The status is 0 for success, 1 for a fault of script, policy, dump, file, memory or thread, for a text that was not
-/// written, for a policy with an error and for a denied question, and 2 if the words ask for nothing that the program
-/// does.
+/// written, for a policy with an error, for a denied question and for a word that no text has, and 2 if the words ask
+/// for nothing that the program does.
 pub fn obey<R: Threads + Wait + Sync, T: Texts, W: Write, E: Eprint>(
     rt: &R,
     alloc: Global,
