@@ -2,6 +2,7 @@
 use Rattle.std.proofs.Common.{◌≡◌, ◌∙◌, ℕ, Bool, List, Option, None, Some, Result, Err, IfSome, refl, sym, subst, inl}
 use Rattle.std.proofs.Common.{inr, arith}
 use Rattle.std.specs.Io.KnownBytes.{Keeps}
+use Rattle.std.specs.Prelude.{drop}
 use Rattle.gt_streams.specs.Laws.{keeps_same, of_any_input}
 use Rattle.gt_streams.specs.Streams.{OfInput}
 use Rattle.clap.specs.Kinds.{HasKind}
@@ -15,7 +16,7 @@ use Rattle.clap.specs.declared.error.kind.ErrorKind.TheVariants.{TooManyValues, 
 use Rattle.gt_advice.specs.declared.asking.Question.{Question}
 use Rattle.gt_commands.specs.Commands.{Request, to_play, to_run, to_explore, to_list, to_tell_rules, to_check}
 use Rattle.gt_commands.specs.Commands.{to_explain}
-use Rattle.gt_commands.specs.Commands.{to_tell_entries, for_help, for_version, nothing, asked_by_plan, refusals}
+use Rattle.gt_commands.specs.Commands.{to_tell_entries, for_help, for_version, nothing, asked_by_plan, refusals, request_in_words}
 use Rattle.gt_commands.specs.declared.invocation.Invocation.{Invocation}
 use Rattle.gt_dump.specs.declared.asked.Asked.{Asked}
 use Rattle.gt_commands.specs.declared.invocation.Format.{Format}
@@ -92,6 +93,15 @@ out_of_memory (to_tell_entries version hex every script format name) file input 
 out_of_memory for_help file input old new status is kept = omega arith
 out_of_memory for_version file input old new status is kept = omega arith
 out_of_memory nothing file input old new status is kept = (inr is, kept)
+
+-- no memory was there for the words
+pub without_memory : (request : Request) (file : List ℕ → Option (List ℕ)) (input old : Option (List ℕ)) (status : ℕ) → status ≡ exit_status_of (Err failures.Memory) → Obeys request file input old old status
+without_memory request file input old status is = out_of_memory request file input old old status is (keeps_same old)
+
+-- the words with their long flags were obeyed
+pub obeyed_long : (words spelled : List (List ℕ)) (file : List ℕ → Option (List ℕ)) (input old new : Option (List ℕ)) (status : ℕ) → spelled ≡ words
+    → Obeys (request_in_words (drop 1 spelled)) file input old new status → Obeys (request_in_words (drop 1 words)) file input old new status
+obeyed_long words spelled file input old new status is obeys = subst (λ (ws : List (List ℕ)). Obeys (request_in_words (drop 1 ws)) file input old new status) is obeys
 
 -- a command is refused only where memory is
 by_memory : (request : Request) (file : List ℕ → Option (List ℕ)) (input old new : Option (List ℕ)) (error : Error) (status : ℕ) → kind_of error ≡ OutOfMemory → FitsKind (kind_of error) old new status

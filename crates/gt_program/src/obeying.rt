@@ -368,6 +368,29 @@ fn follow<R: Threads + Wait + Sync, T: Texts, W: Write, E: Eprint>(
     }
 }
 
+// Does what words with long flags ask for.
+fn obey_long<R: Threads + Wait + Sync, T: Texts, W: Write, E: Eprint>(
+    rt: &R,
+    alloc: Global,
+    texts: &T,
+    words: &[String],
+    out: &mut W,
+    err: &E,
+) -> u8
+    ensures { Obeys (request_in_words (drop 1 (map string_bytes words.now))) (T.file texts.now) (T.input texts.now)
+        (W.contents out.old) (W.contents out.new) result }
+{
+    match plan(alloc, words) {
+        Ok(invocation) => {
+            let mut reasons = Reasons::of(alloc, &invocation);
+            let status = follow(rt, alloc, texts, invocation, out, err, &mut reasons);
+            reasons.tell(err);
+            status
+        }
+        Err(error) => refuse(out, err, &error),
+    }
+}
+
 /// Does what the words of a command line ask for, the program's name first, and answers the exit
 /// status. Texts, rules, help and version go to `out`; a fault goes to `err`, in one line, and if they are asked for,
 /// its reasons after it.
@@ -375,6 +398,7 @@ fn follow<R: Threads + Wait + Sync, T: Texts, W: Write, E: Eprint>(
 /// The status is 0 for success, 1 for a fault of script, policy, dump, file, memory or thread, for a text that was not
 /// written, for a policy with an error, for a denied question and for a word that no text has, and 2 if the words ask
 /// for nothing that the program does.
+#[tactic(auto, using(crate::proofs::Obeyed::obeyed_long, crate::proofs::Obeyed::without_memory))]
 pub fn obey<R: Threads + Wait + Sync, T: Texts, W: Write, E: Eprint>(
     rt: &R,
     alloc: Global,
@@ -386,16 +410,8 @@ pub fn obey<R: Threads + Wait + Sync, T: Texts, W: Write, E: Eprint>(
     ensures { Obeys (request_in_words (drop 1 (with_long_flags (map string_bytes words.now))))
         (T.file texts.now) (T.input texts.now) (W.contents out.old) (W.contents out.new) result }
 {
-    let Ok(words) = with_long_flags(alloc, words) else {
-        return report(err, Err(Failure::Memory));
-    };
-    match plan(alloc, words.as_slice()) {
-        Ok(invocation) => {
-            let mut reasons = Reasons::of(alloc, &invocation);
-            let status = follow(rt, alloc, texts, invocation, out, err, &mut reasons);
-            reasons.tell(err);
-            status
-        }
-        Err(error) => refuse(out, err, &error),
+    match with_long_flags(alloc, words) {
+        Ok(words) => obey_long(rt, alloc, texts, words.as_slice(), out, err),
+        Err(_) => report(err, Err(Failure::Memory)),
     }
 }
