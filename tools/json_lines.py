@@ -4,16 +4,19 @@
     tools/json_lines.py check            compares crates/cases_json/stdout with this program's JSON, reads each of its
                                    lines as JSON, and makes the line of the text of it again
     tools/json_lines.py expected         prints what that file has to be
-    tools/json_lines.py program GTHOST   runs GTHOST on the examples, with --format json and without, and compares
+    tools/json_lines.py program GTHOST   runs GTHOST on the examples, on the dumps of crates/cases_dump and on dumps of
+                                   drawn bytes, with --format json and without, and compares
 
 Exit status: 0 if all is the same. docs/FORMATS.md has the form, from which this is written.
 """
 import glob
 import json
 import os
+import random
 import re
 import subprocess
 import sys
+import tempfile
 
 TOP = os.path.dirname(os.path.dirname(os.path.abspath(__file__)))
 CASES = os.path.join(TOP, "crates", "cases_json")
@@ -210,6 +213,39 @@ def printed(words):
     return subprocess.run(words, capture_output=True, check=False)
 
 
+def drawn_dump(rng):
+    """Bytes of a dump: entries whose bits are drawn, and some zeros; the end may be cut off."""
+    entries = []
+    for _ in range(rng.randint(1, 600)):
+        bits = rng.choice([0, 1, 1, 1, 1, 2, 3, rng.getrandbits(16)]) | rng.choice([0, 0, 4, 8, 24, 0x8000, 0x40, 0x100])
+        entry = bits.to_bytes(2, "little") + rng.choice([0, 1, 2, 32751, rng.getrandbits(16)]).to_bytes(2, "little")
+        entry += rng.choice([b"\0" * 12, b"\5" + b"\0" * 11, rng.randbytes(12), b"\1\0\2" + b"\0" * 9])
+        entries.append(rng.choice([entry[:8], entry[:16], b"\0" * 8]))
+    whole = b"".join(entries)
+    return whole[: len(whole) - rng.choice([0, 0, 3])]
+
+
+def entries_of(gthost):
+    """How many dumps were told, and how many differences there are."""
+    rng = random.Random(1)
+    wrong = runs = 0
+    with tempfile.TemporaryDirectory() as folder:
+        for number in range(40):
+            with open(os.path.join(folder, "%d.bin" % number), "wb") as file:
+                file.write(drawn_dump(rng))
+        dumps = glob.glob(os.path.join(folder, "*.bin")) + glob.glob(os.path.join(TOP, "crates", "cases_dump", "data", "*"))
+        for path in sorted(dumps + glob.glob(os.path.join(TOP, "examples", "*.hex"))):
+            hexadecimal = ["--hex"] if path.endswith(".hex") else []
+            for words in (["--version", version, *every, *hexadecimal] for version in "12" for every in ([], ["--all"])):
+                text = printed([gthost, "entries", *words, path])
+                told = printed([gthost, "entries", *words, "--format", "json", path])
+                wrong += (text.returncode, text.stderr) != (told.returncode, told.stderr)
+                if text.returncode == 0:
+                    runs += 1
+                    wrong += compare("entries", text.stdout.decode().splitlines(), told.stdout.decode().splitlines())
+    return runs, wrong
+
+
 def program(gthost):
     wrong = runs = 0
     for path in sorted(glob.glob(os.path.join(TOP, "examples", "*.gt"))):
@@ -231,8 +267,10 @@ def program(gthost):
         runs += 1
         text = printed([gthost, "policy", path]).stdout.decode().splitlines()
         wrong += compare("policy", text, printed([gthost, "policy", "--format", "json", path]).stdout.decode().splitlines())
-    print(runs, "texts,", wrong, "differences")
-    return wrong if runs else 1
+    told, differences = entries_of(gthost)
+    wrong += differences
+    print(runs, "texts and", told, "dumps,", wrong, "differences")
+    return wrong if runs and told else 1
 
 
 if __name__ == "__main__":

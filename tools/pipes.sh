@@ -47,7 +47,7 @@ check 'a pipe that is closed for rules' '0|1|141' "$(cat "$work/status")" "$clos
 check 'a pipe that is closed for help' '0|1|141' "$(cat "$work/status")" "$closed"
 
 for words in "play $work/short.gt" "run $work/short.gt" "policy $work/short.te" "check $work/missing_semicolon.te" \
-  "why t t copy $work/short.te" 'rules' '--help' '--version'; do
+  "why t t copy $work/short.te" 'rules' '--help' '--version' "explore $work/short.gt" "play -v $work/short.gt"; do
   printf 'type t\n' >"$work/missing_semicolon.te"
   # shellcheck disable=SC2086
   "$program" $words >/dev/full 2>"$work/err"
@@ -64,15 +64,28 @@ check 'a closed input' 1 $? 'gthost: read'
 : >"$work/err"
 "$program" play "$work/missing" >"$work/out" 2>&-
 check 'a fault with a closed standard error' 1 $? ''
-for command in play run policy check 'why t t copy' 'entries --version 1'; do
+for command in play run explore policy check 'why t t copy' 'entries --version 1'; do
   # shellcheck disable=SC2086
   "$program" $command "$work" >"$work/out" 2>"$work/err"
   check "$command of a folder" 1 $? 'gthost: read'
 done
-for command in play run; do
+for command in play run explore; do
   "$program" "$command" "$work/long.gt" >"$work/out" 2>"$work/err"
   check "$command of 2 MiB" 1 $? 'gthost: line 1: limit'
 done
+
+# With their reasons, in the system's words.
+for command in play run; do
+  "$program" "$command" -v "$work" >"$work/out" 2>"$work/err"
+  check "$command -v of a folder" 1 $? $'gthost: read\n'"$work: Is a directory \\(os error 21\\)"
+  "$program" "$command" -v "$work/missing" >"$work/out" 2>"$work/err"
+  check "$command -v of a file that is not there" 1 $? \
+    $'gthost: read\n'"$work/missing: No such file or directory \\(os error 2\\)"
+  "$program" "$command" -v "$work/long.gt" >"$work/out" 2>"$work/err"
+  check "$command -v of 2 MiB" 1 $? $'gthost: line 1: limit\n'"$work/long.gt:1:1: a script has at most 1048576 bytes"
+done
+"$program" play -v <&- >"$work/out" 2>"$work/err"
+check '-v of a closed input' 1 $? $'gthost: read\n<stdin>: .* \\(os error 9\\)'
 for command in policy check 'why t t copy'; do
   # shellcheck disable=SC2086
   "$program" $command "$work/long.gt" >"$work/out" 2>"$work/err"

@@ -1,6 +1,6 @@
 -- From what the parser makes of the words to what is answered.
-use Rattle.std.proofs.Common.{◌≡◌, ◌∙◌, ◌⊎◌, ◌<◌, ◌≤◌, ℕ, Bool, true, false, Result, Ok, Err, IfOk, arith, List, []}
-use Rattle.std.proofs.Common.{◌∷◌, Option, Some, None, option_map, drop, refl, sym, ap, ap₂, subst, inl, inr}
+use Rattle.std.proofs.Common.{◌≡◌, ◌∙◌, ◌⊎◌, ◌<◌, ◌≤◌, ◌+◌, ℕ, Bool, true, false, Result, Ok, Err, IfOk, arith, List}
+use Rattle.std.proofs.Common.{[], ◌∷◌, Option, Some, None, option_map, drop, refl, sym, ap, ap₂, subst, inl, inr}
 use Rattle.std.specs.Prelude.{Box}
 use Rattle.std.proofs.Common.{Global}
 use Rattle.std.specs.Box.{box_value}
@@ -21,11 +21,12 @@ use Rattle.clap.specs.declared.parser.matches.ArgMatches.TheViews.{out-ArgMatche
 use Rattle.clap.specs.declared.parser.matches.SubCommand.{SubCommand}
 use Rattle.gt_commands.specs.Commands.{IsInvocationOf, IsPlanOf, Request, request_in_words, asked_by_plan}
 use Rattle.gt_commands.specs.Commands.{asked_by_some, asked_named}
-use Rattle.gt_commands.specs.Commands.{asked_with, domain_number, command_name, gthost_app, mode_of, nothing, read}
+use Rattle.gt_commands.specs.Commands.{asked_with, command_name, gthost_app, mode_of, nothing, number_up_to, read}
 use Rattle.gt_commands.specs.Commands.{refusals}
 use Rattle.gt_commands.specs.declared.invocation.Invocation.{Invocation}
 use Rattle.gt_commands.specs.declared.invocation.Mode.{Mode}
-use Rattle.gt_commands.specs.declared.invocation.Mode.TheVariants.{Play, Run, Policy, Rules, Check, Why, Entries}
+use Rattle.gt_commands.specs.declared.invocation.Mode.TheVariants.{Play, Run, Explore, Policy, Rules, Check, Why}
+use Rattle.gt_commands.specs.declared.invocation.Mode.TheVariants.{Entries}
 use Rattle.gt_commands.proofs.Top.{Comes, passes, helps, tells_version, refuses, words_come}
 use Rattle.gt_commands.proofs.Wrongs.{Wrong, unknown, stray, missing, valued, valueless, repeated, lacking}
 use Rattle.gt_commands.proofs.Wrongs.{never_passes}
@@ -84,6 +85,7 @@ entered words none = entered_by (words_come words) none
 pub named_mode : (mode : Mode) → mode_of (command_name mode) ≡ Some mode
 named_mode Play = refl
 named_mode Run = refl
+named_mode Explore = refl
 named_mode Policy = refl
 named_mode Rules = refl
 named_mode Check = refl
@@ -151,25 +153,25 @@ pub plan_of : (words : List Text) (name : Text) (rows : List Row) (r : Result In
     → IfOk r (λ p. IsPlanOf p (subcommand_of gthost_app words))
 plan_of words name rows r sub answer = subst (λ (o : Option (Text × List Row)). IfOk r (λ p. IsPlanOf p o)) (sym sub) (plan_at name rows r answer)
 
--- ---- the number of a domain
+-- ---- numbers
 
-module _ (word : Text) where
-  abbrev is_number : Type 0
-  is_number = IsNumeral 10 (without_leading_plus word) × (digits_value 10 (without_leading_plus word) < 65536)
+module _ (most : ℕ) (small : most < 18446744073709551616) (word : Text) where
+  abbrev IsNumber : Type 0
+  IsNumber = IsNumeral 10 (without_leading_plus word) × (digits_value 10 (without_leading_plus word) < most + 1)
 
-  pub domain_is : (n : ℕ) → is_number × (n ≡ digits_value 10 (without_leading_plus word)) → Some n ≡ domain_number word
-  domain_is n (fits, is) =
-      let small : digits_value 10 (without_leading_plus word) < 18446744073709551616 = omega (arith, fits.1) in
+  pub number_is : (n : ℕ) → IsNumber × (n ≡ digits_value 10 (without_leading_plus word)) → Some n ≡ number_up_to most word
+  number_is n (fits, is) =
+      let fits_all : digits_value 10 (without_leading_plus word) < 18446744073709551616 = omega (arith, fits.1, small) in
       let least : 0 ≤ digits_value 10 (without_leading_plus word) = omega arith in
-      let most : digits_value 10 (without_leading_plus word) ≤ 65535 = omega (arith, fits.1) in
-      let passes : is_unsigned_in 0 65535 word ≡ true = Accepts-accepts false (vp.Unsigned 0 65535) word (fits.0, small, least, most) in
+      let up_to : digits_value 10 (without_leading_plus word) ≤ most = omega (arith, fits.1) in
+      let passes : is_unsigned_in 0 most word ≡ true = Accepts-accepts false (vp.Unsigned 0 most) word (fits.0, fits_all, least, up_to) in
       rw passes (ap (λ (k : ℕ). Some k) is)
 
-  pub no_domain : (is_number → ⊥) → None ≡ domain_number word
-  no_domain bad = by (is_unsigned_in 0 65535 word) refl
+  pub no_number : (IsNumber → ⊥) → None ≡ number_up_to most word
+  no_number bad = by (is_unsigned_in 0 most word) refl
     where
-      by : (b : Bool) → is_unsigned_in 0 65535 word ≡ b → None ≡ domain_number word
+      by : (b : Bool) → is_unsigned_in 0 most word ≡ b → None ≡ number_up_to most word
       by true e =
-          let accepted = accepts-Accepts false (vp.Unsigned 0 65535) word e in
+          let accepted = accepts-Accepts false (vp.Unsigned 0 most) word e in
           absurd (bad (accepted.0, omega (arith, accepted.3)))
       by false e = rw e refl

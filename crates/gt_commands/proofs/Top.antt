@@ -19,7 +19,8 @@ use Rattle.gt_commands.specs.Commands.{Request, request_in_words, request_by, as
 use Rattle.gt_commands.specs.Commands.{command_name}
 use Rattle.gt_commands.specs.Commands.{every_mode, for_help, for_version, gthost_app, mode_of, nothing, read, usage_of}
 use Rattle.gt_commands.specs.declared.invocation.Mode.{Mode}
-use Rattle.gt_commands.specs.declared.invocation.Mode.TheVariants.{Play, Run, Policy, Rules, Check, Why, Entries}
+use Rattle.gt_commands.specs.declared.invocation.Mode.TheVariants.{Play, Run, Explore, Policy, Rules, Check, Why}
+use Rattle.gt_commands.specs.declared.invocation.Mode.TheVariants.{Entries}
 use Rattle.gt_commands.proofs.Ends.{end, flag_at_end, value_at_end}
 use Rattle.gt_commands.proofs.Lines.{command_tells}
 use Rattle.gt_commands.proofs.Lookups as lookups
@@ -42,6 +43,7 @@ rows_in mode words = rows_after (lookups.built_rules (usage_of mode)) [] words
 command_words : (mode : Mode) (words : List Text) → walks.Tells (usage_of mode) (command_name mode) (line (usage_of mode) words) (command_fault mode words) (rows_in mode words)
 command_words Play words = command_tells (usage_of Play) (command_name Play) (refl, refl, refl) (refl, tt) words
 command_words Run words = command_tells (usage_of Run) (command_name Run) (refl, refl, refl) (refl, tt) words
+command_words Explore words = command_tells (usage_of Explore) (command_name Explore) (refl, refl, refl) (refl, (refl, (refl, tt))) words
 command_words Policy words = command_tells (usage_of Policy) (command_name Policy) (refl, refl, refl) (refl, tt) words
 command_words Rules words = command_tells (usage_of Rules) (command_name Rules) (refl, refl, refl) tt words
 command_words Check words = command_tells (usage_of Check) (command_name Check) (refl, refl, refl) (refl, tt) words
@@ -53,8 +55,14 @@ read_rows : (mode : Mode) (given : Given) (rows : List Row) → rows ≡ end (us
 read_rows mode given rows is = ap (λ (rs : List Row). read mode (λ id. first_of id rs)) is ∙ by mode
   where
     by : (m : Mode) → read m (λ id. first_of id (end (usage_of m) given)) ≡ read m (value_of given)
-    by Play = rw (value_at_end (usage_of Play) given (codes "format") refl, flag_at_end (usage_of Play) given (codes "audit"), value_at_end (usage_of Play) given (codes "file") refl) refl
-    by Run = rw (value_at_end (usage_of Run) given (codes "format") refl, flag_at_end (usage_of Run) given (codes "audit"), value_at_end (usage_of Run) given (codes "file") refl) refl
+    by Play = rw (value_at_end (usage_of Play) given (codes "format") refl, flag_at_end (usage_of Play) given (codes "audit"), flag_at_end (usage_of Play) given (codes "verbose"), value_at_end (usage_of Play) given (codes "file") refl) refl
+    by Run = rw (value_at_end (usage_of Run) given (codes "format") refl, flag_at_end (usage_of Run) given (codes "audit"), flag_at_end (usage_of Run) given (codes "verbose"), value_at_end (usage_of Run) given (codes "file") refl) refl
+    by Explore = rw (
+      value_at_end (usage_of Explore) given (codes "find") refl,
+      value_at_end (usage_of Explore) given (codes "witness") refl,
+      value_at_end (usage_of Explore) given (codes "states") refl,
+      value_at_end (usage_of Explore) given (codes "file") refl,
+    ) refl
     by Policy = rw (value_at_end (usage_of Policy) given (codes "format") refl, value_at_end (usage_of Policy) given (codes "file") refl) refl
     by Rules = rw (value_at_end (usage_of Rules) given (codes "file") refl) refl
     by Check = rw (value_at_end (usage_of Check) given (codes "format") refl, flag_at_end (usage_of Check) given (codes "script"), value_at_end (usage_of Check) given (codes "file") refl) refl
@@ -187,6 +195,7 @@ below_command : (mode : Mode) (rest : List Text) → top_ended (at_command mode 
 unfolding defaults_fault
 below_command Play rest = or_nothing (command_fault Play rest)
 below_command Run rest = or_nothing (command_fault Run rest)
+below_command Explore rest = or_nothing (command_fault Explore rest)
 below_command Policy rest = or_nothing (command_fault Policy rest)
 below_command Rules rest = or_nothing (command_fault Rules rest)
 below_command Check rest = or_nothing (command_fault Check rest)
@@ -199,6 +208,7 @@ sub_at end = entered (built gthost_app) end.stopped
 sub_of : (mode : Mode) (rest : List Text) → sub_at (at_command mode rest) ≡ Some (command_name mode, rows_in mode rest)
 sub_of Play rest = refl
 sub_of Run rest = refl
+sub_of Explore rest = refl
 sub_of Policy rest = refl
 sub_of Rules rest = refl
 sub_of Check rest = refl

@@ -6,7 +6,7 @@ use Rattle.gt_commands.specs.Prelude.{is_unsigned_in, App, Row, Text, first_of, 
 use Rattle.gt_commands.specs.Prelude.{ArgumentConflict, DisplayHelp, DisplayVersion, InvalidSubcommand, InvalidValue}
 use Rattle.gt_commands.specs.Prelude.{MissingRequiredArgument, MissingSubcommand, TooManyValues, UnknownArgument}
 use Rattle.gt_commands.specs.Prelude.{Format, Plain, Json, Invocation, Mode, Play, Run, Policy, Rules, Check, Why}
-use Rattle.gt_commands.specs.Prelude.{Entries}
+use Rattle.gt_commands.specs.Prelude.{Entries, Explore}
 use Rattle.gt_commands.specs.Rules.{command_app}
 use Rattle.gt_commands.specs.Usage.{Usage, Given, Line, gives, asks_help, wrong, Word, mark, long, short, plain}
 use Rattle.gt_commands.specs.Usage.{usage_word, line, is_true, value_of}
@@ -17,6 +17,7 @@ use Rattle.gt_commands.specs.declared.invocation.Invocation.TheVariants as plans
 abbrev pub command_name : Mode → Text
 command_name Play = codes "play"
 command_name Run = codes "run"
+command_name Explore = codes "explore"
 command_name Policy = codes "policy"
 command_name Rules = codes "rules"
 command_name Check = codes "check"
@@ -30,10 +31,15 @@ one name = name ∷ []
 abbrev pub file_usage : Usage
 file_usage = record { flags = []; options = []; words = one (codes "file"); needed = [] }
 
+-- what the commands take that run a script (own)
+abbrev pub runner_usage : Usage
+runner_usage = record file_usage { flags = codes "audit" ∷ codes "verbose" ∷ []; options = one (codes "format") }
+
 -- what each command takes (own)
 abbrev pub usage_of : Mode → Usage
-usage_of Play = record file_usage { flags = one (codes "audit"); options = one (codes "format") }
-usage_of Run = record file_usage { flags = one (codes "audit"); options = one (codes "format") }
+usage_of Play = runner_usage
+usage_of Run = runner_usage
+usage_of Explore = record file_usage { options = codes "find" ∷ codes "witness" ∷ codes "states" ∷ [] }
 usage_of Policy = record file_usage { options = one (codes "format") }
 usage_of Rules = file_usage
 usage_of Check = record file_usage { flags = one (codes "script"); options = one (codes "format") }
@@ -48,7 +54,7 @@ usage_of Entries = record file_usage {
 }
 
 abbrev pub every_mode : List Mode
-every_mode = Play ∷ Run ∷ Policy ∷ Rules ∷ Check ∷ Why ∷ Entries ∷ []
+every_mode = Play ∷ Run ∷ Explore ∷ Policy ∷ Rules ∷ Check ∷ Why ∷ Entries ∷ []
 
 -- ---- the program, as the parser of command lines takes it
 
@@ -66,7 +72,7 @@ with_mode app mode = with_subcommand app (mode_app mode).top
 
 -- the commands that run a script (own)
 abbrev pub runners_app : App
-runners_app = with_mode (with_mode bare_app Play) Run
+runners_app = with_mode (with_mode (with_mode bare_app Play) Run) Explore
 
 -- those and the lists of what a policy allows, and of the rules (own)
 abbrev pub listers_app : App
@@ -78,12 +84,13 @@ gthost_app = with_mode (with_mode (with_mode listers_app Check) Why) Entries
 
 -- ---- what is asked for
 
--- to play a script, to run one, to list a policy, to tell the rules, to check a policy or a script, to say why a policy
--- allows something, or to tell the entries of a dump: with the options and the FILE, none for standard input; help; the
--- version; or nothing that the program does (own)
+-- to play a script, to run one, to explore one, to list a policy, to tell the rules, to check a policy or a script, to
+-- say why a policy allows something, or to tell the entries of a dump: with the options and the FILE, none for standard
+-- input; help; the version; or nothing that the program does (own)
 pub data Request : Type 0 where
-  to_play : Bool → Format → Option Text → Request
-  to_run : Bool → Format → Option Text → Request
+  to_play : Bool → Bool → Format → Option Text → Request
+  to_run : Bool → Bool → Format → Option Text → Request
+  to_explore : Option Text → Option ℕ → ℕ → Option Text → Request
   to_list : Format → Option Text → Request
   to_tell_rules : Option Text → Request
   to_check : Bool → Format → Option Text → Request
@@ -110,22 +117,47 @@ version_of None = None
 version_of (Some word) = if bytes_eq word (codes "1") then Some 1
     else (if bytes_eq word (codes "2") then Some 2 else None)
 
--- the number of a domain, below 65,536, as `parse` of an unsigned number of Rust reads it (own)
+-- a number up to this one, as `parse` of an unsigned number of Rust reads it (own)
+abbrev pub number_up_to : ℕ → Text → Option ℕ
+number_up_to most word = if is_unsigned_in 0 most word then Some (digits_value 10 (without_leading_plus word)) else None
+
+-- the number of a domain, below 65,536 (own)
 abbrev pub domain_number : Text → Option ℕ
-domain_number word = if is_unsigned_in 0 65535 word then Some (digits_value 10 (without_leading_plus word)) else None
+domain_number word = number_up_to 65535 word
 
 -- `--script DOM`, where it is given (own)
 abbrev pub script_of : Option Text → Option (Option ℕ)
 script_of None = Some None
 script_of (Some word) = option_map (λ n. Some n) (domain_number word)
 
-abbrev pub play_with : Option Format → Bool → Option Text → Request
-play_with None audit file = nothing
-play_with (Some format) audit file = to_play audit format file
+-- `--witness N`, a number of 64 bits, where it is given (own)
+abbrev pub witness_of : Option Text → Option (Option ℕ)
+witness_of None = Some None
+witness_of (Some word) = option_map (λ n. Some n) (number_up_to 18446744073709551615 word)
 
-abbrev pub run_with : Option Format → Bool → Option Text → Request
-run_with None audit file = nothing
-run_with (Some format) audit file = to_run audit format file
+-- `--states N`; 100,000 where it is left out (own)
+abbrev pub states_of : Option Text → Option ℕ
+states_of None = Some 100000
+states_of (Some word) = number_up_to 18446744073709551615 word
+
+abbrev pub play_with : Option Format → Bool → Bool → Option Text → Request
+play_with None audit verbose file = nothing
+play_with (Some format) audit verbose file = to_play audit verbose format file
+
+abbrev pub run_with : Option Format → Bool → Bool → Option Text → Request
+run_with None audit verbose file = nothing
+run_with (Some format) audit verbose file = to_run audit verbose format file
+
+-- not both the texts with a word and the script for one of them (own)
+abbrev pub explore_by : Option Text → Option ℕ → ℕ → Option Text → Request
+explore_by None witness states file = to_explore None witness states file
+explore_by (Some word) None states file = to_explore (Some word) None states file
+explore_by (Some word) (Some number) states file = nothing
+
+abbrev pub explore_with : Option Text → Option (Option ℕ) → Option ℕ → Option Text → Request
+explore_with find None states file = nothing
+explore_with find (Some witness) None file = nothing
+explore_with find (Some witness) (Some states) file = explore_by find witness states file
 
 abbrev pub list_with : Option Format → Option Text → Request
 list_with None file = nothing
@@ -148,8 +180,12 @@ entries_with (Some version) (Some script) (Some format) hex every file =
 
 -- what a command asks for, by the values that were given: nothing where one of them is none that it takes (own)
 abbrev pub read : Mode → (Text → Option Text) → Request
-read Play value = play_with (format_of (value (codes "format"))) (is_true (value (codes "audit"))) (value (codes "file"))
-read Run value = run_with (format_of (value (codes "format"))) (is_true (value (codes "audit"))) (value (codes "file"))
+read Play value = play_with (format_of (value (codes "format"))) (is_true (value (codes "audit")))
+    (is_true (value (codes "verbose"))) (value (codes "file"))
+read Run value = run_with (format_of (value (codes "format"))) (is_true (value (codes "audit")))
+    (is_true (value (codes "verbose"))) (value (codes "file"))
+read Explore value = explore_with (value (codes "find")) (witness_of (value (codes "witness")))
+    (states_of (value (codes "states"))) (value (codes "file"))
 read Policy value = list_with (format_of (value (codes "format"))) (value (codes "file"))
 read Rules value = to_tell_rules (value (codes "file"))
 read Check value = check_with (format_of (value (codes "format"))) (is_true (value (codes "script")))
@@ -202,8 +238,10 @@ refusals _ = []
 
 -- what a plan asks for (own)
 abbrev pub asked_by_plan : Invocation → Request
-asked_by_plan (plans.Play audit format file) = to_play audit format (option_map (λ f. f.now) file)
-asked_by_plan (plans.Run audit format file) = to_run audit format (option_map (λ f. f.now) file)
+asked_by_plan (plans.Play audit verbose format file) = to_play audit verbose format (option_map (λ f. f.now) file)
+asked_by_plan (plans.Run audit verbose format file) = to_run audit verbose format (option_map (λ f. f.now) file)
+asked_by_plan (plans.Explore find witness states file) =
+    to_explore (option_map (λ f. f.now) find) witness states (option_map (λ f. f.now) file)
 asked_by_plan (plans.Policy format file) = to_list format (option_map (λ f. f.now) file)
 asked_by_plan (plans.Rules rule) = to_tell_rules (option_map (λ f. f.now) rule)
 asked_by_plan (plans.Check script format file) = to_check script format (option_map (λ f. f.now) file)

@@ -1,4 +1,5 @@
 pub mod Usage
+pub mod Letters
 pub mod Rules
 pub mod Commands
 pub mod Prelude

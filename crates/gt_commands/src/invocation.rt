@@ -7,6 +7,8 @@ pub enum Mode {
     Play,
     /// Run a script's domains in threads.
     Run,
+    /// Find the texts that a script may give.
+    Explore,
     /// List what a policy allows.
     Policy,
     /// List the rules by which calls are refused.
@@ -31,15 +33,25 @@ pub enum Format {
 /// A command with its options. `file` is the FILE, none for the standard input.
 #[derive(Debug, PartialEq, Eq, Drop)]
 pub enum Invocation<'a> {
-    /// `audit`: the audit lines are wanted too.
+    /// `audit`: the audit lines are wanted too; `verbose`: and the reasons of faults and refusals.
     Play {
         audit: bool,
+        verbose: bool,
         format: Format,
         file: Option<&'a str>,
     },
     Run {
         audit: bool,
+        verbose: bool,
         format: Format,
+        file: Option<&'a str>,
+    },
+    /// `find`: only the texts with this word; `witness`: the script for the text of this number instead; `states`: at
+    /// most so many states.
+    Explore {
+        find: Option<&'a str>,
+        witness: Option<usize>,
+        states: usize,
         file: Option<&'a str>,
     },
     Policy {

@@ -11,9 +11,11 @@
 #![tactic(auto)]
 
 mod invocation;
+mod letters;
 mod line;
 mod planning;
 mod values;
 
 pub use invocation::{Format, Invocation, Mode};
+pub use letters::with_long_flags;
 pub use planning::plan;

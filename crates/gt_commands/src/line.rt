@@ -27,9 +27,10 @@ const MORE: &str =
     "A script says what the policy allows, which domains there are and what they call.
 An answer such as `N19 -1` names the rule that refused the call, and its status: see `gthost rules`.
 The exit status is 0 for success, 1 for a fault of script, policy, file, memory or thread, for a policy
-with an error and for a denied question, and 2 for a wrong command line.
+with an error, a denied question and a word that no text has, and 2 for a wrong command line.
 Try: gthost play examples/first.gt
      gthost run examples/ring.gt
+     gthost explore examples/revoke_race.gt
      gthost policy examples/split_driver.te";
 
 // The FILE of a command.
@@ -81,6 +82,17 @@ fn audit_flag<'a>(alloc: Global) -> Arg<'a>
     )
 }
 
+fn verbose_flag<'a>(alloc: Global) -> Arg<'a>
+    ensures rule { rule_of result ≡ flag_rule (codes "verbose") }
+    ensures local { result.global ≡ false }
+{
+    flag(
+        alloc,
+        "verbose",
+        "Tells on standard error why there is a fault, or why the policy refused; also -v",
+    )
+}
+
 fn format_option<'a>(alloc: Global, help: &'a str) -> Arg<'a>
     ensures rule { rule_of result ≡ free_option (codes "format") }
     ensures local { result.global ≡ false }
@@ -95,6 +107,7 @@ fn play_command<'a>(alloc: Global) -> Result<Command<'a>, AllocError>
         .about("Runs a script line by line, and prints a line for each answer")
         .arg(file_word(alloc, "The script; standard input if it is left out"))?
         .arg(audit_flag(alloc))?
+        .arg(verbose_flag(alloc))?
         .arg(format_option(alloc, ANSWERS_AS))
 }
 
@@ -111,7 +124,48 @@ fn run_command<'a>(alloc: Global) -> Result<Command<'a>, AllocError>
         )
         .arg(file)?
         .arg(audit_flag(alloc))?
+        .arg(verbose_flag(alloc))?
         .arg(format_option(alloc, ANSWERS_AS))
+}
+
+// `explore` with what it tells.
+fn explore_of_script<'a>(alloc: Global) -> Result<Command<'a>, AllocError>
+    ensures { IfOk result (λ c. (app_of c ≡ with_rule (with_rule (new_app (codes "explore"))
+        (word_rule file_usage (codes "file"))) (free_option (codes "find"))) × ((fields_of c).has_globals ≡ false)) }
+{
+    let find = free_option(
+        alloc,
+        "find",
+        "WORD",
+        "Prints only the texts with this word; the exit status is 1 if no text has it",
+    );
+    Command::new(alloc, "explore")
+        .about(
+            "Finds each text that a script for run may give, over all orders of its domains' moves",
+        )
+        .arg(file_word(
+            alloc,
+            "The script, with the lines of each domain; standard input if it is left out",
+        ))?
+        .arg(find)
+}
+
+fn explore_command<'a>(alloc: Global) -> Result<Command<'a>, AllocError>
+    ensures { IfOk result (λ c. (app_of c ≡ mode_app modes.Explore) × ((fields_of c).has_globals ≡ false)) }
+{
+    let witness = free_option(
+        alloc,
+        "witness",
+        "N",
+        "Prints a script for play that gives the text of this number",
+    );
+    let states = free_option(
+        alloc,
+        "states",
+        "N",
+        "The most states that are gone through: 100000 if it is left out",
+    );
+    explore_of_script(alloc)?.arg(witness)?.arg(states)
 }
 
 fn policy_command<'a>(alloc: Global) -> Result<Command<'a>, AllocError>
@@ -253,7 +307,11 @@ fn runners_command<'a>(alloc: Global) -> Result<Command<'a>, AllocError>
 {
     let play = play_command(alloc)?;
     let run = run_command(alloc)?;
-    bare_command(alloc).subcommand(play)?.subcommand(run)
+    let explore = explore_command(alloc)?;
+    bare_command(alloc)
+        .subcommand(play)?
+        .subcommand(run)?
+        .subcommand(explore)
 }
 
 // Those, and the commands that list.

@@ -5,13 +5,12 @@ ghost use Rattle.clap.specs.Words.{subcommand_of, rows_of, found_of, first_of, k
 ghost use Rattle.clap.specs.declared.error.kind.ErrorKind.TheVariants.{InvalidValue, OutOfMemory};
 ghost use Rattle.gt_commands.specs.Usage.{is_true};
 ghost use Rattle.gt_commands.specs.Commands.{request_in_words, asked_by_some, asked_named, check_with, entries_with};
-ghost use Rattle.gt_commands.specs.Commands.{list_with};
-ghost use Rattle.gt_commands.specs.Commands.{IsInvocationOf, IsPlanOf, gthost_app, mode_of, play_with, read, run_with};
-ghost use Rattle.gt_commands.specs.Commands.{why_with};
+ghost use Rattle.gt_commands.specs.Commands.{explore_by, explore_with, IsInvocationOf, IsPlanOf, gthost_app, list_with};
+ghost use Rattle.gt_commands.specs.Commands.{mode_of, play_with, read, run_with, why_with};
 
 use crate::invocation::{Format, Invocation, Mode};
 use crate::line::gthost_command;
-use crate::values::{format_of, script_of, type_of, version_of};
+use crate::values::{format_of, script_of, states_of, type_of, version_of, witness_of};
 use clap::error::ErrorKind;
 use clap::{ArgMatches, Error};
 use std::alloc::Global;
@@ -24,6 +23,8 @@ fn mode_of(name: &str) -> Option<Mode>
         Some(Mode::Play)
     } else if "run" == name {
         Some(Mode::Run)
+    } else if "explore" == name {
+        Some(Mode::Explore)
     } else if "policy" == name {
         Some(Mode::Policy)
     } else if "rules" == name {
@@ -59,13 +60,15 @@ fn is_set(matches: &ArgMatches<'_>, id: &str) -> bool
 fn play_with<'a>(
     format: Option<Format>,
     audit: bool,
+    verbose: bool,
     file: Option<&'a str>,
 ) -> Option<Invocation<'a>>
-    ensures { asked_by_some result ≡ play_with format audit (option_map (λ v. v.now) file.entry) }
+    ensures { asked_by_some result ≡ play_with format audit verbose (option_map (λ v. v.now) file.entry) }
 {
     match format {
         Some(format) => Some(Invocation::Play {
             audit,
+            verbose,
             format,
             file,
         }),
@@ -76,17 +79,55 @@ fn play_with<'a>(
 fn run_with<'a>(
     format: Option<Format>,
     audit: bool,
+    verbose: bool,
     file: Option<&'a str>,
 ) -> Option<Invocation<'a>>
-    ensures { asked_by_some result ≡ run_with format audit (option_map (λ v. v.now) file.entry) }
+    ensures { asked_by_some result ≡ run_with format audit verbose (option_map (λ v. v.now) file.entry) }
 {
     match format {
         Some(format) => Some(Invocation::Run {
             audit,
+            verbose,
             format,
             file,
         }),
         None => None,
+    }
+}
+
+// A search for the texts with a word, or for the script of one of them, and not for both.
+fn explore_by<'a>(
+    find: Option<&'a str>,
+    witness: Option<usize>,
+    states: usize,
+    file: Option<&'a str>,
+) -> Option<Invocation<'a>>
+    ensures { asked_by_some result ≡ explore_by (option_map (λ v. v.now) find.entry) witness states
+        (option_map (λ v. v.now) file.entry) }
+{
+    if find.is_some() && witness.is_some() {
+        return None;
+    }
+    Some(Invocation::Explore {
+        find,
+        witness,
+        states,
+        file,
+    })
+}
+
+fn explore_with<'a>(
+    find: Option<&'a str>,
+    witness: Option<Option<usize>>,
+    states: Option<usize>,
+    file: Option<&'a str>,
+) -> Option<Invocation<'a>>
+    ensures { asked_by_some result ≡ explore_with (option_map (λ v. v.now) find.entry) witness states
+        (option_map (λ v. v.now) file.entry) }
+{
+    match (witness, states) {
+        (Some(witness), Some(states)) => explore_by(find, witness, states, file),
+        _ => None,
     }
 }
 
@@ -168,8 +209,24 @@ fn read<'a>(mode: Mode, matches: &ArgMatches<'a>) -> Option<Invocation<'a>>
     let file = value_of(matches, "file");
     let format = format_of(value_of(matches, "format"));
     match mode {
-        Mode::Play => play_with(format, is_set(matches, "audit"), file),
-        Mode::Run => run_with(format, is_set(matches, "audit"), file),
+        Mode::Play => play_with(
+            format,
+            is_set(matches, "audit"),
+            is_set(matches, "verbose"),
+            file,
+        ),
+        Mode::Run => run_with(
+            format,
+            is_set(matches, "audit"),
+            is_set(matches, "verbose"),
+            file,
+        ),
+        Mode::Explore => explore_with(
+            value_of(matches, "find"),
+            witness_of(value_of(matches, "witness")),
+            states_of(value_of(matches, "states")),
+            file,
+        ),
         Mode::Policy => list_with(format, file),
         Mode::Rules => Some(Invocation::Rules { rule: file }),
         Mode::Check => check_with(format, is_set(matches, "script"), file),
@@ -214,6 +271,8 @@ fn value_error(alloc: Global, message: &str) -> Result<Error, Error>
 fn value_message(name: &str) -> &'static str {
     if name == "entries" {
         "the value of --version is 1 or 2, that of --script a number below 65536, and that of --format text or json"
+    } else if name == "explore" {
+        "the values of --witness and --states are numbers, and --find is not given with --witness"
     } else {
         "the value of --format is text or json"
     }

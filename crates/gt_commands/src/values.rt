@@ -1,7 +1,8 @@
 //! The values of options.
 ghost use Rattle.std.specs.Prelude.{◌≡◌};
 ghost use Rattle.std.specs.Option.{option_map};
-ghost use Rattle.gt_commands.specs.Commands.{format_of, domain_number, script_of, type_of, version_of};
+ghost use Rattle.gt_commands.specs.Commands.{format_of, domain_number, number_up_to, script_of, states_of, type_of};
+ghost use Rattle.gt_commands.specs.Commands.{version_of, witness_of};
 
 use crate::invocation::Format;
 
@@ -52,5 +53,35 @@ pub(crate) fn script_of(value: Option<&str>) -> Option<Option<u16>>
     match value {
         None => Some(None),
         Some(word) => Some(Some(domain_of(word)?)),
+    }
+}
+
+// A number of 64 bits.
+fn number_of(word: &str) -> Option<usize>
+    ensures { result ≡ number_up_to 18446744073709551615 word.now }
+{
+    match word.parse() {
+        Ok(number) => Some(number),
+        Err(_) => None,
+    }
+}
+
+/// The number of a text, where one is given; none where the value is no number.
+pub(crate) fn witness_of(value: Option<&str>) -> Option<Option<usize>>
+    ensures { result ≡ witness_of (option_map (λ v. v.now) value.entry) }
+{
+    match value {
+        None => Some(None),
+        Some(word) => Some(Some(number_of(word)?)),
+    }
+}
+
+/// The most states; 100,000 where none is given.
+pub(crate) fn states_of(value: Option<&str>) -> Option<usize>
+    ensures { result ≡ states_of (option_map (λ v. v.now) value.entry) }
+{
+    match value {
+        None => Some(100_000),
+        Some(word) => number_of(word),
     }
 }

@@ -2,6 +2,7 @@
 use Rattle.std.proofs.Common.{◌≡◌, ◌∙◌, ℕ, Bool, List, Option, None, Some, Result, Err, IfSome, refl, sym, subst, inl}
 use Rattle.std.proofs.Common.{inr, arith}
 use Rattle.std.specs.Io.KnownBytes.{Keeps}
+use Rattle.std.specs.Prelude.{drop}
 use Rattle.gt_streams.specs.Laws.{keeps_same, of_any_input}
 use Rattle.gt_streams.specs.Streams.{OfInput}
 use Rattle.clap.specs.Kinds.{HasKind}
@@ -13,8 +14,9 @@ use Rattle.clap.specs.declared.error.kind.ErrorKind.TheVariants.{OutOfMemory, In
 use Rattle.clap.specs.declared.error.kind.ErrorKind.TheVariants.{MissingRequiredArgument, MissingSubcommand}
 use Rattle.clap.specs.declared.error.kind.ErrorKind.TheVariants.{TooManyValues, UnknownArgument}
 use Rattle.gt_advice.specs.declared.asking.Question.{Question}
-use Rattle.gt_commands.specs.Commands.{Request, to_play, to_run, to_list, to_tell_rules, to_check, to_explain}
-use Rattle.gt_commands.specs.Commands.{to_tell_entries, for_help, for_version, nothing, asked_by_plan, refusals}
+use Rattle.gt_commands.specs.Commands.{Request, to_play, to_run, to_explore, to_list, to_tell_rules, to_check}
+use Rattle.gt_commands.specs.Commands.{to_explain}
+use Rattle.gt_commands.specs.Commands.{to_tell_entries, for_help, for_version, nothing, asked_by_plan, refusals, request_in_words}
 use Rattle.gt_commands.specs.declared.invocation.Invocation.{Invocation}
 use Rattle.gt_dump.specs.declared.asked.Asked.{Asked}
 use Rattle.gt_commands.specs.declared.invocation.Format.{Format}
@@ -22,6 +24,8 @@ use Rattle.gt_listing.specs.declared.fault.ListingFault.{ListingFault}
 use Rattle.gt_as_json.specs.AsJson.{Promise}
 use Rattle.gt_program.specs.Formats.{CheckedAs, RanAs}
 use Rattle.gt_run.specs.declared.fault.RunFault.{RunFault}
+use Rattle.gt_program.specs.Obeying.{IsSearched, Searches, Seeks}
+use Rattle.gt_explore.specs.declared.exploring.Asked.{Asked as Searched}
 use Rattle.gt_program.specs.Obeying.{AnswersQuestion, Checks, Does, Doing, Ending, Explains, FitsKind, IsAsked}
 use Rattle.gt_program.specs.Obeying.{IsQuestion}
 use Rattle.gt_program.specs.Obeying.{Lists, Obeys, Performs, Plays, RunsDomains, AnswersDump, AnswersEntries, Works}
@@ -76,8 +80,9 @@ wrong kind other old new status fits is memory help version =
 
 -- memory was refused
 out_of_memory : (request : Request) (file : List ℕ → Option (List ℕ)) (input old new : Option (List ℕ)) (status : ℕ) → status ≡ 1 → Keeps old new → Obeys request file input old new status
-out_of_memory (to_play audited format name) file input old new status is kept = no_memory (Plays format audited) (known_text file input name) old new status is kept
-out_of_memory (to_run audited format name) file input old new status is kept = no_memory (RunsDomains format audited) (known_text file input name) old new status is kept
+out_of_memory (to_play audited verbose format name) file input old new status is kept = no_memory (Plays format audited) (known_text file input name) old new status is kept
+out_of_memory (to_run audited verbose format name) file input old new status is kept = no_memory (RunsDomains format audited) (known_text file input name) old new status is kept
+out_of_memory (to_explore find witness states name) file input old new status is kept = no_memory (Seeks find witness states) (known_text file input name) old new status is kept
 out_of_memory (to_list format name) file input old new status is kept = no_memory (Lists format) (known_text file input name) old new status is kept
 out_of_memory (to_tell_rules name) file input old new status is kept = omega arith
 out_of_memory (to_check script format name) file input old new status is kept = no_memory (Checks script) (known_text file input name) old new status is kept
@@ -88,6 +93,15 @@ out_of_memory (to_tell_entries version hex every script format name) file input 
 out_of_memory for_help file input old new status is kept = omega arith
 out_of_memory for_version file input old new status is kept = omega arith
 out_of_memory nothing file input old new status is kept = (inr is, kept)
+
+-- no memory was there for the words
+pub without_memory : (request : Request) (file : List ℕ → Option (List ℕ)) (input old : Option (List ℕ)) (status : ℕ) → status ≡ exit_status_of (Err failures.Memory) → Obeys request file input old old status
+without_memory request file input old status is = out_of_memory request file input old old status is (keeps_same old)
+
+-- the words with their long flags were obeyed
+pub obeyed_long : (words spelled : List (List ℕ)) (file : List ℕ → Option (List ℕ)) (input old new : Option (List ℕ)) (status : ℕ) → spelled ≡ words
+    → Obeys (request_in_words (drop 1 spelled)) file input old new status → Obeys (request_in_words (drop 1 words)) file input old new status
+obeyed_long words spelled file input old new status is obeys = subst (λ (ws : List (List ℕ)). Obeys (request_in_words (drop 1 ws)) file input old new status) is obeys
 
 -- a command is refused only where memory is
 by_memory : (request : Request) (file : List ℕ → Option (List ℕ)) (input old new : Option (List ℕ)) (error : Error) (status : ℕ) → kind_of error ≡ OutOfMemory → FitsKind (kind_of error) old new status
@@ -103,10 +117,12 @@ wrong_line other file input old new error status is memory help version fits =
 -- it was refused
 pub refused : (request : Request) (file : List ℕ → Option (List ℕ)) (input old new : Option (List ℕ)) (error : Error) (status : ℕ) → HasKind (refusals request) error → FitsKind (kind_of error) old new status
     → Obeys request file input old new status
-refused (to_play audited format name) file input old new error status (inl memory) fits = by_memory (to_play audited format name) file input old new error status memory fits
-refused (to_play audited format name) file input old new error status (inr none) fits = absurd none
-refused (to_run audited format name) file input old new error status (inl memory) fits = by_memory (to_run audited format name) file input old new error status memory fits
-refused (to_run audited format name) file input old new error status (inr none) fits = absurd none
+refused (to_play audited verbose format name) file input old new error status (inl memory) fits = by_memory (to_play audited verbose format name) file input old new error status memory fits
+refused (to_play audited verbose format name) file input old new error status (inr none) fits = absurd none
+refused (to_run audited verbose format name) file input old new error status (inl memory) fits = by_memory (to_run audited verbose format name) file input old new error status memory fits
+refused (to_run audited verbose format name) file input old new error status (inr none) fits = absurd none
+refused (to_explore find witness states name) file input old new error status (inl memory) fits = by_memory (to_explore find witness states name) file input old new error status memory fits
+refused (to_explore find witness states name) file input old new error status (inr none) fits = absurd none
 refused (to_list format name) file input old new error status (inl memory) fits = by_memory (to_list format name) file input old new error status memory fits
 refused (to_list format name) file input old new error status (inr none) fits = absurd none
 refused (to_tell_rules name) file input old new error status (inl memory) fits = by_memory (to_tell_rules name) file input old new error status memory fits
@@ -159,6 +175,17 @@ pub told : (asked : Asked) (version : ℕ) (hex every : Bool) (script : Option �
     → IfSome known (λ bytes. Does (AnswersEntries format asked) bytes old new r) → status ≡ exit_status_of r → Works (AnswersDump version hex every script format) known old new status
 told asked version hex every script format None old new r status asks does is = tt
 told asked version hex every script format (Some bytes) old new r status asks does is = (r, is, inl (tells_asked asked version hex every script format bytes old new r asks does))
+
+-- a script was explored as it was asked
+seeks_asked : (asked : Searched) (find : Option (List ℕ)) (witness : Option ℕ) (states : ℕ) (input : List ℕ) (old new : Option (List ℕ)) (r : Ending) → IsSearched find witness states asked
+    → Does (Searches asked) input old new r → Does (Seeks find witness states) input old new r
+seeks_asked asked find witness states input old new r is (inl does) = inl (asked, is, does)
+seeks_asked asked find witness states input old new r is (inr unopened) = inr unopened
+
+pub sought : (asked : Searched) (find : Option (List ℕ)) (witness : Option ℕ) (states : ℕ) (known old new : Option (List ℕ)) (r : Ending) (status : ℕ) → IsSearched find witness states asked
+    → IfSome known (λ bytes. Does (Searches asked) bytes old new r) → status ≡ exit_status_of r → Works (Seeks find witness states) known old new status
+sought asked find witness states None old new r status asks does is = tt
+sought asked find witness states (Some bytes) old new r status asks does is = (r, is, inl (seeks_asked asked find witness states bytes old new r asks does))
 
 -- the work is the one that was asked for
 pub for_work : (known old new : Option (List ℕ)) (work other : Work) (r : Ending) → work ≡ other → OfInput known (λ input. Performs other input old new r) → OfInput known (λ input. Performs work input old new r)

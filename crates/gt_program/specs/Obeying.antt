@@ -3,6 +3,7 @@ use Rattle.std.specs.Prelude.{◌≡◌, ◌⊎◌, ℕ, ◌≤◌, ◌++◌, Bo
 use Rattle.std.specs.Prelude.{IfSome, codes}
 use Rattle.gt_program.specs.Prelude.{Keeps, option_map, ErrorKind, DisplayHelp, DisplayVersion, OutOfMemory}
 use Rattle.gt_program.specs.Prelude.{source_asked, target_asked, Question, Explained, why_fault_text, Request, to_play}
+use Rattle.gt_program.specs.Prelude.{to_explore, Explored, explore_fault_text, RunTells, Searched, word_asked}
 use Rattle.gt_program.specs.Prelude.{to_run, to_list, to_tell_rules, to_check, to_explain, to_tell_entries, for_help}
 use Rattle.gt_program.specs.Prelude.{for_version, nothing, dump_fault_text, Asked, read_word, play_fault_text}
 use Rattle.gt_program.specs.Prelude.{run_fault_text, listing_fault_text, Format, Failure, Work}
@@ -14,6 +15,7 @@ use Rattle.gt_program.specs.declared.obeying.Work.TheVariants as works
 abbrev pub failure_text : Failure → List ℕ
 failure_text (failures.Play fault) = codes "gthost: " ++ play_fault_text fault
 failure_text (failures.Run fault) = codes "gthost: " ++ run_fault_text fault
+failure_text (failures.Explore fault) = codes "gthost: " ++ explore_fault_text fault
 failure_text (failures.List fault) = codes "gthost: " ++ listing_fault_text fault
 failure_text (failures.Why fault) = codes "gthost: " ++ why_fault_text fault
 failure_text (failures.Dump fault) = codes "gthost: " ++ dump_fault_text fault
@@ -49,6 +51,12 @@ RunsDomains format audited input old new (Err (failures.Run fault)) = RanAs form
 RunsDomains format audited input old new (Err failures.Memory) = Keeps old new
 RunsDomains format audited input old new (Err failure) = ⊥
 
+-- a good answer is that a text is asked for (own)
+abbrev pub Searches : Searched → Doing
+Searches asked input old new (Ok answer) = Explored asked (RunTells input) old new (Ok answer)
+Searches asked input old new (Err (failures.Explore fault)) = Explored asked (RunTells input) old new (Err fault)
+Searches asked input old new (Err failure) = ⊥
+
 abbrev pub Lists : Format → Doing
 Lists format input old new (Ok true) = ListedAs format input old new (Ok tt)
 Lists format input old new (Ok false) = ⊥
@@ -76,6 +84,7 @@ AnswersEntries format asked input old new (Err failure) = ⊥
 -- what is done with a text (own)
 abbrev pub Performs : Work → Doing
 Performs (works.Play audited format) = Plays format audited
+Performs (works.Explore asked) = Searches asked
 Performs (works.List format) = Lists format
 Performs (works.Check script file json) = Checks script
 Performs (works.Why file question) = Explains file.now question
@@ -128,6 +137,11 @@ IsAsked version hex every script asked =
     (asked.version ≡ version) × (asked.hex ≡ hex) × (asked.all ≡ every)
     × (option_map (λ d. d.0) asked.script ≡ script)
 
+-- what is asked of the texts of a script (own)
+abbrev pub IsSearched : Option (List ℕ) → Option ℕ → ℕ → Searched → Type 0
+IsSearched find witness states asked =
+    (word_asked asked ≡ find) × (asked.witness ≡ witness) × (asked.states ≡ states)
+
 -- a question of these names is answered (own)
 abbrev pub AnswersQuestion : List ℕ → Option (List ℕ) → Option (List ℕ) → List ℕ → Doing
 AnswersQuestion file source target permission input old new r =
@@ -138,18 +152,25 @@ abbrev pub AnswersDump : ℕ → Bool → Bool → Option ℕ → Format → Doi
 AnswersDump version hex every script format input old new r =
     (asked : Asked) × IsAsked version hex every script asked × AnswersEntries format asked input old new r
 
--- The exit status fits what was asked for, and what was written does: a script that was played or run, a policy that
--- was listed, a policy or a script that was checked, a question that was answered, a dump that was told, the rules,
+-- a script is explored as it is asked (own)
+abbrev pub Seeks : Option (List ℕ) → Option ℕ → ℕ → Doing
+Seeks find witness states input old new r =
+    (asked : Searched) × IsSearched find witness states asked × Searches asked input old new r
+
+-- The exit status fits what was asked for, and what was written does: a script that was played, run or explored, a
+-- policy that was listed, a policy or a script that was checked, a question that was answered, a dump that was told, the rules,
 -- where the status is 2
 -- for the name of none, help, the version, or nothing for words that ask for nothing,
 -- whose status is 2 and for which nothing is written. Where memory is
 -- refused, the status is 1 for all of them. (own)
 abbrev pub Obeys : Request → (List ℕ → Option (List ℕ)) → Option (List ℕ) → Option (List ℕ) → Option (List ℕ) → ℕ
     → Type 0
-Obeys (to_play audited format name) file input old new status =
+Obeys (to_play audited verbose format name) file input old new status =
     Works (Plays format audited) (known_text file input name) old new status
-Obeys (to_run audited format name) file input old new status =
+Obeys (to_run audited verbose format name) file input old new status =
     Works (RunsDomains format audited) (known_text file input name) old new status
+Obeys (to_explore find witness states name) file input old new status =
+    Works (Seeks find witness states) (known_text file input name) old new status
 Obeys (to_list format name) file input old new status =
     Works (Lists format) (known_text file input name) old new status
 Obeys (to_tell_rules name) file input old new status = status ≤ 2

@@ -4,6 +4,7 @@ ghost use Rattle.gt_program.specs.Obeying.{exit_status_of};
 
 use gt_advising::WhyFault;
 use gt_dump::DumpFault;
+use gt_explore::ExploreFault;
 use gt_host::PlayFault;
 use gt_listing::ListingFault;
 use gt_run::RunFault;
@@ -18,6 +19,8 @@ pub enum Failure {
     Play(PlayFault),
     /// The domains of a script were not run to their end.
     Run(RunFault),
+    /// The texts of a script were not found or not told to their end.
+    Explore(ExploreFault),
     /// A policy was not listed or checked to its end.
     List(ListingFault),
     /// A question was not answered.
@@ -42,6 +45,7 @@ impl fmt::Display for Failure {
         match self {
             Failure::Play(fault) => write!(f, "gthost: {fault}"),
             Failure::Run(fault) => write!(f, "gthost: {fault}"),
+            Failure::Explore(fault) => write!(f, "gthost: {fault}"),
             Failure::List(fault) => write!(f, "gthost: {fault}"),
             Failure::Why(fault) => write!(f, "gthost: {fault}"),
             Failure::Dump(fault) => write!(f, "gthost: {fault}"),

@@ -4,22 +4,26 @@ ghost use Rattle.std.specs.Option.{option_map};
 ghost use Rattle.clap.specs.Kinds.{HasKind};
 ghost use Rattle.clap.specs.Words.{kind_of};
 ghost use Rattle.gt_commands.specs.Commands.{request_in_words, asked_by_plan};
+ghost use Rattle.gt_commands.specs.Letters.{with_long_flags};
 ghost use Rattle.gt_streams.specs.Streams.{OfInput};
 ghost use Rattle.gt_program.specs.Obeying.{exit_status_of, known_text, shown_name, Does, FitsKind, Obeys, Performs};
 ghost use Rattle.gt_program.specs.Obeying.{RunsDomains};
 ghost use Rattle.gt_program.specs.Formats.{RanAs};
 
 use crate::failure::{Failure, exit_status};
-use crate::formats::{check_as, entries_as, list_as, play_as, run_as};
+use crate::formats::{check_as, entries_as, list_as};
+use crate::reasons::Reasons;
 use crate::rules::tell_rules;
-use crate::texts::Texts;
+use crate::texts::{Texts, read_fault};
+use crate::told::{play_told, run_told};
 use clap::Error;
 use clap::error::ErrorKind;
 use gt_advice::Question;
 use gt_advising::why;
 use gt_audit::SharedLog;
-use gt_commands::{Format, Invocation, plan};
+use gt_commands::{Format, Invocation, plan, with_long_flags};
 use gt_dump::Asked;
+use gt_explore::{Asked as Searched, explore};
 use gt_run::{Flags, Gate, RunFault};
 use gt_streams::WriteFault;
 use gt_types::DomId;
@@ -35,6 +39,10 @@ pub enum Work<'w> {
     Play {
         audit: bool,
         format: Format,
+    },
+    /// The texts are told that the script may give.
+    Explore {
+        asked: Searched<'w>,
     },
     /// What the policy allows is listed.
     List {
@@ -64,14 +72,21 @@ fn perform<R: Read, W: Write>(
     work: Work,
     reader: &mut R,
     out: &mut W,
+    reasons: &mut Reasons,
 ) -> Result<bool, Failure>
     ensures { OfInput (R.remaining reader.old) (λ input.
         Performs work.entry input (W.contents out.old) (W.contents out.new) result) }
 {
     match work {
-        Work::Play { audit, format } => match play_as(alloc, format, audit, reader, out) {
+        Work::Play { audit, format } => match play_told(
+            alloc, format, audit, reader, out, reasons,
+        ) {
             Ok(()) => Ok(true),
             Err(fault) => Err(Failure::Play(fault)),
+        },
+        Work::Explore { asked } => match explore(alloc, &asked, reader, out) {
+            Ok(is_any) => Ok(is_any),
+            Err(fault) => Err(Failure::Explore(fault)),
         },
         Work::List { format } => match list_as(alloc, format, reader, out) {
             Ok(()) => Ok(true),
@@ -101,16 +116,20 @@ fn perform_on<T: Texts, W: Write>(
     work: Work,
     name: Option<&str>,
     out: &mut W,
+    reasons: &mut Reasons,
 ) -> Result<bool, Failure>
     ensures { IfSome (known_text (T.file texts.now) (T.input texts.now) (option_map (λ f. f.now) name.entry))
         (λ input. Does (Performs work.entry) input (W.contents out.old) (W.contents out.new) result) }
 {
     let Some(name) = name else {
-        return perform(alloc, work, &mut texts.input(), out);
+        return perform(alloc, work, &mut texts.input(), out, reasons);
     };
     match texts.open(name) {
-        Ok(mut file) => perform(alloc, work, &mut file, out),
-        Err(fault) => Err(Failure::File(fault)),
+        Ok(mut file) => perform(alloc, work, &mut file, out, reasons),
+        Err(error) => {
+            reasons.add_unread(&error);
+            Err(Failure::File(read_fault(&error)))
+        }
     }
 }
 
@@ -162,14 +181,15 @@ fn run_logged<R: Threads + Wait + Sync, I: Read, W: Write, G: Gate + Sync>(
     out: &mut W,
     log: &SharedLog,
     gate: &G,
+    reasons: &mut Reasons,
 ) -> Result<(), RunFault>
     ensures { OfInput (I.remaining reader.old) (λ input.
         RanAs format audit input (W.contents out.old) (W.contents out.new) result) }
 {
     if audit {
-        run_as(rt, alloc, format, reader, out, Some(log), gate)
+        run_told(rt, alloc, format, reader, out, Some(log), gate, reasons)
     } else {
-        run_as(rt, alloc, format, reader, out, None, gate)
+        run_told(rt, alloc, format, reader, out, None, gate, reasons)
     }
 }
 
@@ -182,6 +202,7 @@ fn run_script<R: Threads + Wait + Sync, I: Read, W: Write>(
     audit: bool,
     reader: &mut I,
     out: &mut W,
+    reasons: &mut Reasons,
 ) -> Result<bool, Failure>
     ensures { OfInput (I.remaining reader.old) (λ input.
         RunsDomains format audit input (W.contents out.old) (W.contents out.new) result) }
@@ -192,7 +213,7 @@ fn run_script<R: Threads + Wait + Sync, I: Read, W: Write>(
     let Ok(log) = SharedLog::new(alloc) else {
         return Err(Failure::Memory);
     };
-    match run_logged(rt, alloc, format, audit, reader, out, &log, &gate) {
+    match run_logged(rt, alloc, format, audit, reader, out, &log, &gate, reasons) {
         Ok(()) => Ok(true),
         Err(fault) => Err(Failure::Run(fault)),
     }
@@ -207,21 +228,25 @@ fn run_on<R: Threads + Wait + Sync, T: Texts, W: Write>(
     audit: bool,
     name: Option<&str>,
     out: &mut W,
+    reasons: &mut Reasons,
 ) -> Result<bool, Failure>
     ensures { IfSome (known_text (T.file texts.now) (T.input texts.now) (option_map (λ f. f.now) name.entry))
         (λ input. Does (RunsDomains format audit) input (W.contents out.old) (W.contents out.new) result) }
 {
     let Some(name) = name else {
-        return run_script(rt, alloc, format, audit, &mut texts.input(), out);
+        return run_script(rt, alloc, format, audit, &mut texts.input(), out, reasons);
     };
     match texts.open(name) {
-        Ok(mut file) => run_script(rt, alloc, format, audit, &mut file, out),
-        Err(fault) => Err(Failure::File(fault)),
+        Ok(mut file) => run_script(rt, alloc, format, audit, &mut file, out, reasons),
+        Err(error) => {
+            reasons.add_unread(&error);
+            Err(Failure::File(read_fault(&error)))
+        }
     }
 }
 
 // The name that lines begin with.
-fn shown_name<'a>(name: Option<&'a str>) -> &'a str
+pub(crate) fn shown_name<'a>(name: Option<&'a str>) -> &'a str
     ensures { result.now ≡ shown_name (option_map (λ f. f.now) name.entry) }
 {
     match name {
@@ -248,6 +273,7 @@ fn follow<R: Threads + Wait + Sync, T: Texts, W: Write, E: Eprint>(
     invocation: Invocation,
     out: &mut W,
     err: &E,
+    reasons: &mut Reasons,
 ) -> u8
     ensures { Obeys (asked_by_plan invocation.entry) (T.file texts.now) (T.input texts.now)
         (W.contents out.old) (W.contents out.new) result }
@@ -257,22 +283,39 @@ fn follow<R: Threads + Wait + Sync, T: Texts, W: Write, E: Eprint>(
             audit,
             format,
             file,
+            verbose: _,
         } => {
-            report(
-                err,
-                perform_on(alloc, texts, Work::Play { audit, format }, file, out),
-            )
+            let work = Work::Play { audit, format };
+            report(err, perform_on(alloc, texts, work, file, out, reasons))
         }
         Invocation::Run {
             audit,
             format,
             file,
-        } => report(err, run_on(rt, alloc, texts, format, audit, file, out)),
-        Invocation::Policy { format, file } => {
+            verbose: _,
+        } => {
             report(
                 err,
-                perform_on(alloc, texts, Work::List { format }, file, out),
+                run_on(rt, alloc, texts, format, audit, file, out, reasons),
             )
+        }
+        Invocation::Explore {
+            find,
+            witness,
+            states,
+            file,
+        } => {
+            let asked = Searched {
+                find,
+                witness,
+                states,
+            };
+            let work = Work::Explore { asked };
+            report(err, perform_on(alloc, texts, work, file, out, reasons))
+        }
+        Invocation::Policy { format, file } => {
+            let work = Work::List { format };
+            report(err, perform_on(alloc, texts, work, file, out, reasons))
         }
         Invocation::Rules { rule } => tell_rules(out, err, rule),
         Invocation::Check {
@@ -286,7 +329,7 @@ fn follow<R: Threads + Wait + Sync, T: Texts, W: Write, E: Eprint>(
                 file: shown_name(file),
                 json,
             };
-            report(err, perform_on(alloc, texts, work, file, out))
+            report(err, perform_on(alloc, texts, work, file, out, reasons))
         }
         Invocation::Why {
             source,
@@ -303,7 +346,7 @@ fn follow<R: Threads + Wait + Sync, T: Texts, W: Write, E: Eprint>(
                 file: shown_name(file),
                 question,
             };
-            report(err, perform_on(alloc, texts, work, file, out))
+            report(err, perform_on(alloc, texts, work, file, out, reasons))
         }
         Invocation::Entries {
             version,
@@ -319,21 +362,14 @@ fn follow<R: Threads + Wait + Sync, T: Texts, W: Write, E: Eprint>(
                 all,
                 script: domain(script),
             };
-            report(
-                err,
-                perform_on(alloc, texts, Work::Entries { asked, format }, file, out),
-            )
+            let work = Work::Entries { asked, format };
+            report(err, perform_on(alloc, texts, work, file, out, reasons))
         }
     }
 }
 
-/// Does what the words of a command line ask for, the program's name first, and answers the exit
-/// status. Texts, rules, help and version go to `out`; a fault goes to `err`, in one line.
-///
-/// The status is 0 for success, 1 for a fault of script, policy, dump, file, memory or thread, for a text that was not
-/// written, for a policy with an error and for a denied question, and 2 if the words ask for nothing that the program
-/// does.
-pub fn obey<R: Threads + Wait + Sync, T: Texts, W: Write, E: Eprint>(
+// Does what words with long flags ask for.
+fn obey_long<R: Threads + Wait + Sync, T: Texts, W: Write, E: Eprint>(
     rt: &R,
     alloc: Global,
     texts: &T,
@@ -345,7 +381,37 @@ pub fn obey<R: Threads + Wait + Sync, T: Texts, W: Write, E: Eprint>(
         (W.contents out.old) (W.contents out.new) result }
 {
     match plan(alloc, words) {
-        Ok(invocation) => follow(rt, alloc, texts, invocation, out, err),
+        Ok(invocation) => {
+            let mut reasons = Reasons::of(alloc, &invocation);
+            let status = follow(rt, alloc, texts, invocation, out, err, &mut reasons);
+            reasons.tell(err);
+            status
+        }
         Err(error) => refuse(out, err, &error),
+    }
+}
+
+/// Does what the words of a command line ask for, the program's name first, and answers the exit
+/// status. Texts, rules, help and version go to `out`; a fault goes to `err`, in one line, and if they are asked for,
+/// its reasons after it.
+///
+/// The status is 0 for success, 1 for a fault of script, policy, dump, file, memory or thread, for a text that was not
+/// written, for a policy with an error, for a denied question and for a word that no text has, and 2 if the words ask
+/// for nothing that the program does.
+#[tactic(auto, using(crate::proofs::Obeyed::obeyed_long, crate::proofs::Obeyed::without_memory))]
+pub fn obey<R: Threads + Wait + Sync, T: Texts, W: Write, E: Eprint>(
+    rt: &R,
+    alloc: Global,
+    texts: &T,
+    words: &[String],
+    out: &mut W,
+    err: &E,
+) -> u8
+    ensures { Obeys (request_in_words (drop 1 (with_long_flags (map string_bytes words.now))))
+        (T.file texts.now) (T.input texts.now) (W.contents out.old) (W.contents out.new) result }
+{
+    match with_long_flags(alloc, words) {
+        Ok(words) => obey_long(rt, alloc, texts, words.as_slice(), out, err),
+        Err(_) => report(err, Err(Failure::Memory)),
     }
 }

@@ -2,7 +2,6 @@
 use crate::failure::Failure;
 use crate::obeying::{obey, report};
 use crate::texts::Texts;
-use gt_streams::ReadFault;
 use std::alloc::Global;
 use std::fs::File;
 use std::io::{self, ErrorKind};
@@ -21,12 +20,8 @@ impl<'r, R: Runtime> Texts for System<'r, R> {
 
     type Input = R::Reader;
 
-    fn open(&self, name: &str) -> Result<R::File, ReadFault> {
-        match File::open(self.rt, name) {
-            Ok(file) => Ok(file),
-            Err(error) if error.kind() == ErrorKind::OutOfMemory => Err(ReadFault::Memory),
-            Err(_) => Err(ReadFault::Read),
-        }
+    fn open(&self, name: &str) -> io::Result<R::File> {
+        File::open(self.rt, name)
     }
 
     fn input(&self) -> R::Reader {

@@ -1,6 +1,6 @@
 //! If the texts are.
 use gt_streams::ReadFault;
-use std::io::Read;
+use std::io::{self, ErrorKind, Read};
 
 /// If the texts are that commands work on: files by their names, and the standard input. An
 /// implementation may promise the bytes of some of them; a contract then speaks of those.
@@ -19,10 +19,19 @@ pub trait Texts {
     ghost input: { Self → Option (List ℕ) } = { λ _. None };
 
     /// The file of this name, from its beginning.
-    fn open(&self, name: &str) -> Result<Self::File, ReadFault>
+    fn open(&self, name: &str) -> io::Result<Self::File>
         ensures { IfOk result (λ f. IfSome (file self.now name.now) (λ all. Self.File.remaining f ≡ Some all)) };
 
     /// The standard input.
     fn input(&self) -> Self::Input
         ensures { IfSome (input self.now) (λ all. Self.Input.remaining result ≡ Some all) };
+}
+
+/// What the error is called of a file that was not opened.
+pub(crate) fn read_fault(error: &io::Error) -> ReadFault {
+    if error.kind() == ErrorKind::OutOfMemory {
+        ReadFault::Memory
+    } else {
+        ReadFault::Read
+    }
 }

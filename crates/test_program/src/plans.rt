@@ -1,5 +1,5 @@
 //! Command lines, and the plans made of them.
-use gt_commands::{Format, Invocation, plan};
+use gt_commands::{Format, Invocation, plan, with_long_flags};
 use std::alloc::{AllocError, Global};
 use std::test::Fail;
 
@@ -12,11 +12,12 @@ fn words_of(alloc: Global, line: &str) -> Result<Vec<String>, AllocError> {
     Ok(words)
 }
 
-const PLANS: [(&str, Invocation<'static>); 28] = [
+const PLANS: [(&str, Invocation<'static>); 34] = [
     (
         "gthost play",
         Invocation::Play {
             audit: false,
+            verbose: false,
             format: Format::Text,
             file: None,
         },
@@ -25,6 +26,7 @@ const PLANS: [(&str, Invocation<'static>); 28] = [
         "gthost play first.gt",
         Invocation::Play {
             audit: false,
+            verbose: false,
             format: Format::Text,
             file: Some("first.gt"),
         },
@@ -33,6 +35,7 @@ const PLANS: [(&str, Invocation<'static>); 28] = [
         "gthost play -",
         Invocation::Play {
             audit: false,
+            verbose: false,
             format: Format::Text,
             file: Some("-"),
         },
@@ -41,6 +44,7 @@ const PLANS: [(&str, Invocation<'static>); 28] = [
         "gthost play -- --help",
         Invocation::Play {
             audit: false,
+            verbose: false,
             format: Format::Text,
             file: Some("--help"),
         },
@@ -49,6 +53,7 @@ const PLANS: [(&str, Invocation<'static>); 28] = [
         "gthost play first.gt --",
         Invocation::Play {
             audit: false,
+            verbose: false,
             format: Format::Text,
             file: Some("first.gt"),
         },
@@ -71,6 +76,7 @@ const PLANS: [(&str, Invocation<'static>); 28] = [
         "gthost play policy",
         Invocation::Play {
             audit: false,
+            verbose: false,
             format: Format::Text,
             file: Some("policy"),
         },
@@ -79,6 +85,7 @@ const PLANS: [(&str, Invocation<'static>); 28] = [
         "gthost play --audit",
         Invocation::Play {
             audit: true,
+            verbose: false,
             format: Format::Text,
             file: None,
         },
@@ -87,6 +94,7 @@ const PLANS: [(&str, Invocation<'static>); 28] = [
         "gthost play --audit a.gt",
         Invocation::Play {
             audit: true,
+            verbose: false,
             format: Format::Text,
             file: Some("a.gt"),
         },
@@ -95,6 +103,7 @@ const PLANS: [(&str, Invocation<'static>); 28] = [
         "gthost play a.gt --audit",
         Invocation::Play {
             audit: true,
+            verbose: false,
             format: Format::Text,
             file: Some("a.gt"),
         },
@@ -103,6 +112,7 @@ const PLANS: [(&str, Invocation<'static>); 28] = [
         "gthost run a.gt",
         Invocation::Run {
             audit: false,
+            verbose: false,
             format: Format::Text,
             file: Some("a.gt"),
         },
@@ -209,6 +219,7 @@ const PLANS: [(&str, Invocation<'static>); 28] = [
         "gthost play --format json --audit a.gt",
         Invocation::Play {
             audit: true,
+            verbose: false,
             format: Format::Json,
             file: Some("a.gt"),
         },
@@ -217,6 +228,7 @@ const PLANS: [(&str, Invocation<'static>); 28] = [
         "gthost run a.gt --format=json",
         Invocation::Run {
             audit: false,
+            verbose: false,
             format: Format::Json,
             file: Some("a.gt"),
         },
@@ -247,6 +259,60 @@ const PLANS: [(&str, Invocation<'static>); 28] = [
             file: None,
         },
     ),
+    (
+        "gthost play --verbose a.gt --audit",
+        Invocation::Play {
+            audit: true,
+            verbose: true,
+            format: Format::Text,
+            file: Some("a.gt"),
+        },
+    ),
+    (
+        "gthost run --format json --verbose",
+        Invocation::Run {
+            audit: false,
+            verbose: true,
+            format: Format::Json,
+            file: None,
+        },
+    ),
+    (
+        "gthost explore",
+        Invocation::Explore {
+            find: None,
+            witness: None,
+            states: 100_000,
+            file: None,
+        },
+    ),
+    (
+        "gthost explore --find N18 --states 500 a.gt",
+        Invocation::Explore {
+            find: Some("N18"),
+            witness: None,
+            states: 500,
+            file: Some("a.gt"),
+        },
+    ),
+    (
+        "gthost explore a.gt --witness=3",
+        Invocation::Explore {
+            find: None,
+            witness: Some(3),
+            states: 100_000,
+            file: Some("a.gt"),
+        },
+    ),
+    (
+        "gthost explore --states=18446744073709551615 --witness +0",
+        Invocation::Explore {
+            find: None,
+            witness: Some(0),
+            states: usize::MAX,
+            file: None,
+        },
+    ),
 ];
 
 #[test]
@@ -263,7 +329,7 @@ fn a_line_is_planned_as_it_asks(rt: HostRuntime) -> Result<(), Fail> {
 }
 
 // Lines that are no plan, and whether they are faults.
-const REFUSED: [(&str, bool); 40] = [
+const REFUSED: [(&str, bool); 54] = [
     ("gthost --help", false),
     ("gthost --version", false),
     ("gthost -h", false),
@@ -304,6 +370,20 @@ const REFUSED: [(&str, bool); 40] = [
     ("gthost entries --version 1 --script=-1", true),
     ("gthost entries --version 1 -V", true),
     ("gthost entries -h", false),
+    ("gthost play --verbose --verbose", true),
+    ("gthost run --verbose=yes", true),
+    ("gthost policy --verbose", true),
+    ("gthost explore -h", false),
+    ("gthost explore a.gt b.gt", true),
+    ("gthost explore --audit", true),
+    ("gthost explore --find", true),
+    ("gthost explore --find N19 --find N18", true),
+    ("gthost explore --find N19 --witness 1", true),
+    ("gthost explore --witness one", true),
+    ("gthost explore --witness=-1", true),
+    ("gthost explore --states", true),
+    ("gthost explore --states 1e5", true),
+    ("gthost explore --states 18446744073709551616", true),
 ];
 
 #[test]
@@ -315,6 +395,27 @@ fn help_is_no_fault(rt: HostRuntime) -> Result<(), Fail> {
             Ok(_) => assert!(rt; false),
             Err(error) => assert_eq!(rt; error.use_stderr(), is_fault),
         }
+    }
+    Ok(())
+}
+
+// Lines, and the same with their long flags.
+const SPELLED: [(&str, &str); 5] = [
+    ("gthost play -v a.gt", "gthost play --verbose a.gt"),
+    ("gthost -v run -v", "gthost --verbose run --verbose"),
+    ("gthost play -v -- -v", "gthost play --verbose -- -v"),
+    ("gthost play -vv -V -", "gthost play -vv -V -"),
+    ("gthost rules", "gthost rules"),
+];
+
+#[test]
+fn a_letter_is_a_long_flag_before_the_mark(rt: HostRuntime) -> Result<(), Fail> {
+    let alloc = rt.alloc();
+    for (line, wanted) in SPELLED {
+        let words = words_of(alloc, line)?;
+        let wanted = words_of(alloc, wanted)?;
+        let spelled = with_long_flags(alloc, words.as_slice())?;
+        assert!(rt; spelled == wanted);
     }
     Ok(())
 }

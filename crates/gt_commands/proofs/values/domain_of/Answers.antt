@@ -1,8 +1,9 @@
-use Rattle.gt_commands.proofs.Planned.{domain_is, no_domain}
+use Rattle.std.proofs.Common.{arith}
+use Rattle.gt_commands.proofs.Planned.{number_is, no_number}
 use Rattle.gt_commands.proofs.values.domain_of.Goals as goal
 
 pub returns-in-Ok : goal.returns-in-Ok
-returns-in-Ok c = domain_is c.args.word.now _ c.in-Ok.ensures.value.0
+returns-in-Ok c = number_is 65535 (omega arith) c.args.word.now _ c.in-Ok.ensures.value.0
 
 pub returns-in-Err : goal.returns-in-Err
-returns-in-Err c = no_domain c.args.word.now c.in-Err.ensures.value.0
+returns-in-Err c = no_number 65535 (omega arith) c.args.word.now c.in-Err.ensures.value.0

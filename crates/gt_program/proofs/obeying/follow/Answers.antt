@@ -1,6 +1,11 @@
 use Rattle.std.proofs.Common.{refl}
-use Rattle.gt_program.proofs.Obeyed.{answered, as_planned, told}
+use Rattle.gt_program.proofs.Obeyed.{answered, as_planned, sought, told}
 use Rattle.gt_program.proofs.obeying.follow.Goals as goal
+
+pub returns-in-Explore : goal.returns-in-Explore
+returns-in-Explore g c =
+    as_planned _ _ _ _ _ _ _ c.in-Explore.is
+    (sought _ _ _ _ _ _ _ c.perform_on-in-Explore.result _ (refl, refl, refl) c.perform_on-in-Explore.ensures c.report-in-Explore.ensures)
 
 pub returns-in-Why : goal.returns-in-Why
 returns-in-Why g c =

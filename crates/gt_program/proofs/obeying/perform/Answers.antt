@@ -4,6 +4,12 @@ use Rattle.gt_program.proofs.obeying.perform.Goals as goal
 pub returns-in-Ok : goal.returns-in-Ok
 returns-in-Ok g c = for_work _ _ _ _ _ _ c.in-Play.is c.in-Ok.ensures
 
+pub returns-in-Ok-explore : goal.returns-in-Ok-explore
+returns-in-Ok-explore g c = for_work _ _ _ _ _ _ c.in-Explore.is c.in-Ok-explore.ensures.text
+
+pub returns-in-Err-explore : goal.returns-in-Err-explore
+returns-in-Err-explore g c = for_work _ _ _ _ _ _ c.in-Explore.is c.in-Err-explore.ensures.text
+
 pub returns-in-Ok-list_as : goal.returns-in-Ok-list_as
 returns-in-Ok-list_as g c = for_work _ _ _ _ _ _ c.in-List.is c.in-Ok-list_as.ensures
 

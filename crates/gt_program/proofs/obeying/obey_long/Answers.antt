@@ -1,5 +1,5 @@
 use Rattle.gt_program.proofs.Obeyed.{done, refused}
-use Rattle.gt_program.proofs.obeying.obey.Goals as goal
+use Rattle.gt_program.proofs.obeying.obey_long.Goals as goal
 
 pub returns-in-Ok : goal.returns-in-Ok
 returns-in-Ok g c = done _ _ _ _ _ c.in-Ok.invocation _ c.in-Ok.ensures.answers c.follow.ensures

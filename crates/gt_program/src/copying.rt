@@ -1,0 +1,104 @@
+//! Readers and writers that keep what goes through them.
+use std::alloc::Global;
+use std::io::{self, Read, Write};
+
+/// The bytes that went through, as long as there was memory for them, and why the last read or write failed.
+#[derive(Drop)]
+pub(crate) struct Kept {
+    bytes: Vec<u8>,
+    is_whole: bool,
+    fault: Vec<u8>,
+}
+
+impl Kept {
+    fn new(alloc: Global) -> Kept {
+        Kept {
+            bytes: Vec::new(alloc),
+            is_whole: true,
+            fault: Vec::new(alloc),
+        }
+    }
+
+    /// All bytes; none if memory was refused for some.
+    pub(crate) fn bytes(&self) -> Option<&[u8]> {
+        if self.is_whole {
+            Some(self.bytes.as_slice())
+        } else {
+            None
+        }
+    }
+
+    /// Why the last read or write failed, in the system's words; nothing if none did.
+    pub(crate) fn fault(&self) -> &[u8] {
+        self.fault.as_slice()
+    }
+
+    fn keep(&mut self, bytes: &[u8]) {
+        if self.bytes.extend_from_slice(bytes).is_err() {
+            self.is_whole = false;
+        }
+    }
+
+    fn keep_fault(&mut self, error: &io::Error) {
+        self.fault.clear();
+        let _ = write!(self.fault, "{error}");
+    }
+}
+
+/// A reader or a writer, and what went through it.
+#[derive(Drop)]
+pub(crate) struct Copied<S> {
+    inner: S,
+    pub(crate) kept: Kept,
+}
+
+impl<S> Copied<S> {
+    ghost use Rattle.std.specs.Prelude.{◌≡◌};
+
+    pub(crate) fn new(alloc: Global, inner: S) -> Copied<S>
+        ensures { result.inner ≡ inner }
+    {
+        Copied {
+            inner,
+            kept: Kept::new(alloc),
+        }
+    }
+}
+
+impl<R: Read> Read for Copied<R> {
+    ghost remaining = { λ c. R.remaining c.inner };
+
+    fn read(&mut self, buf: &mut [u8]) -> io::Result<usize> {
+        match self.inner.read(buf) {
+            Ok(count) => {
+                self.kept.keep(&buf[..count]);
+                Ok(count)
+            }
+            Err(error) => {
+                self.kept.keep_fault(&error);
+                Err(error)
+            }
+        }
+    }
+}
+
+impl<W: Write> Write for Copied<W> {
+    ghost contents = { λ c. W.contents c.inner };
+
+    fn write(&mut self, buf: &[u8]) -> io::Result<usize> {
+        match self.inner.write(buf) {
+            Ok(count) => {
+                self.kept.keep(&buf[..count]);
+                Ok(count)
+            }
+            Err(error) => {
+                self.kept.keep_fault(&error);
+                Err(error)
+            }
+        }
+    }
+
+    fn flush(&mut self) -> io::Result<()> {
+        self.inner.flush()
+    }
+}

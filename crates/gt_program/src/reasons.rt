@@ -1,0 +1,118 @@
+//! Reasons, told after the line of a fault.
+use crate::copying::Kept;
+use crate::obeying::shown_name;
+use gt_commands::Invocation;
+use gt_host::PlayFault;
+use gt_reasons::{push_block_reason, push_read_reason, push_refusals, push_script_reason};
+use std::alloc::{AllocError, Global};
+use std::io;
+
+/// The reasons of a command that are to be told: none if it does not ask for them.
+#[derive(Drop)]
+pub(crate) struct Reasons<'a> {
+    alloc: Global,
+    // The name that their lines begin with, if they are asked for.
+    file: Option<&'a str>,
+    text: Vec<u8>,
+}
+
+// The name that reasons begin with, if they are asked for.
+fn named<'a>(verbose: bool, file: Option<&'a str>) -> Option<&'a str> {
+    if verbose {
+        Some(shown_name(file))
+    } else {
+        None
+    }
+}
+
+// Why the script of these bytes was refused; or the rules that come near, if it was played and this is its text.
+fn reasons_of(
+    alloc: Global,
+    file: &str,
+    input: &Kept,
+    text: &Kept,
+    fault: Option<&PlayFault>,
+) -> Result<Vec<u8>, AllocError> {
+    let mut said = Vec::new(alloc);
+    let Some(bytes) = input.bytes() else {
+        return Ok(said);
+    };
+    match fault {
+        None => {
+            if let Some(text) = text.bytes() {
+                push_refusals(alloc, &mut said, file, bytes, text)?;
+            }
+        }
+        Some(PlayFault::Script(fault)) => {
+            push_script_reason(alloc, &mut said, file, bytes, fault)?;
+        }
+        Some(PlayFault::Policy(fault)) => {
+            push_block_reason(alloc, &mut said, file, bytes, fault)?;
+        }
+        Some(PlayFault::Read) => push_read_reason(&mut said, file, input.fault())?,
+        Some(PlayFault::Memory | PlayFault::Write) => {}
+    }
+    Ok(said)
+}
+
+// Why a file was not opened.
+fn unread(alloc: Global, file: &str, error: &io::Error) -> Result<Vec<u8>, AllocError> {
+    let mut said = Vec::new(alloc);
+    let words = format!(in alloc; "{error}")?;
+    push_read_reason(&mut said, file, words.as_bytes())?;
+    Ok(said)
+}
+
+impl<'a> Reasons<'a> {
+    /// The reasons of what is asked for; none yet.
+    pub(crate) fn of(alloc: Global, invocation: &Invocation<'a>) -> Reasons<'a> {
+        let file = match invocation {
+            Invocation::Play { verbose, file, .. } => named(*verbose, *file),
+            Invocation::Run { verbose, file, .. } => named(*verbose, *file),
+            _ => None,
+        };
+        Reasons {
+            alloc,
+            file,
+            text: Vec::new(alloc),
+        }
+    }
+
+    /// Whether they are asked for.
+    pub(crate) fn are_asked(&self) -> bool {
+        self.file.is_some()
+    }
+
+    // Adds lines; nothing if there was no memory for them.
+    fn add(&mut self, said: Result<Vec<u8>, AllocError>) {
+        if let Ok(said) = said {
+            let _ = self.text.extend_from_slice(said.as_slice());
+        }
+    }
+
+    /// Adds those of a script that was read and gave this text, or ended with this fault.
+    pub(crate) fn add_script(&mut self, input: &Kept, text: &Kept, fault: Option<&PlayFault>) {
+        if let Some(file) = self.file {
+            let said = reasons_of(self.alloc, file, input, text, fault);
+            self.add(said);
+        }
+    }
+
+    /// Adds why the file was not opened.
+    pub(crate) fn add_unread(&mut self, error: &io::Error) {
+        if let Some(file) = self.file {
+            let said = unread(self.alloc, file, error);
+            self.add(said);
+        }
+    }
+
+    /// Tells them.
+    pub(crate) fn tell<E: Eprint>(&self, err: &E) {
+        if self.text.is_empty() {
+            return;
+        }
+        if let Ok(text) = String::from_utf8_lossy(self.alloc, self.text.as_slice()) {
+            let _ = err.eprint(text);
+        }
+    }
+}
