@@ -27,15 +27,15 @@ command_name Entries = codes "entries"
 abbrev pub one : Text → List Text
 one name = name ∷ []
 
--- `[FILE]` (own)
+-- `[FILE]`
 abbrev pub file_usage : Usage
 file_usage = record { flags = []; options = []; words = one (codes "file"); needed = [] }
 
--- what the commands take that run a script (own)
+-- what the commands take that run a script
 abbrev pub runner_usage : Usage
 runner_usage = record file_usage { flags = codes "audit" ∷ codes "verbose" ∷ []; options = one (codes "format") }
 
--- what each command takes (own)
+-- what each command takes
 abbrev pub usage_of : Mode → Usage
 usage_of Play = runner_usage
 usage_of Run = runner_usage
@@ -58,27 +58,27 @@ every_mode = Play ∷ Run ∷ Explore ∷ Policy ∷ Rules ∷ Check ∷ Why ∷
 
 -- ---- the program, as the parser of command lines takes it
 
--- gthost with no command, and with a version (own)
+-- gthost with no command, and with a version
 abbrev pub bare_app : App
 bare_app = on_top (λ s. record s { has_version = true; subcommand_required = true; disable_help_subcommand = true })
     (new_app (codes "gthost"))
 
--- a command of the program (own)
+-- a command of the program
 abbrev pub mode_app : Mode → App
 mode_app mode = command_app (command_name mode) (usage_of mode)
 
 abbrev pub with_mode : App → Mode → App
 with_mode app mode = with_subcommand app (mode_app mode).top
 
--- the commands that run a script (own)
+-- the commands that run a script
 abbrev pub runners_app : App
 runners_app = with_mode (with_mode (with_mode bare_app Play) Run) Explore
 
--- those and the lists of what a policy allows, and of the rules (own)
+-- those and the lists of what a policy allows, and of the rules
 abbrev pub listers_app : App
 listers_app = with_mode (with_mode runners_app Policy) Rules
 
--- gthost COMMAND; there is no command `help` (own)
+-- gthost COMMAND; there is no command `help`
 abbrev pub gthost_app : App
 gthost_app = with_mode (with_mode (with_mode listers_app Check) Why) Entries
 
@@ -86,7 +86,7 @@ gthost_app = with_mode (with_mode (with_mode listers_app Check) Why) Entries
 
 -- to play a script, to run one, to explore one, to list a policy, to tell the rules, to check a policy or a script, to
 -- say why a policy allows something, or to tell the entries of a dump: with the options and the FILE, none for standard
--- input; help; the version; or nothing that the program does (own)
+-- input; help; the version; or nothing that the program does
 pub data Request : Type 0 where
   to_play : Bool → Bool → Format → Option Text → Request
   to_run : Bool → Bool → Format → Option Text → Request
@@ -100,42 +100,42 @@ pub data Request : Type 0 where
   for_version : Request
   nothing : Request
 
--- `--format text` or `--format json`; text where it is left out (own)
+-- `--format text` or `--format json`; text where it is left out
 abbrev pub format_of : Option Text → Option Format
 format_of None = Some Plain
 format_of (Some word) = if bytes_eq word (codes "text") then Some Plain
     else (if bytes_eq word (codes "json") then Some Json else None)
 
--- a type by its name; `-` is any type (own)
+-- a type by its name; `-` is any type
 abbrev pub type_of : Option Text → Option Text
 type_of None = None
 type_of (Some word) = if bytes_eq word (codes "-") then None else Some word
 
--- `--version 1` or `--version 2` (own)
+-- `--version 1` or `--version 2`
 abbrev pub version_of : Option Text → Option ℕ
 version_of None = None
 version_of (Some word) = if bytes_eq word (codes "1") then Some 1
     else (if bytes_eq word (codes "2") then Some 2 else None)
 
--- a number up to this one, as `parse` of an unsigned number of Rust reads it (own)
+-- a number up to this one, as `parse` of an unsigned number of Rust reads it
 abbrev pub number_up_to : ℕ → Text → Option ℕ
 number_up_to most word = if is_unsigned_in 0 most word then Some (digits_value 10 (without_leading_plus word)) else None
 
--- the number of a domain, below 65,536 (own)
+-- the number of a domain, below 65,536
 abbrev pub domain_number : Text → Option ℕ
 domain_number word = number_up_to 65535 word
 
--- `--script DOM`, where it is given (own)
+-- `--script DOM`, where it is given
 abbrev pub script_of : Option Text → Option (Option ℕ)
 script_of None = Some None
 script_of (Some word) = option_map (λ n. Some n) (domain_number word)
 
--- `--witness N`, a number of 64 bits, where it is given (own)
+-- `--witness N`, a number of 64 bits, where it is given
 abbrev pub witness_of : Option Text → Option (Option ℕ)
 witness_of None = Some None
 witness_of (Some word) = option_map (λ n. Some n) (number_up_to 18446744073709551615 word)
 
--- `--states N`; 100,000 where it is left out (own)
+-- `--states N`; 100,000 where it is left out
 abbrev pub states_of : Option Text → Option ℕ
 states_of None = Some 100000
 states_of (Some word) = number_up_to 18446744073709551615 word
@@ -148,7 +148,7 @@ abbrev pub run_with : Option Format → Bool → Bool → Option Text → Reques
 run_with None audit verbose file = nothing
 run_with (Some format) audit verbose file = to_run audit verbose format file
 
--- not both the texts with a word and the script for one of them (own)
+-- not both the texts with a word and the script for one of them
 abbrev pub explore_by : Option Text → Option ℕ → ℕ → Option Text → Request
 explore_by None witness states file = to_explore None witness states file
 explore_by (Some word) None states file = to_explore (Some word) None states file
@@ -178,7 +178,7 @@ entries_with (Some version) (Some script) None hex every file = nothing
 entries_with (Some version) (Some script) (Some format) hex every file =
     to_tell_entries version hex every script format file
 
--- what a command asks for, by the values that were given: nothing where one of them is none that it takes (own)
+-- what a command asks for, by the values that were given: nothing where one of them is none that it takes
 abbrev pub read : Mode → (Text → Option Text) → Request
 read Play value = play_with (format_of (value (codes "format"))) (is_true (value (codes "audit")))
     (is_true (value (codes "verbose"))) (value (codes "file"))
@@ -200,13 +200,13 @@ asked_of mode (gives given) = read mode (value_of given)
 asked_of mode asks_help = for_help
 asked_of mode wrong = nothing
 
--- `--help` or `--version`, with no value attached (own)
+-- `--help` or `--version`, with no value attached
 abbrev pub asked_of_long : Text → Option Text → Request
 asked_of_long name None = if bytes_eq (codes "help") name then for_help
     else (if bytes_eq (codes "version") name then for_version else nothing)
 asked_of_long name (Some value) = nothing
 
--- what a first word that is no command asks for: help for `h`, the version for `V` (own)
+-- what a first word that is no command asks for: help for `h`, the version for `V`
 abbrev pub asked_of_none : Word → Request
 asked_of_none mark = nothing
 asked_of_none (long name value) = asked_of_long name value
@@ -221,14 +221,14 @@ abbrev pub request_by : Option Mode → Text → List Text → Request
 request_by (Some mode) word rest = asked_of mode (line (usage_of mode) rest)
 request_by None word rest = asked_of_none (usage_word word)
 
--- what the words after the program's name ask for (own)
+-- what the words after the program's name ask for
 abbrev pub request_in_words : List Text → Request
 request_in_words [] = nothing
 request_in_words (word ∷ rest) = request_by (mode_of word) word rest
 
 -- ---- what is answered
 
--- the kinds of error that answer it, beside refused memory (own)
+-- the kinds of error that answer it, beside refused memory
 abbrev pub refusals : Request → Kinds
 refusals for_help = DisplayHelp ∷ []
 refusals for_version = DisplayVersion ∷ []
@@ -236,7 +236,7 @@ refusals nothing = UnknownArgument ∷ InvalidSubcommand ∷ MissingSubcommand �
     ∷ InvalidValue ∷ MissingRequiredArgument ∷ []
 refusals _ = []
 
--- what a plan asks for (own)
+-- what a plan asks for
 abbrev pub asked_by_plan : Invocation → Request
 asked_by_plan (plans.Play audit verbose format file) = to_play audit verbose format (option_map (λ f. f.now) file)
 asked_by_plan (plans.Run audit verbose format file) = to_run audit verbose format (option_map (λ f. f.now) file)
@@ -250,16 +250,16 @@ asked_by_plan (plans.Why source target permission file) = to_explain (option_map
 asked_by_plan (plans.Entries version hex every script format file) =
     to_tell_entries version hex every script format (option_map (λ f. f.now) file)
 
--- what a plan asks for, and nothing where there is none (own)
+-- what a plan asks for, and nothing where there is none
 abbrev pub asked_by_some : Option Invocation → Request
 asked_by_some None = nothing
 asked_by_some (Some p) = asked_by_plan p
 
--- the plan asks for that, or the error fits it; a line that asks for a command is refused only where memory is (own)
+-- the plan asks for that, or the error fits it; a line that asks for a command is refused only where memory is
 abbrev pub IsInvocationOf : Request → Result Invocation Error → Type 0
 IsInvocationOf request r = MatchResult r (λ p. asked_by_plan p ≡ request) (HasKind (refusals request))
 
--- what the command of a name asks for by the rows of its matches (own)
+-- what the command of a name asks for by the rows of its matches
 abbrev pub asked_with : Option Mode → (Text → Option Text) → Request
 asked_with None value = nothing
 asked_with (Some mode) value = read mode value
@@ -267,7 +267,7 @@ asked_with (Some mode) value = read mode value
 abbrev pub asked_named : Text → List Row → Request
 asked_named name rows = asked_with (mode_of name) (λ id. first_of id rows)
 
--- the plan is what the subcommand asks for that the words name, by its matches (own)
+-- the plan is what the subcommand asks for that the words name, by its matches
 abbrev pub IsPlanOf : Invocation → Option (Text × List Row) → Type 0
 IsPlanOf p None = ⊥
 IsPlanOf p (Some (name, rows)) = asked_by_plan p ≡ asked_named name rows

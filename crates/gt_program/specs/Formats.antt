@@ -18,27 +18,27 @@ use Rattle.gt_script.specs.RunScripts.{RunTells}
 use Rattle.gt_script.specs.Script.{TellsScript}
 use Rattle.std.specs.Prelude.{Option}
 
--- what `play` writes (own)
+-- what `play` writes
 abbrev pub PlayedAs : Format → Bool → List ℕ → Promise PlayFault
 PlayedAs Text audited input = Played (TellsScript input) audited
 PlayedAs Json audited input = PlayedAsJson input audited
 
--- what `run` writes (own)
+-- what `run` writes
 abbrev pub RanAs : Format → Bool → List ℕ → Promise RunFault
 RanAs Text audited input = Ran audited (RunTells input)
 RanAs Json audited input = RanAsJson input audited
 
--- what `policy` writes (own)
+-- what `policy` writes
 abbrev pub ListedAs : Format → List ℕ → Promise ListingFault
 ListedAs Text input = Listed input
 ListedAs Json input = ListedAsJson input
 
--- what `entries` writes (own)
+-- what `entries` writes
 abbrev pub ToldAs : Format → Asked → List ℕ → Promise DumpFault
 ToldAs Text asked input = Told asked input
 ToldAs Json asked input = ToldAsJson asked input
 
--- what `check` writes of a policy, or of a script (own)
+-- what `check` writes of a policy, or of a script
 abbrev pub CheckedAs : Bool → List ℕ → Option (List ℕ) → Option (List ℕ) → Result Bool ListingFault → Type 0
 CheckedAs false input = Checked input
 CheckedAs true input = CheckedScript input

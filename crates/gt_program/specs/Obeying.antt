@@ -11,7 +11,7 @@ use Rattle.gt_program.specs.Formats.{CheckedAs, ListedAs, PlayedAs, RanAs, ToldA
 use Rattle.gt_program.specs.declared.failure.Failure.TheVariants as failures
 use Rattle.gt_program.specs.declared.obeying.Work.TheVariants as works
 
--- the line for a failure (own)
+-- the line for a failure
 abbrev pub failure_text : Failure → List ℕ
 failure_text (failures.Play fault) = codes "gthost: " ++ play_fault_text fault
 failure_text (failures.Run fault) = codes "gthost: " ++ run_fault_text fault
@@ -23,17 +23,17 @@ failure_text (failures.File fault) = codes "gthost: " ++ read_word fault
 failure_text (failures.Help fault) = codes "gthost: write"
 failure_text failures.Memory = codes "gthost: memory"
 
--- how a command ended: done, with a good answer or not, or with a failure (own)
+-- how a command ended: done, with a good answer or not, or with a failure
 abbrev pub Ending : Type 0
 Ending = Result Bool Failure
 
--- the exit status: 0 for a good answer, 1 for another and for a failure (own)
+-- the exit status: 0 for a good answer, 1 for another and for a failure
 abbrev pub exit_status_of : Ending → ℕ
 exit_status_of (Ok true) = 0
 exit_status_of (Ok false) = 1
 exit_status_of (Err failure) = 1
 
--- what a command wrote that ended so, where these are the bytes of its text (own)
+-- what a command wrote that ended so, where these are the bytes of its text
 abbrev pub Doing : Type 1
 Doing = List ℕ → Option (List ℕ) → Option (List ℕ) → Ending → Type 0
 
@@ -43,7 +43,7 @@ Plays format audited input old new (Ok false) = ⊥
 Plays format audited input old new (Err (failures.Play fault)) = PlayedAs format audited input old new (Err fault)
 Plays format audited input old new (Err failure) = ⊥
 
--- nothing was written where memory was refused before the text was read (own)
+-- nothing was written where memory was refused before the text was read
 abbrev pub RunsDomains : Format → Bool → Doing
 RunsDomains format audited input old new (Ok true) = RanAs format audited input old new (Ok tt)
 RunsDomains format audited input old new (Ok false) = ⊥
@@ -51,7 +51,7 @@ RunsDomains format audited input old new (Err (failures.Run fault)) = RanAs form
 RunsDomains format audited input old new (Err failures.Memory) = Keeps old new
 RunsDomains format audited input old new (Err failure) = ⊥
 
--- a good answer is that a text is asked for (own)
+-- a good answer is that a text is asked for
 abbrev pub Searches : Searched → Doing
 Searches asked input old new (Ok answer) = Explored asked (RunTells input) old new (Ok answer)
 Searches asked input old new (Err (failures.Explore fault)) = Explored asked (RunTells input) old new (Err fault)
@@ -63,13 +63,13 @@ Lists format input old new (Ok false) = ⊥
 Lists format input old new (Err (failures.List fault)) = ListedAs format input old new (Err fault)
 Lists format input old new (Err failure) = ⊥
 
--- a good answer is that the text is a policy, or a script (own)
+-- a good answer is that the text is a policy, or a script
 abbrev pub Checks : Bool → Doing
 Checks script input old new (Ok answer) = CheckedAs script input old new (Ok answer)
 Checks script input old new (Err (failures.List fault)) = CheckedAs script input old new (Err fault)
 Checks script input old new (Err failure) = ⊥
 
--- a good answer is that it is allowed (own)
+-- a good answer is that it is allowed
 abbrev pub Explains : List ℕ → Question → Doing
 Explains file q input old new (Ok answer) = Explained file q input old new (Ok answer)
 Explains file q input old new (Err (failures.Why fault)) = Explained file q input old new (Err fault)
@@ -81,7 +81,7 @@ AnswersEntries format asked input old new (Ok false) = ⊥
 AnswersEntries format asked input old new (Err (failures.Dump fault)) = ToldAs format asked input old new (Err fault)
 AnswersEntries format asked input old new (Err failure) = ⊥
 
--- what is done with a text (own)
+-- what is done with a text
 abbrev pub Performs : Work → Doing
 Performs (works.Play audited format) = Plays format audited
 Performs (works.Explore asked) = Searches asked
@@ -90,27 +90,27 @@ Performs (works.Check script file json) = Checks script
 Performs (works.Why file question) = Explains file.now question
 Performs (works.Entries asked format) = AnswersEntries format asked
 
--- a file that was not opened: nothing was written (own)
+-- a file that was not opened: nothing was written
 abbrev pub IsUnopened : Option (List ℕ) → Option (List ℕ) → Ending → Type 0
 IsUnopened old new (Err (failures.File fault)) = Keeps old new
 IsUnopened old new r = ⊥
 
--- it was done to these bytes, or the file could not be opened (own)
+-- it was done to these bytes, or the file could not be opened
 abbrev pub Does : Doing → Doing
 Does P input old new r = P input old new r ⊎ IsUnopened old new r
 
--- the bytes that are known of the file that is named, or of the standard input where none is (own)
+-- the bytes that are known of the file that is named, or of the standard input where none is
 abbrev pub known_text : (List ℕ → Option (List ℕ)) → Option (List ℕ) → Option (List ℕ) → Option (List ℕ)
 known_text file input None = input
 known_text file input (Some name) = file name
 
--- the name that lines begin with (own)
+-- the name that lines begin with
 abbrev pub shown_name : Option (List ℕ) → List ℕ
 shown_name None = codes "<stdin>"
 shown_name (Some name) = name
 
 -- a command line that is not obeyed: the exit status is 1 where memory is refused, 0 or 1 for help and the version,
--- as they were written or not, and else 2; nothing is written but help and the version (own)
+-- as they were written or not, and else 2; nothing is written but help and the version
 pub record FitsKind (kind : ErrorKind) (old new : Option (List ℕ)) (status : ℕ) : Type 0 where
   pub memory : kind ≡ OutOfMemory → status ≡ 1
   pub help : kind ≡ DisplayHelp → status ≤ 1
@@ -119,40 +119,40 @@ pub record FitsKind (kind : ErrorKind) (old new : Option (List ℕ)) (status : �
   pub silent : (kind ≡ DisplayHelp → ⊥) → (kind ≡ DisplayVersion → ⊥) → Keeps old new
 
 -- the exit status fits what was done with the text that is named, where its bytes are
--- known; where memory is refused it is 1, and nothing was written (own)
+-- known; where memory is refused it is 1, and nothing was written
 abbrev pub Works : Doing → Option (List ℕ) → Option (List ℕ) → Option (List ℕ) → ℕ → Type 0
 Works P known old new status =
     IfSome known
     (λ bytes. (r : Ending) × (status ≡ exit_status_of r)
     × (Does P bytes old new r ⊎ ((r ≡ Err failures.Memory) × Keeps old new)))
 
--- the question asks for these names (own)
+-- the question asks for these names
 abbrev pub IsQuestion : Option (List ℕ) → Option (List ℕ) → List ℕ → Question → Type 0
 IsQuestion source target permission q =
     (source_asked q ≡ source) × (target_asked q ≡ target) × (q.perm.now ≡ permission)
 
--- what is asked of a dump (own)
+-- what is asked of a dump
 abbrev pub IsAsked : ℕ → Bool → Bool → Option ℕ → Asked → Type 0
 IsAsked version hex every script asked =
     (asked.version ≡ version) × (asked.hex ≡ hex) × (asked.all ≡ every)
     × (option_map (λ d. d.0) asked.script ≡ script)
 
--- what is asked of the texts of a script (own)
+-- what is asked of the texts of a script
 abbrev pub IsSearched : Option (List ℕ) → Option ℕ → ℕ → Searched → Type 0
 IsSearched find witness states asked =
     (word_asked asked ≡ find) × (asked.witness ≡ witness) × (asked.states ≡ states)
 
--- a question of these names is answered (own)
+-- a question of these names is answered
 abbrev pub AnswersQuestion : List ℕ → Option (List ℕ) → Option (List ℕ) → List ℕ → Doing
 AnswersQuestion file source target permission input old new r =
     (q : Question) × IsQuestion source target permission q × Explains file q input old new r
 
--- a dump is told as it is asked (own)
+-- a dump is told as it is asked
 abbrev pub AnswersDump : ℕ → Bool → Bool → Option ℕ → Format → Doing
 AnswersDump version hex every script format input old new r =
     (asked : Asked) × IsAsked version hex every script asked × AnswersEntries format asked input old new r
 
--- a script is explored as it is asked (own)
+-- a script is explored as it is asked
 abbrev pub Seeks : Option (List ℕ) → Option ℕ → ℕ → Doing
 Seeks find witness states input old new r =
     (asked : Searched) × IsSearched find witness states asked × Searches asked input old new r
@@ -162,7 +162,7 @@ Seeks find witness states input old new r =
 -- where the status is 2
 -- for the name of none, help, the version, or nothing for words that ask for nothing,
 -- whose status is 2 and for which nothing is written. Where memory is
--- refused, the status is 1 for all of them. (own)
+-- refused, the status is 1 for all of them.
 abbrev pub Obeys : Request → (List ℕ → Option (List ℕ)) → Option (List ℕ) → Option (List ℕ) → Option (List ℕ) → ℕ
     → Type 0
 Obeys (to_play audited verbose format name) file input old new status =
