@@ -4,22 +4,21 @@
 //! names them all, and `stdout` has what they must print. A script is added by its file, its name in `args` and its
 //! lines in `stdout`. A word of `args` that begins with `--` says how the scripts after it are run:
 //!
-//! - `--plain`: as it is, which is so before the first such word too.
+//! - `--plain`: as they are, and so are those before the first such word.
 //! - `--audit`: with their audit lines.
 //! - `--failing`: each read and each write fails after each count of bytes, and a line says whether all were told.
 //! - `--closed` and `--deaf`: at a gate that gives up, at once or after all its turns.
 //! - `--two-meet` and `--three-meet`: at a gate that lets domains on once so many are there.
 //! - `--told` and `--awaited`: at a gate that looks for both records of domain 2. A line says whether it found them
-//!   where a flag was raised, or where one was awaited.
-//!
-//! - `--beginnings`: each beginning of the script, from no byte to the whole, with its records and without. What it prints
-//!   stands after its count of bytes if it differs from what one byte less prints.
-//! - `--refusing`: a script of one domain is refused each request for memory in turn. Lines say how it ends, with more
+//!   each time that the second flag was raised, or where one was awaited, and how many records the log has.
+//! - `--beginnings`: each beginning of the script, from no byte to the whole, with its records and without. What it
+//!   prints stands after its count of bytes if it differs from what one byte less prints.
+//! - `--refusing`: a script of one domain is refused each request for memory in turn. Lines say how it ends with more
 //!   and more memory. No thread may have run before.
 //! - `--crowded`: with more domains than there is room for threads.
 //!
-//! After `--many` comes no name: as many domains as a run may have, with long lists that are made here, meet at a gate.
-//! Nor does one after `--long`: one domain has as many lines as a script has room for.
+//! No name comes after two more words. After `--many` as many domains as a run may have, with long lists that are made
+//! here, meet at a gate. After `--long` one domain has as many lines as a script has room for.
 #![tactic(auto)]
 
 mod beginnings;

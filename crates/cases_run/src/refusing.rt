@@ -233,7 +233,8 @@ fn next(bytes: usize, needed: usize) -> usize {
     bytes.saturating_add(PAGE).min(late)
 }
 
-// How it ends with more and more bytes, each time that this changes, to the whole.
+// How it ends with more and more bytes, to the whole: before its list each time that this changes, as the requests come
+// one after the other; from its list on each end once.
 fn ends_said<R: Threads + Wait + Sync>(
     rt: &R,
     alloc: Global,
@@ -245,7 +246,11 @@ fn ends_said<R: Threads + Wait + Sync>(
     let mut bytes = 0usize;
     for _ in 0..TRIES {
         let end = tried(rt, alloc, trial, bytes)?;
-        if end != last || bytes == 0 {
+        let is_new = match trial.place {
+            Place::BeforeTheList => end != last || bytes == 0,
+            Place::FromTheListOn => !said.contains(end.name()),
+        };
+        if is_new {
             said.push_str(" ")?;
             said.push_str(end.name())?;
             said.push(',')?;
