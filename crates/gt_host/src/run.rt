@@ -165,7 +165,7 @@ pub fn name_mapping<'a>(
     answer: &Answer,
 ) -> Result<(), AllocError>
     ensures { OnOk result ((named : List Named) → AreNamed labels.old named → AreNamed labels.new
-        (with_name named dom (option_map (λ l. l.now) label) (handle_given answer.now))) }
+        (with_name named dom (option_map (λ l. l.now) label.entry) (handle_given answer.now))) }
 {
     match (label, answer) {
         (Some(label), Answer::Mapped(handle)) => labels.name(dom, label, *handle),
