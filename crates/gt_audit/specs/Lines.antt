@@ -28,8 +28,8 @@ copy_kind_text is_reference = if is_reference then codes "gref" else codes "fram
 -- ` KIND DOM PTR OFF`
 abbrev pub end_text : DomId → Bool → End → List ℕ
 end_text caller is_reference end =
-    codes " " ++ copy_kind_text is_reference ++ codes " " ++ domain_text caller end.domid ++ codes " " ++ decimal end.ptr
-    ++ codes " " ++ decimal end.offset
+    codes " " ++ copy_kind_text is_reference ++ codes " " ++ domain_text caller end.domid ++ codes " "
+    ++ decimal end.ptr ++ codes " " ++ decimal end.offset
 
 -- `copy`, its ends, source first, its length and its flags: bit 0 is the
 -- source's kind, bit 1 the destination's (GNTCOPY of grant_table.h)

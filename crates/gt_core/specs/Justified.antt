@@ -79,7 +79,8 @@ CopyIsJustified s before d (Copy c) from to len =
     IsInFrame s from len × IsInFrame s to len × MayCopy s (resolved d c.source.domid, resolved d c.dest.domid)
     × EndIsJustified s before d (is_source_granted c) Read from len (resolved d c.source.domid)
     (from.frame.owner, resolved d c.dest.domid)
-    × EndIsJustified s before d (is_dest_granted c) Write to len (resolved d c.dest.domid) (from.frame.owner, to.frame.owner)
+    × EndIsJustified s before d (is_dest_granted c) Write to len (resolved d c.dest.domid)
+    (from.frame.owner, to.frame.owner)
 CopyIsJustified s before d request from to len = ⊥
 
 -- an access of one range is inside a frame, of the domain's own or reached by a pin, and the policy allows what its
@@ -91,9 +92,11 @@ AccessIsJustified s before d request dir at len =
 -- an access is justified, and a mapping is given up only by the unmap that asked for its handle
 abbrev pub Justified : Setting → History → DomId → Asked → Step → Type 0
 Justified s before d request (ReadBytes dom frame off len) =
-    AccessIsJustified s before d request Read (record { frame = record { owner = dom; number = frame }; off = off }) len
+    AccessIsJustified s before d request Read
+    (record { frame = record { owner = dom; number = frame }; off = off }) len
 Justified s before d request (WriteBytes dom frame off len) =
-    AccessIsJustified s before d request Write (record { frame = record { owner = dom; number = frame }; off = off }) len
+    AccessIsJustified s before d request Write
+    (record { frame = record { owner = dom; number = frame }; off = off }) len
 Justified s before d request (CopyBytes from to len) = CopyIsJustified s before d request from to len
 Justified s before d request (Unpin p (ByMapping handle)) = request ≡ Unmap handle
 Justified s before d request _ = Unit {0}

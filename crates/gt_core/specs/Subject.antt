@@ -16,5 +16,5 @@ entry_place_of held = (held.dom, held.gref)
 abbrev pub subject_at : Setting → History → DomId → Handle → Option (DomId × GrantRef)
 subject_at s h dom handle =
     if is_some (domain_of s.domains dom)
-      then option_map entry_place_of (mapping_of (mappings_at h dom.0) handle)
-      else None
+    then option_map entry_place_of (mapping_of (mappings_at h dom.0) handle)
+    else None

@@ -90,7 +90,7 @@ GivesMappingsBack dom [] held hs = (held ≡ []) × (hs ≡ [])
 GivesMappingsBack dom (handle ∷ order) held hs =
     (before : List Handle) × (after : List Handle) × (held ≡ before ++ handle ∷ after)
     × CallHappens dom (Unmap handle)
-        (λ answer more. (answer ≡ Done) × GivesMappingsBack dom order (before ++ after) more) hs
+    (λ answer more. (answer ≡ Done) × GivesMappingsBack dom order (before ++ after) more) hs
 
 -- after a call of this line the text goes on with its answer
 abbrev pub Prints : List ℕ → (List ℕ → Type 0) → List ℕ → Type 0

@@ -30,7 +30,7 @@ Continues types w named (Line line call lost) hs text =
     text) hs
 Continues types w named GivesBack hs text =
     CallGoesOn w.dom (λ answer more. (answer ≡ answers.Done)
-      × FollowsList types w.dom named w.held.items (tasks_left w) more text) hs
+    × FollowsList types w.dom named w.held.items (tasks_left w) more text) hs
 
 -- by this a domain comes from one point of its list to another: what it does from there on is,
 -- with this before it, what it does from here on, and it has printed what comes between
@@ -92,7 +92,7 @@ abbrev pub HasFollowed : RunContents → List Happening → Walker → Type 0
 HasFollowed c hs w = (named : List Named) × AreNamed w.labels named
     × ((more : List Happening) (rest : List ℕ) → Continues (type_names c.head) w named w.doing more rest
     → FollowsList (type_names c.head) w.dom [] [] (list_of c.tasks w.dom)
-        (own_happenings w.dom hs ++ more) (w.text.items ++ rest))
+    (own_happenings w.dom hs ++ more) (w.text.items ++ rest))
 
 -- the run has come this far by what happened
 pub record HasWalked (c : RunContents) (hs : List Happening) (r : Replay) : Type 0 where
