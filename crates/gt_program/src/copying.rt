@@ -1,8 +1,8 @@
-//! Readers and writers that keep what goes through them.
+//! A reader that keeps what goes through it.
 use std::alloc::Global;
 use std::io::{self, Read, Write};
 
-/// The bytes that went through, as long as there was memory for them, and why the last read or write failed.
+/// The bytes that were read, as long as there was memory for them, and why the last read failed.
 #[derive(Drop)]
 pub(crate) struct Kept {
     bytes: Vec<u8>,
@@ -28,7 +28,7 @@ impl Kept {
         }
     }
 
-    /// Why the last read or write failed, in the system's words; nothing if none did.
+    /// Why the last read failed, in the system's words; nothing if none did.
     pub(crate) fn fault(&self) -> &[u8] {
         self.fault.as_slice()
     }
@@ -45,17 +45,17 @@ impl Kept {
     }
 }
 
-/// A reader or a writer, and what went through it.
+/// A reader, and what was read from it.
 #[derive(Drop)]
-pub(crate) struct Copied<S> {
-    inner: S,
+pub(crate) struct Copied<R> {
+    inner: R,
     pub(crate) kept: Kept,
 }
 
-impl<S> Copied<S> {
+impl<R> Copied<R> {
     ghost use Rattle.std.specs.Prelude.{◌≡◌};
 
-    pub(crate) fn new(alloc: Global, inner: S) -> Copied<S>
+    pub(crate) fn new(alloc: Global, inner: R) -> Copied<R>
         ensures { result.inner ≡ inner }
     {
         Copied {
@@ -79,26 +79,5 @@ impl<R: Read> Read for Copied<R> {
                 Err(error)
             }
         }
-    }
-}
-
-impl<W: Write> Write for Copied<W> {
-    ghost contents = { λ c. W.contents c.inner };
-
-    fn write(&mut self, buf: &[u8]) -> io::Result<usize> {
-        match self.inner.write(buf) {
-            Ok(count) => {
-                self.kept.keep(&buf[..count]);
-                Ok(count)
-            }
-            Err(error) => {
-                self.kept.keep_fault(&error);
-                Err(error)
-            }
-        }
-    }
-
-    fn flush(&mut self) -> io::Result<()> {
-        self.inner.flush()
     }
 }

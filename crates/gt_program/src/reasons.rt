@@ -2,8 +2,9 @@
 use crate::copying::Kept;
 use crate::obeying::shown_name;
 use gt_commands::Invocation;
-use gt_host::PlayFault;
+use gt_host::{PlayFault, play};
 use gt_reasons::{push_block_reason, push_read_reason, push_refusals, push_script_reason};
+use gt_run::RunFault;
 use std::alloc::{AllocError, Global};
 use std::io;
 
@@ -25,32 +26,36 @@ fn named<'a>(verbose: bool, file: Option<&'a str>) -> Option<&'a str> {
     }
 }
 
-// Why the script of these bytes was refused; or the rules that come near, if it was played and this is its text.
-fn reasons_of(
+// Why the script that was read was refused.
+fn fault_reason(
     alloc: Global,
     file: &str,
     input: &Kept,
-    text: &Kept,
-    fault: Option<&PlayFault>,
+    fault: &PlayFault,
 ) -> Result<Vec<u8>, AllocError> {
     let mut said = Vec::new(alloc);
     let Some(bytes) = input.bytes() else {
         return Ok(said);
     };
     match fault {
-        None => {
-            if let Some(text) = text.bytes() {
-                push_refusals(alloc, &mut said, file, bytes, text)?;
-            }
+        PlayFault::Script(fault) => push_script_reason(alloc, &mut said, file, bytes, fault)?,
+        PlayFault::Policy(fault) => push_block_reason(alloc, &mut said, file, bytes, fault)?,
+        PlayFault::Read => push_read_reason(&mut said, file, input.fault())?,
+        PlayFault::Memory | PlayFault::Write => {}
+    }
+    Ok(said)
+}
+
+// The rules that come near what the policy refused when the script that was read was played. It is played again: there
+// is only one text.
+fn refusals(alloc: Global, file: &str, input: &Kept) -> Result<Vec<u8>, AllocError> {
+    let mut said = Vec::new(alloc);
+    let mut text = Vec::new(alloc);
+    if let Some(bytes) = input.bytes() {
+        let mut reader = bytes;
+        if play(alloc, &mut reader, &mut text, false).is_ok() {
+            push_refusals(alloc, &mut said, file, bytes, text.as_slice())?;
         }
-        Some(PlayFault::Script(fault)) => {
-            push_script_reason(alloc, &mut said, file, bytes, fault)?;
-        }
-        Some(PlayFault::Policy(fault)) => {
-            push_block_reason(alloc, &mut said, file, bytes, fault)?;
-        }
-        Some(PlayFault::Read) => push_read_reason(&mut said, file, input.fault())?,
-        Some(PlayFault::Memory | PlayFault::Write) => {}
     }
     Ok(said)
 }
@@ -90,10 +95,22 @@ impl<'a> Reasons<'a> {
         }
     }
 
-    /// Adds those of a script that was read and gave this text, or ended with this fault.
-    pub(crate) fn add_script(&mut self, input: &Kept, text: &Kept, fault: Option<&PlayFault>) {
+    /// Adds those of a script that was read, and whose play ended so.
+    pub(crate) fn add_play(&mut self, input: &Kept, ending: &Result<(), PlayFault>) {
         if let Some(file) = self.file {
-            let said = reasons_of(self.alloc, file, input, text, fault);
+            let said = match ending {
+                Ok(()) => refusals(self.alloc, file, input),
+                Err(fault) => fault_reason(self.alloc, file, input, fault),
+            };
+            self.add(said);
+        }
+    }
+
+    /// Adds those of a script that was read, and whose run ended so. Another run may be refused other calls, so what
+    /// the policy refused has none.
+    pub(crate) fn add_run(&mut self, input: &Kept, ending: &Result<(), RunFault>) {
+        if let (Some(file), Err(RunFault::Play(fault))) = (self.file, ending) {
+            let said = fault_reason(self.alloc, file, input, fault);
             self.add(said);
         }
     }

@@ -31,12 +31,8 @@ pub(crate) fn play_told<R: Read, W: Write>(
         return play_as(alloc, format, audit, reader, out);
     }
     let mut input = Copied::new(alloc, reader);
-    let mut text = Copied::new(alloc, out);
-    let ending = play_as(alloc, format, audit, &mut input, &mut text);
-    match &ending {
-        Ok(()) => reasons.add_script(&input.kept, &text.kept, None),
-        Err(fault) => reasons.add_script(&input.kept, &text.kept, Some(fault)),
-    }
+    let ending = play_as(alloc, format, audit, &mut input, out);
+    reasons.add_play(&input.kept, &ending);
     ending
 }
 
@@ -58,12 +54,7 @@ pub(crate) fn run_told<R: Threads + Wait + Sync, I: Read, W: Write, G: Gate + Sy
         return run_as(rt, alloc, format, reader, out, log, gate);
     }
     let mut input = Copied::new(alloc, reader);
-    let mut text = Copied::new(alloc, out);
-    let ending = run_as(rt, alloc, format, &mut input, &mut text, log, gate);
-    match &ending {
-        Ok(()) => reasons.add_script(&input.kept, &text.kept, None),
-        Err(RunFault::Play(fault)) => reasons.add_script(&input.kept, &text.kept, Some(fault)),
-        Err(RunFault::Thread) => {}
-    }
+    let ending = run_as(rt, alloc, format, &mut input, out, log, gate);
+    reasons.add_run(&input.kept, &ending);
     ending
 }
