@@ -61,10 +61,34 @@ const CALLERS_3: Spot = Spot {
     off: 0,
 };
 
+const CALLERS_6: Spot = Spot {
+    frame: FrameName {
+        owner: CALLER,
+        number: 6,
+    },
+    off: 0,
+};
+
+const CALLERS_4: Spot = Spot {
+    frame: FrameName {
+        owner: CALLER,
+        number: 4,
+    },
+    off: 0,
+};
+
 const OWNERS_6: Spot = Spot {
     frame: FrameName {
         owner: OWNER,
         number: 6,
+    },
+    off: 0,
+};
+
+const OWNERS_7: Spot = Spot {
+    frame: FrameName {
+        owner: OWNER,
+        number: 7,
     },
     off: 0,
 };
@@ -328,13 +352,7 @@ pub const COPIES: [Row; 15] = [
             Step(
                 CallStep::Copy {
                     from: CALLERS_3,
-                    to: Spot {
-                        frame: FrameName {
-                            number: 4,
-                            ..CALLERS_3.frame
-                        },
-                        ..CALLERS_3
-                    },
+                    to: CALLERS_4,
                     len: 4,
                 },
                 Seen::Nothing,
@@ -476,13 +494,7 @@ pub const COPIES: [Row; 15] = [
             Leg(PAGE_OF_CALLER),
             Step(
                 CallStep::Copy {
-                    from: Spot {
-                        frame: FrameName {
-                            number: 6,
-                            ..CALLERS_3.frame
-                        },
-                        ..CALLERS_3
-                    },
+                    from: CALLERS_6,
                     to: CALLERS_3,
                     len: 4,
                 },
@@ -531,13 +543,7 @@ pub const COPIES: [Row; 15] = [
             Step(
                 CallStep::Copy {
                     from: OWNERS_6,
-                    to: Spot {
-                        frame: FrameName {
-                            number: 7,
-                            ..OWNERS_6.frame
-                        },
-                        ..OWNERS_6
-                    },
+                    to: OWNERS_7,
                     len: 4,
                 },
                 Seen::Nothing,
