@@ -1,10 +1,10 @@
 //! Tries command lines of the program `gthost`, and prints what each writes, with its exit status.
 //!
 //! Each word of this program's own command line is a command line of `gthost`, whose words are between
-//! blanks. After `full: ` comes one whose texts go to a writer that is full. What `gthost` writes to the
-//! standard error goes to the standard output here, so that `stdout` has it. `args` has the command
-//! lines, `data/` their files, and `stdin` the text for those that name none. A command line is added
-//! there; that costs no proof.
+//! blanks. After `full: ` comes one whose texts go to a writer that is full, and after `unflushed: ` one whose texts go
+//! to a writer that takes all and can't hand it on. What `gthost` writes to the standard error goes to the standard
+//! output here, so that `stdout` has it. `args` has the command lines, `data/` their files, and `stdin` the text for
+//! those that name none. A command line is added there; that costs no proof.
 #![tactic(auto)]
 
 use gt_program::{System, obey};
@@ -31,17 +31,41 @@ impl<'r, R: Print> Eprint for Screen<'r, R> {
     }
 }
 
-// A writer that takes nothing.
-#[derive(Drop)]
-struct Full;
+// A writer that is full: it takes nothing, or it takes all and can't hand it on.
+#[derive(Clone, Copy, PartialEq, Eq)]
+enum Full {
+    TakesNothing,
+    HandsNothingOn,
+}
+
+impl Full {
+    fn fails_if(self, fails: bool) -> io::Result<()> {
+        if fails {
+            return Err(io::Error::from(ErrorKind::StorageFull));
+        }
+        Ok(())
+    }
+}
 
 impl Write for Full {
-    fn write(&mut self, _buf: &[u8]) -> io::Result<usize> {
-        Err(io::Error::from(ErrorKind::StorageFull))
+    fn write(&mut self, buf: &[u8]) -> io::Result<usize> {
+        self.fails_if(*self == Full::TakesNothing)?;
+        Ok(buf.len())
     }
 
     fn flush(&mut self) -> io::Result<()> {
-        Ok(())
+        self.fails_if(*self == Full::HandsNothingOn)
+    }
+}
+
+// A command line, and the full writer that its prefix names.
+fn full_named(line: &str) -> Option<(Full, &str)> {
+    if let Some(line) = line.strip_prefix("full: ") {
+        return Some((Full::TakesNothing, line));
+    }
+    match line.strip_prefix("unflushed: ") {
+        Some(line) => Some((Full::HandsNothingOn, line)),
+        None => None,
     }
 }
 
@@ -61,10 +85,10 @@ fn try_line<R: Runtime + AllocGlobal + Threads + Wait + Sync>(
     let alloc = rt.alloc();
     let texts = System { rt };
     let screen = Screen { rt };
-    match line.strip_prefix("full: ") {
-        Some(line) => {
+    match full_named(line) {
+        Some((mut full, line)) => {
             let words = words_of(alloc, line)?;
-            Ok(obey(rt, alloc, &texts, words.as_slice(), &mut Full, &screen))
+            Ok(obey(rt, alloc, &texts, words.as_slice(), &mut full, &screen))
         }
         None => {
             let words = words_of(alloc, line)?;

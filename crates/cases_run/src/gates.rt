@@ -24,12 +24,14 @@ enum Way {
     Flags,
 }
 
-// Records of a domain in a log: all below this number are there, and no more.
+// Records of a domain in a log: all below this number are there, and no more. They are looked for where a flag is
+// awaited, and each time that this one is raised.
 #[derive(Clone, Copy)]
 struct Look<'l> {
     log: &'l SharedLog,
     dom: DomId,
     wanted: u64,
+    flag: usize,
 }
 
 impl<'l> Look<'l> {
@@ -51,6 +53,7 @@ pub struct Turns<'l> {
     told: [AtomicBool; 4],
     callers: AtomicU64,
     at_tell: AtomicBool,
+    before: AtomicBool,
     at_pass: AtomicBool,
 }
 
@@ -67,6 +70,7 @@ impl<'l> Turns<'l> {
             ],
             callers: AtomicU64::new(0),
             at_tell: AtomicBool::new(false),
+            before: AtomicBool::new(false),
             at_pass: AtomicBool::new(false),
         }
     }
@@ -88,22 +92,44 @@ impl<'l> Turns<'l> {
 
     /// A gate that lets a domain on once its flag is raised. It looks whether all records below this number are there,
     /// of this domain, and no more.
-    pub fn looking(log: &'l SharedLog, dom: DomId, wanted: u64) -> Turns<'l> {
-        Turns::new(Way::Flags, Some(Look { log, dom, wanted }))
+    pub fn looking(log: &'l SharedLog, dom: DomId, wanted: u64, flag: usize) -> Turns<'l> {
+        let look = Look {
+            log,
+            dom,
+            wanted,
+            flag,
+        };
+        Turns::new(Way::Flags, Some(look))
     }
 
-    /// Whether a look found them, where a flag was raised and where one was awaited.
+    /// Whether a look found them: each time that the flag was raised, and where one was awaited.
     pub fn found(&self) -> (bool, bool) {
+        let is_early = self.before.load(Ordering::SeqCst);
         (
-            self.at_tell.load(Ordering::SeqCst),
+            self.at_tell.load(Ordering::SeqCst) && !is_early,
             self.at_pass.load(Ordering::SeqCst),
         )
     }
 
-    // Notes if the look finds what it looks for.
-    fn note(&self, at: &AtomicBool) {
-        if self.look.is_some_and(|look| look.has_all()) {
+    // Notes what the look finds where a flag is raised.
+    fn note_told(&self, flag: usize) {
+        let Some(look) = self.look else {
+            return;
+        };
+        if look.flag == flag {
+            let at = if look.has_all() {
+                &self.at_tell
+            } else {
+                &self.before
+            };
             at.store(true, Ordering::SeqCst);
+        }
+    }
+
+    // Notes if the look finds what it looks for where a flag is awaited.
+    fn note_awaited(&self) {
+        if self.look.is_some_and(|look| look.has_all()) {
+            self.at_pass.store(true, Ordering::SeqCst);
         }
     }
 
@@ -122,14 +148,14 @@ impl<'l> Turns<'l> {
 
 impl<'l> Gate for Turns<'l> {
     fn tell(&self, flag: usize) {
-        self.note(&self.at_tell);
+        self.note_told(flag);
         if let Some(told) = self.told.get(flag) {
             told.store(true, Ordering::SeqCst);
         }
     }
 
     fn pass(&self, flag: usize) -> bool {
-        self.note(&self.at_pass);
+        self.note_awaited();
         self.callers.fetch_add(1, Ordering::SeqCst);
         if self.way == Way::Closed {
             return false;
@@ -155,8 +181,8 @@ pub fn gate_said<R: Threads + Wait + Sync>(
     ended.said(alloc)
 }
 
-/// What a script prints with its audit lines, and whether a gate finds both records of domain 2 where a flag is raised,
-/// or where one is awaited.
+/// What a script prints with its audit lines, and whether a gate finds both records of domain 2 each time that the
+/// second flag is raised, or where one is awaited; and how many records there are in the end.
 pub fn records_said<R: Threads + Wait + Sync>(
     rt: &R,
     alloc: Global,
@@ -164,15 +190,19 @@ pub fn records_said<R: Threads + Wait + Sync>(
     is_raised: bool,
 ) -> anyhow::Result<String> {
     let log = SharedLog::new(alloc)?;
-    let gate = Turns::looking(&log, DomId(2), 2);
+    let gate = Turns::looking(&log, DomId(2), 2, 1);
     let ended = run_text(rt, alloc, script, Some(&log), &gate)?;
     let (told, passed) = gate.found();
     let mut out = ended.said(alloc)?;
-    let line = if is_raised {
-        format!(in alloc; "records where a flag is raised: {told}\n")?
+    let (place, found) = if is_raised {
+        ("raised", told)
     } else {
-        format!(in alloc; "records where a flag is awaited: {passed}\n")?
+        ("awaited", passed)
     };
+    let count = log.count();
+    let line = format!(in alloc;
+        "records where a flag is {place}: {found}, in the log: {count}\n"
+    )?;
     out.push_str(line.as_str())?;
     Ok(out)
 }

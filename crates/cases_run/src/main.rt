@@ -9,20 +9,27 @@
 //! - `--closed` and `--deaf`: at a gate that gives up, at once or after all its turns.
 //! - `--two-meet` and `--three-meet`: at a gate that lets domains on once so many are there.
 //! - `--told` and `--awaited`: at a gate that looks for both records of domain 2. A line says whether it found them
-//!   where a flag was raised, or where one was awaited.
+//!   each time that the second flag was raised, or where one was awaited, and how many records the log has.
+//! - `--beginnings`: each beginning of the script, from no byte to the whole, with its records and without. What it
+//!   prints stands after its count of bytes if it differs from what one byte less prints.
 //!
-//! After `--many` comes no name: as many domains as a run may have, with long lists that are made here, meet at a gate.
+//! No name comes after two more words. After `--many` as many domains as a run may have, with long lists that are made
+//! here, meet at a gate. After `--long` one domain has as many lines as a script has room for.
 #![tactic(auto)]
 
+mod beginnings;
 mod failing;
 mod gates;
+mod long;
 mod many;
 mod running;
 
+use beginnings::beginnings_said;
 use failing::failing_said;
 use gates::{Turns, gate_said, records_said};
 use gt_audit::SharedLog;
 use gt_run::{Flags, run};
+use long::long_said;
 use many::many_said;
 use std::alloc::Global;
 use std::fs::{self, File};
@@ -42,6 +49,7 @@ enum Mode {
     Meet(u64),
     Told,
     Awaited,
+    Beginnings,
 }
 
 // The mode that a word names, if it is no name of a file.
@@ -55,6 +63,7 @@ fn mode_named(word: &str) -> Option<Mode> {
         "--three-meet" => Some(Mode::Meet(3)),
         "--told" => Some(Mode::Told),
         "--awaited" => Some(Mode::Awaited),
+        "--beginnings" => Some(Mode::Beginnings),
         _ => None,
     }
 }
@@ -95,6 +104,7 @@ fn try_file<R: Runtime + Threads + Wait + Sync>(
         Mode::Meet(count) => gate_said(rt, alloc, script, &Turns::meeting(count))?,
         Mode::Told => records_said(rt, alloc, script, true)?,
         Mode::Awaited => records_said(rt, alloc, script, false)?,
+        Mode::Beginnings => beginnings_said(rt, alloc, script)?,
     };
     print!(rt; "{said}")?;
     Ok(())
@@ -110,6 +120,9 @@ fn main(rt: HostRuntime) -> anyhow::Result<()> {
         } else if word.as_str() == "--many" {
             let said = many_said(&rt, alloc)?;
             print!(rt; "== many\n{said}")?;
+        } else if word.as_str() == "--long" {
+            let said = long_said(&rt, alloc)?;
+            print!(rt; "== long\n{said}")?;
         } else {
             println!(rt; "== {word}")?;
             let path = format!(in alloc; "{word}.gt")?;

@@ -129,6 +129,9 @@ fn a_domain_tells_its_records(rt: HostRuntime) -> Result<(), Fail> {
     }
     let records = told.records(rt.alloc())?;
     assert_eq!(rt; (records.as_slice(), told.lost()), (wanted.as_slice(), 0));
-    assert_eq!(rt; log.find(DomId(2), 1), Some(record(2, 1)));
+    assert_eq!(rt;
+        (log.find(DomId(2), 1), log.count() as u64),
+        (Some(record(2, 1)), RECORDS)
+    );
     Ok(())
 }
