@@ -12,10 +12,12 @@ use std::alloc::Global;
 
 const GAP: usize = 3 << 20;
 
-// What is let through grows by so many bytes, and by pages far from both ends: there one request takes most of it.
+// What is let through grows by so many bytes, and by more far from both ends: there one request takes most of it.
 const STEP: usize = 16;
 
-const PAGE: usize = 4_096;
+const FAR: usize = 16_384;
+
+const NEAR: usize = 1_024;
 
 const TRIES: usize = 4_096;
 
@@ -103,11 +105,11 @@ fn needed(
 
 // The bytes that are tried after these.
 fn next(bytes: usize, needed: usize) -> usize {
-    let late = needed.saturating_sub(PAGE);
-    if bytes < PAGE || bytes >= late {
+    let late = needed.saturating_sub(NEAR);
+    if bytes < NEAR || bytes >= late {
         return bytes.saturating_add(STEP);
     }
-    bytes.saturating_add(PAGE).min(late)
+    bytes.saturating_add(FAR).min(late)
 }
 
 // Whether each start with too little memory is refused, and one with enough right after it is not: the first one took

@@ -16,11 +16,15 @@ use std::thread::Threads;
 // No such script prints more.
 const ROOM: usize = 65_536;
 
-// What is let through grows by so many bytes. Far from both ends it grows by pages, since there one request takes most
-// of what a monitor needs.
+// What is let through grows by so many bytes. If it is much it grows by pages far from both ends, since there one request
+// takes most of what a monitor needs.
 const STEP: usize = 16;
 
 const PAGE: usize = 4_096;
+
+const MUCH: usize = 32_768;
+
+const NEAR: usize = 1_024;
 
 const GAP: usize = 3 << 20;
 
@@ -226,8 +230,8 @@ fn needed<R: Threads + Wait + Sync>(
 
 // The bytes that are tried after these.
 fn next(bytes: usize, needed: usize) -> usize {
-    let late = needed.saturating_sub(PAGE);
-    if bytes < PAGE || bytes >= late {
+    let late = needed.saturating_sub(NEAR);
+    if needed < MUCH || bytes < NEAR || bytes >= late {
         return bytes.saturating_add(STEP);
     }
     bytes.saturating_add(PAGE).min(late)
