@@ -330,8 +330,8 @@ pub const COPIES: [Row; 15] = [
                     from: CALLERS_3,
                     to: Spot {
                         frame: FrameName {
+                            owner: CALLER,
                             number: 4,
-                            ..CALLERS_3.frame
                         },
                         ..CALLERS_3
                     },
@@ -478,8 +478,8 @@ pub const COPIES: [Row; 15] = [
                 CallStep::Copy {
                     from: Spot {
                         frame: FrameName {
+                            owner: CALLER,
                             number: 6,
-                            ..CALLERS_3.frame
                         },
                         ..CALLERS_3
                     },
@@ -533,8 +533,8 @@ pub const COPIES: [Row; 15] = [
                     from: OWNERS_6,
                     to: Spot {
                         frame: FrameName {
+                            owner: OWNER,
                             number: 7,
-                            ..OWNERS_6.frame
                         },
                         ..OWNERS_6
                     },
