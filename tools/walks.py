@@ -74,7 +74,7 @@ def proof(name, params, result, clauses, body, modules):
     passed = [Param(text) for text in params[2:]]
     callee = re.search(r"(\w+)\(\s*alloc", body).group(1)
     none = re.search(r"return (\w+)\(\)", body).group(1)
-    promise = re.search(r"Reaches was is ([\w.]+) \((\w+)(.*?)\) ⌝", clauses, re.S)
+    promise = re.search(r"PointsTo was is ([\w.]+) \((\w+)(.*?)\) ⌝", clauses, re.S)
     told, relation, words = promise.group(1), promise.group(2), promise.group(3).split()
     answer = told.replace("result", "r")
     asked = " ".join([relation, *["r" if word == "result" else word for word in words]])
@@ -109,7 +109,7 @@ use Rattle.std.proofs.alloc.Global.TheLaws as heap
 {chr(10).join(imports(kinds))}
 use Rattle.gt_c.specs.contracts.handle.Handle as H
 use Rattle.gt_c.specs.declared.handle.Handle.{{Handle}}
-use Rattle.gt_c.specs.Pointing.{{Reaches, behind}}
+use Rattle.gt_c.specs.Pointing.{{PointsTo, pointed_at}}
 use Rattle.gt_c.specs.{RELATIONS.get(relation, "Promises")}.{{{relation}}}
 use Rattle.gt_c.specs.contracts.{where}.{callee} as call
 use Rattle.gt_c.proofs.{where}.{callee}.Met as call_met
@@ -148,23 +148,23 @@ module _ {{M : Type 1}} {{𝓤 : Ura M}} (𝓛 : Logic 𝓤) (𝓜 : Model 𝓤 
   Runs p g = WpFn 𝓤 𝓛.H 𝓣.C 𝓣.Λ code.function ({machine}) (W.post (y p g))
 
   abbrev Holds : {result}.the_row.Denot → Option Handle → Option Handle → Type 0
-  Holds r was is = Reaches was is {answer} ({asked})
+  Holds r was is = PointsTo was is {answer} ({asked})
 
   abbrev Ensured : Ptr → Option Handle → {result}.the_row.Denot → SProp 𝓤
-  Ensured p g r = ex 𝓤 (λ (is : Option Handle). sep 𝓤 (sem 𝓛 (behind H.the_row p is)) (fact 𝓤 (Holds r g is)))
+  Ensured p g r = ex 𝓤 (λ (is : Option Handle). sep 𝓤 (sem 𝓛 (pointed_at H.the_row p is)) (fact 𝓤 (Holds r g is)))
 
-  ensured : (p : Ptr) (g is : Option Handle) (r : {result}.the_row.Denot) → Holds r g is → ent 𝓤 (sem 𝓛 (behind H.the_row p is)) (Ensured p g r)
-  ensured p g is r s = qed 𝓛 (‵ (behind H.the_row p is) ∷ []) ∵
-      show ! (λ (a : Option Handle). sep 𝓤 (sem 𝓛 (behind H.the_row p a)) (fact 𝓤 (Holds r g a))) is $ says ! s $ done !
+  ensured : (p : Ptr) (g is : Option Handle) (r : {result}.the_row.Denot) → Holds r g is → ent 𝓤 (sem 𝓛 (pointed_at H.the_row p is)) (Ensured p g r)
+  ensured p g is r s = qed 𝓛 (‵ (pointed_at H.the_row p is) ∷ []) ∵
+      show ! (λ (a : Option Handle). sep 𝓤 (sem 𝓛 (pointed_at H.the_row p a)) (fact 𝓤 (Holds r g a))) is $ says ! s $ done !
 
   out : (p : Ptr) (g is : Option Handle) (r : {result}.the_row.Denot) (v : Val) → Holds r g is
-      → Sq 𝓛 (‵ (behind H.the_row p is) ∷ ‵ ({result}.the_row.own_val r (v ∷ [])) ∷ []) (prop (W.post (y p g) v))
+      → Sq 𝓛 (‵ (pointed_at H.the_row p is) ∷ ‵ ({result}.the_row.own_val r (v ∷ [])) ∷ []) (prop (W.post (y p g) v))
   out p g is r v s =
       suffices ! _ (ends_at 𝓛 f.ended stayed c (y p g) v r {nested(["tt"] * count)} {nested(["tt"] * count)}) $
       use1 𝓛 (raw (Ensured p g r)) (ensured p g is r s) $ move ! (1 ∷ 0 ∷ []) $
       nothing ! $ {"nothing ! $ join ! $ " * count}nothing ! $ group ! 3 $ done !
 
-  null_walk : ent 𝓤 (sep 𝓤 (Entry null_ptr) (sep 𝓤 (sem 𝓛 (behind H.the_row null_ptr None)) (fact 𝓤 (0 < 2 ^ 63)))) (Runs null_ptr None)
+  null_walk : ent 𝓤 (sep 𝓤 (Entry null_ptr) (sep 𝓤 (sem 𝓛 (pointed_at H.the_row null_ptr None)) (fact 𝓤 (0 < 2 ^ 63)))) (Runs null_ptr None)
   null_walk =
       let N = triple_of 𝓛 none.signature (none.spec 𝓛 𝓜.mem 𝓡.returns) in
       let z : N.Ghost = ((tt, tt, tt, tt, tt), tt) in
@@ -182,7 +182,7 @@ module _ {{M : Type 1}} {{𝓤 : Ura M}} (𝓛 : Logic 𝓤) (𝓜 : Model 𝓤 
       (λ isnt. absurd isnt)))
 
   some_walk : (b o : ℕ) (h : Handle)
-      → ent 𝓤 (sep 𝓤 (Entry (block_ptr b o)) (sep 𝓤 (sem 𝓛 (behind H.the_row (block_ptr b o) (Some h))) (fact 𝓤 (o < 2 ^ 63)))) (Runs (block_ptr b o) (Some h))
+      → ent 𝓤 (sep 𝓤 (Entry (block_ptr b o)) (sep 𝓤 (sem 𝓛 (pointed_at H.the_row (block_ptr b o) (Some h))) (fact 𝓤 (o < 2 ^ 63)))) (Runs (block_ptr b o) (Some h))
   some_walk b o h =
       let p = block_ptr b o in
       let C = triple_of 𝓛 call.signature (call.spec 𝓛 𝓜.mem 𝓡.returns) in
@@ -212,7 +212,7 @@ module _ {{M : Type 1}} {{𝓤 : Ura M}} (𝓛 : Logic 𝓤) (𝓜 : Model 𝓤 
       move ! (4 ∷ 6 ∷ 0 ∷ []) $ use3 𝓛 (later (‵ (part_at H.the_row full_share ws.1.0 b o))) (ref_back 𝓛 H.the_row κ γ ws.1.0 b o) $ await ! tt $
       returns ! (look_at ! 0 refl) $ free_all ! refl $ keep ! (0 ∷ 3 ∷ []) $ out p (Some h) (Some ws.1.0) r v told))))))))))
 
-  at_each : (p : Ptr) (g : Option Handle) → ent 𝓤 (sep 𝓤 (Entry p) (sep 𝓤 (sem 𝓛 (behind H.the_row p g)) (fact 𝓤 (count_of p < 2 ^ 63)))) (Runs p g)
+  at_each : (p : Ptr) (g : Option Handle) → ent 𝓤 (sep 𝓤 (Entry p) (sep 𝓤 (sem 𝓛 (pointed_at H.the_row p g)) (fact 𝓤 (count_of p < 2 ^ 63)))) (Runs p g)
   at_each null_ptr None = null_walk
   at_each (block_ptr b o) (Some h) = some_walk b o h
   at_each null_ptr (Some h) = via 𝓤 (never 𝓤) (via 𝓤 _ (snd∗ 𝓤 (Entry null_ptr) _) (fst∗ 𝓤 (never 𝓤) (fact 𝓤 (0 < 2 ^ 63)))) (never_e 𝓤 _)
