@@ -18,7 +18,7 @@ STRUCTS = {
     "MapHandle": "Rattle.gt_c.{}.calls.MapHandle", "MappingTold": "Rattle.gt_c.{}.telling.MappingTold",
     "RecordTold": "Rattle.gt_c.{}.telling.RecordTold",
 }
-RELATIONS = {"EndsCopy": "Telling", "Finishes": "Calling"}
+RELATIONS = {"CopyEnds": "Telling", "Finishes": "Calling"}
 EXPORT = re.compile(r'pub unsafe extern "C" fn (\w+)\((.*?)\) -> (\w+)\n(.*?)\n\{\n(.*?)\n\}', re.S)
 
 
@@ -65,6 +65,18 @@ class Param:
         return f"owned ! {self.kind}.the_row (Is {self.kind}.the_row) (laws.makes {self.kind}.the_type {self.kind}_laws.the_plain 𝓛) {self.name} _ {self.name}_is"
 
 
+def used(module, names):
+    """The names used from this module, in lines of at most 120 columns."""
+    lines, line = [], ""
+    for name in names.split(", "):
+        if line and len(f"use {module}.{{{line}, {name}}}") > 120:
+            lines.append(line)
+            line = name
+        else:
+            line = f"{line}, {name}" if line else name
+    return "\n".join(f"use {module}.{{{line}}}" for line in [*lines, line])
+
+
 def imports(kinds):
     for kind in sorted(kinds):
         yield f"use {STRUCTS[kind].format('specs.contracts')}\nuse {STRUCTS[kind].format('proofs')}.TheLaws as {kind}_laws"
@@ -102,7 +114,7 @@ def proof(name, params, result, clauses, body, modules):
     nowhere = modules[none]
     return f"""-- `{name}`: null is answered by its name, and else the handle that lies there is lent for the call. Made by
 -- tools/walks.py.
-use Rattle.gt_c.proofs.Steps.{{{NAMES}}}
+{used("Rattle.gt_c.proofs.Steps", NAMES)}
 use denote.Struct.Laws as laws
 use Rattle.std.specs.contracts.alloc.Global as Heap
 use Rattle.std.proofs.alloc.Global.TheLaws as heap
