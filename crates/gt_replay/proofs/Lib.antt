@@ -4,3 +4,4 @@ pub mod Making
 pub mod Moving
 pub mod Places
 pub mod Starting
+pub mod Turning

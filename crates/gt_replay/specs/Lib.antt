@@ -1,3 +1,4 @@
+pub mod Courses
 pub mod Orders
 pub mod Prelude
 pub mod Walking

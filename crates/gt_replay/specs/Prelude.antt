@@ -15,7 +15,7 @@ pub use Rattle.gt_host.specs.Naming.{AreNamed}
 pub use Rattle.gt_host.specs.Playing.{setting_of_script}
 pub use Rattle.gt_host.specs.Printing.{answer_line}
 pub use Rattle.gt_host.specs.Rights.{may_by}
-pub use Rattle.gt_host.specs.Runs.{SaysRequest, EndsWith, Named, handle_given, label_given, with_name}
+pub use Rattle.gt_host.specs.Runs.{SaysRequest, EndsWith, Named, answer_in, handle_given, label_given, with_name}
 pub use Rattle.gt_lines.specs.declared.calls.ScriptCall.{ScriptCall}
 pub use Rattle.gt_replay.specs.declared.replay.Replay.{Replay}
 pub use Rattle.gt_replay.specs.declared.walker.Doing.{Doing}

@@ -13,9 +13,11 @@
 #![tactic(auto)]
 
 mod fault;
+mod laws;
 mod replay;
 mod walker;
 
 pub use fault::ReplayFault;
+pub use laws::every_order_has_turns;
 pub use replay::{Moved, Replay, Turn, text_of};
 pub use walker::Walker;
