@@ -34,16 +34,15 @@ enum Shows {
     Entry(u16, u32),
 }
 
-/// The configuration that the script writes.
-pub fn configured(alloc: Global, script: &Script<'_>) -> anyhow::Result<Config> {
+// The configuration that the script writes.
+fn configured(alloc: Global, script: &Script<'_>) -> anyhow::Result<Config> {
     Ok(Config {
         domains: Vec::from_slice(alloc, script.domains())?,
         first_gen: script.first_gen(),
     })
 }
 
-/// What the script allows.
-pub fn rights(alloc: Global, script: &Script<'_>) -> anyhow::Result<Rights> {
+fn rights(alloc: Global, script: &Script<'_>) -> anyhow::Result<Rights> {
     match Rights::of(alloc, script) {
         Ok(rights) => Ok(rights),
         Err(_) => bail!("memory"),

@@ -13,20 +13,17 @@
 //!
 //! At the end the lines that these answers print, and the records of the domains but the last, are compared with the
 //! text of `gt_host::play` with its audit. What is printed of a name are the scripts, the calls and those of them that
-//! were Ok, or the first difference. After the word `--refusing` a core and a monitor are refused memory where they
-//! start, and then each request of each call is refused in turn, on the monitor and on the core. Lines say which calls
-//! of each script were refused where. A script is added by its lines in a file, and costs no proof. Others are made by
+//! were Ok, or the first difference. After the word `--refusing` each request for memory of each call is refused in
+//! turn, on the monitor and on the core, and lines say which calls of each script were refused where. A script is added by its lines in a file, and costs no proof. Others are made by
 //! `bench/compare.sh`, as many as are asked for.
 #![tactic(auto)]
 
 mod asking;
 mod comparing;
 mod scarce;
-mod starting;
 mod texts;
 
 use comparing::{Compared, compare};
-use starting::starts_said;
 use std::alloc::Global;
 use std::fs;
 use std::rt::Runtime;
@@ -54,9 +51,6 @@ fn compare_all<R: Wait>(
         done: 0,
     };
     let (head, bodies) = text.split_once("====\n").unwrap_or(("", text));
-    if is_refusing {
-        refused = starts_said(alloc, head)?;
-    }
     'bodies: for body in bodies.split("----\n") {
         let script = format!(in alloc; "{head}{body}")?;
         let Compared {

@@ -1,7 +1,6 @@
 //! Runs at gates of limited turns.
 use crate::running::run_text;
 use gt_audit::SharedLog;
-use gt_flood::Flood;
 use gt_run::Gate;
 use gt_types::DomId;
 use std::alloc::Global;
@@ -52,7 +51,6 @@ pub struct Turns<'l> {
     way: Way,
     look: Option<Look<'l>>,
     told: [AtomicBool; 4],
-    is_told: AtomicBool,
     callers: AtomicU64,
     at_tell: AtomicBool,
     before: AtomicBool,
@@ -70,7 +68,6 @@ impl<'l> Turns<'l> {
                 AtomicBool::new(false),
                 AtomicBool::new(false),
             ],
-            is_told: AtomicBool::new(false),
             callers: AtomicU64::new(0),
             at_tell: AtomicBool::new(false),
             before: AtomicBool::new(false),
@@ -114,11 +111,6 @@ impl<'l> Turns<'l> {
         )
     }
 
-    /// Whether no domain has told a flag or waited for one.
-    pub fn is_untouched(&self) -> bool {
-        !self.is_told.load(Ordering::SeqCst) && self.callers.load(Ordering::SeqCst) == 0
-    }
-
     // Notes what the look finds where a flag is raised.
     fn note_told(&self, flag: usize) {
         let Some(look) = self.look else {
@@ -157,7 +149,6 @@ impl<'l> Turns<'l> {
 impl<'l> Gate for Turns<'l> {
     fn tell(&self, flag: usize) {
         self.note_told(flag);
-        self.is_told.store(true, Ordering::SeqCst);
         if let Some(told) = self.told.get(flag) {
             told.store(true, Ordering::SeqCst);
         }
@@ -214,20 +205,4 @@ pub fn records_said<R: Threads + Wait + Sync>(
     )?;
     out.push_str(line.as_str())?;
     Ok(out)
-}
-
-/// What a script prints that has more domains than the system has room for threads, while a flood leaves 48 MiB of
-/// addresses, and whether a list began.
-pub fn crowded_said<R: Threads + Wait + Sync>(
-    rt: &R,
-    alloc: Global,
-    script: &str,
-) -> anyhow::Result<String> {
-    let flood = Flood::new(alloc)?;
-    let gate = Turns::closed();
-    let ended = run_text(rt, alloc, script, None, &gate)?;
-    drop(flood);
-    let said = ended.said(alloc)?;
-    let is_untouched = gate.is_untouched();
-    Ok(format!(in alloc; "{said}no list began: {is_untouched}\n")?)
 }

@@ -4,7 +4,6 @@
 //! names them all, and `stdout` has what they must print. A script is added by its file, its name in `args` and its
 //! lines in `stdout`. A word of `args` that begins with `--` says how the scripts after it are run:
 //!
-//! - `--plain`: as they are, and so are those before the first such word.
 //! - `--audit`: with their audit lines.
 //! - `--failing`: each read and each write fails after each count of bytes, and a line says whether all were told.
 //! - `--closed` and `--deaf`: at a gate that gives up, at once or after all its turns.
@@ -13,9 +12,6 @@
 //!   each time that the second flag was raised, or where one was awaited, and how many records the log has.
 //! - `--beginnings`: each beginning of the script, from no byte to the whole, with its records and without. What it
 //!   prints stands after its count of bytes if it differs from what one byte less prints.
-//! - `--refusing`: a script of one domain is refused each request for memory in turn. Lines say how it ends with more
-//!   and more memory. No thread may have run before.
-//! - `--crowded`: with more domains than there is room for threads.
 //!
 //! No name comes after two more words. After `--many` as many domains as a run may have, with long lists that are made
 //! here, meet at a gate. After `--long` one domain has as many lines as a script has room for.
@@ -26,17 +22,15 @@ mod failing;
 mod gates;
 mod long;
 mod many;
-mod refusing;
 mod running;
 
 use beginnings::beginnings_said;
 use failing::failing_said;
-use gates::{Turns, crowded_said, gate_said, records_said};
+use gates::{Turns, gate_said, records_said};
 use gt_audit::SharedLog;
 use gt_run::{Flags, run};
 use long::long_said;
 use many::many_said;
-use refusing::refused_said;
 use std::alloc::Global;
 use std::fs::{self, File};
 use std::io;
@@ -56,14 +50,11 @@ enum Mode {
     Told,
     Awaited,
     Beginnings,
-    Refusing,
-    Crowded,
 }
 
 // The mode that a word names, if it is no name of a file.
 fn mode_named(word: &str) -> Option<Mode> {
     match word {
-        "--plain" => Some(Mode::Run),
         "--audit" => Some(Mode::Audit),
         "--failing" => Some(Mode::Failing),
         "--closed" => Some(Mode::Closed),
@@ -73,8 +64,6 @@ fn mode_named(word: &str) -> Option<Mode> {
         "--told" => Some(Mode::Told),
         "--awaited" => Some(Mode::Awaited),
         "--beginnings" => Some(Mode::Beginnings),
-        "--refusing" => Some(Mode::Refusing),
-        "--crowded" => Some(Mode::Crowded),
         _ => None,
     }
 }
@@ -116,8 +105,6 @@ fn try_file<R: Runtime + Threads + Wait + Sync>(
         Mode::Told => records_said(rt, alloc, script, true)?,
         Mode::Awaited => records_said(rt, alloc, script, false)?,
         Mode::Beginnings => beginnings_said(rt, alloc, script)?,
-        Mode::Refusing => refused_said(rt, alloc, script)?,
-        Mode::Crowded => crowded_said(rt, alloc, script)?,
     };
     print!(rt; "{said}")?;
     Ok(())

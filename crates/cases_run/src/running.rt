@@ -49,27 +49,11 @@ pub fn run_failing<R: Threads + Wait + Sync, G: Gate + Sync>(
     })
 }
 
-/// The fault as it prints; nothing if there was none.
-pub fn fault_text(alloc: Global, ended: &Result<(), RunFault>) -> Result<String, AllocError> {
+fn fault_text(alloc: Global, ended: &Result<(), RunFault>) -> Result<String, AllocError> {
     match ended {
         Ok(()) => Ok(String::new(alloc)),
         Err(fault) => format!(in alloc; "{fault}"),
     }
-}
-
-/// Runs a script into this room, and asks for no memory besides.
-pub fn run_into<R: Threads + Wait + Sync, G: Gate + Sync>(
-    rt: &R,
-    alloc: Global,
-    script: &str,
-    room: Vec<u8>,
-    log: Option<&SharedLog>,
-    gate: &G,
-) -> (Vec<u8>, Result<(), RunFault>) {
-    let mut reader = script.as_bytes();
-    let mut writer = FailingWriter::new(room, usize::MAX);
-    let outcome = run(rt, alloc, &mut reader, &mut writer, log, gate);
-    (writer.taken, outcome)
 }
 
 /// Runs a script of which all is read and written.
