@@ -51,7 +51,7 @@ gives_some w sources targets (Allow a) = list_any (λ s. gives_by w targets s a)
 abbrev pub comes_near : List ℕ → List Member → Member → Allowance → Bool
 comes_near w targets s a =
     (has_grant a.classes && (lists_word a.perms w || elements_hold s.names a.source))
-      && list_any (λ t. reaches_by s t a) targets
+    && list_any (λ t. reaches_by s t a) targets
 
 -- a statement that comes near
 abbrev pub near_some : List ℕ → List Member → List Member → Statement → Bool

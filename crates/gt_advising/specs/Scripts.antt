@@ -33,7 +33,7 @@ TellsFindings found old new (Err (Policy shown)) = ⊥
 abbrev pub CheckedScript : List ℕ → Option (List ℕ) → Option (List ℕ) → Result Bool ListingFault → Type 0
 CheckedScript bytes old new (Ok clean) =
     (found : List Finding) × (report : List ℕ) × JudgesScript bytes found × IsScript bytes clean
-      × Appends old new report
+    × Appends old new report
 CheckedScript bytes old new (Err Write) = (report : List ℕ) × AppendsBeginning old new report
 CheckedScript bytes old new (Err Memory) = Keeps old new
 CheckedScript bytes old new (Err Read) = Keeps old new

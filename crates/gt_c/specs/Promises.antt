@@ -62,7 +62,7 @@ Maps dom gref flags answer before after =
 abbrev pub Unmaps : MapHandle → Answer → Option Here → Option Here → Type 0
 Unmaps name answer before after =
     CallsGuest before after answer
-      (SaysUnmapped (requests.Unmap (name_of_handle name)) calls.Unmap (name_of_handle name) answer)
+    (SaysUnmapped (requests.Unmap (name_of_handle name)) calls.Unmap (name_of_handle name) answer)
 
 -- the table gets a version, or frames
 abbrev pub SetsVersion : ℕ → Answer → Option Here → Option Here → Type 0

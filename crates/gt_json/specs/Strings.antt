@@ -24,7 +24,7 @@ quoted text = codes "\"" ++ flat_map escaped text ++ codes "\""
 pub data SpellsString : List ℕ → List ℕ → Type 0 where
   ends : SpellsString [] []
   itself : (b : ℕ) (xs text : List ℕ) → 32 ≤ b → b ≢ 34 → b ≢ 92 → SpellsString xs text
-    → SpellsString (b ∷ xs) (b ∷ text)
+      → SpellsString (b ∷ xs) (b ∷ text)
   quote : (xs text : List ℕ) → SpellsString xs text → SpellsString (92 ∷ 34 ∷ xs) (34 ∷ text)
   backslash : (xs text : List ℕ) → SpellsString xs text → SpellsString (92 ∷ 92 ∷ xs) (92 ∷ text)
   number : (b : ℕ) (xs text : List ℕ) → b < 256 → SpellsString xs text

@@ -66,7 +66,7 @@ impl TypeRow {
     pub(crate) fn with(self, rule: &AllowRule, source: TypeId) -> TypeRow
         ensures { (t : ℕ) (perm : Perms) →
             lanes_reach result t perm ≡ (lanes_reach self t perm
-                || (is_permission perm && grants rule.now source.0 t perm)) }
+            || (is_permission perm && grants rule.now source.0 t perm)) }
     {
         if !rule.source.contains(source) {
             return self;

@@ -142,8 +142,8 @@ deed-next types k line left (Tell flag) x more part (later, is, follows) idle = 
   leads = (cc, refl);
   goes =
       let same : more ≡ later = cc in
-          subst (λ (o : Opened). GoesFrom types (record k { tasks = left }) o more part) (sym idle)
-          (subst (λ (l : List Happening). FollowsList types k.dom k.named k.held left l part) (sym same) follows);
+      subst (λ (o : Opened). GoesFrom types (record k { tasks = left }) o more part) (sym idle)
+      (subst (λ (l : List Happening). FollowsList types k.dom k.named k.held left l part) (sym same) follows);
   text = refl;
   dom = refl;
 }
@@ -154,8 +154,8 @@ deed-next types k line left (Await flag) x more part (later, is, follows) idle =
   leads = (cc, refl);
   goes =
       let same : more ≡ later = cc in
-          subst (λ (o : Opened). GoesFrom types (record k { tasks = left }) o more part) (sym idle)
-          (subst (λ (l : List Happening). FollowsList types k.dom k.named k.held left l part) (sym same) follows);
+      subst (λ (o : Opened). GoesFrom types (record k { tasks = left }) o more part) (sym idle)
+      (subst (λ (l : List Happening). FollowsList types k.dom k.named k.held left l part) (sym same) follows);
   text = refl;
   dom = refl;
 }
@@ -218,7 +218,7 @@ gives-next types k (handle ∷ order) x more part nothing (before, after, is, ha
     let n = back-next types k (before ++ after) order begun.0 more part nothing begun.2 end in
     let there : slice_get k.held (length before) ≡ Some handle = ap (λ (l : List Handle). slice_get l (length before)) is ∙ at-length before after handle in
     let left : before ++ after ≡ take (length before) k.held ++ drop (suc (length before)) k.held =
-        sym (ap (λ (l : List Handle). take (length before) l ++ drop (suc (length before)) l) is ∙ around-length before after handle) in
+    sym (ap (λ (l : List Handle). take (length before) l ++ drop (suc (length before)) l) is ∙ around-length before after handle) in
     record {
       choice = length before;
       next = n.next;
@@ -464,7 +464,7 @@ first-numbers c (d ∷ ds) = ap (λ (l : List ℕ). d.id.0 ∷ l) (first-numbers
 pub has-turns : (c : RunContents) (hs : List Happening) (text : List ℕ) → HaveOwnIds c.head.domains → IsOrderOf c hs text → (turns : List Turn) × IsTurnedBy c hs turns text
 has-turns c hs text apart order =
     let t = turned (type_names c.head) (first_courses c) hs text
-        (subst AllDiffer (sym (first-numbers c c.head.domains)) (all-differ c.head.domains apart))
-        (subst (λ (ns : List ℕ). AreDoneBy ns hs) (sym (first-numbers c c.head.domains)) (done-by c.head.domains hs order.known))
-        (first-going c c.head.domains hs text order.follow) in
+    (subst AllDiffer (sym (first-numbers c c.head.domains)) (all-differ c.head.domains apart))
+    (subst (λ (ns : List ℕ). AreDoneBy ns hs) (sym (first-numbers c c.head.domains)) (done-by c.head.domains hs order.known))
+    (first-going c c.head.domains hs text order.follow) in
     (t.0, record { order = order; ends = t.1; leads = t.2; over = t.3; printed = t.4 })

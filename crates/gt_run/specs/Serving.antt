@@ -235,6 +235,6 @@ abbrev pub HasCome : {P : Type 0} → (P → AllowRelation) → Duty P → Domai
     → Option Teller → Type 0
 HasCome may duty d true count text e labels teller =
     (q : ListProgress) × ListLeadsTo may duty (list_start d) (take count duty.part.tasks.now) q
-      × IsKeptAt duty q e labels teller
+    × IsKeptAt duty q e labels teller
     × (text ≡ answer_lines duty.part.types.now duty.part.dom q.outcomes)
 HasCome may duty d false count text e labels teller = ServesSome may duty d text

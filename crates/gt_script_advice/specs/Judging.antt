@@ -18,7 +18,7 @@ line_of_fault (in_policy g) = g.line
 -- fault for one of the two. If they are a script for one of them, no error is.
 pub data JudgesScript (bytes : List ℕ) : List Finding → Type 0 where
   for_play : (c : Contents) (found : List Finding) → TellsScript bytes (Ok c) → error_lines found ≡ []
-    → JudgesScript bytes found
+      → JudgesScript bytes found
   for_run : (c : RunContents) (found : List Finding) → RunTells bytes (Ok c) → error_lines found ≡ []
       → JudgesScript bytes found
   faulty : (play run : Wrong) (found : List Finding) → TellsScript bytes (Err play) → RunTells bytes (Err run)

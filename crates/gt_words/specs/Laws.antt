@@ -110,7 +110,7 @@ StepsAreTakenThen =
     → get_elem? s.views i ≡ some v
     → (past ≡ shown.history) × (after.history ≡ (i, x) ∷ shown.history) × IsOwners i x
     × PinsLast k shown.history x × (word_place_of x < k.domains * DOMAIN_WORDS
-      → SaysWord x (slice_index s.words (word_place_of x)))
+    → SaysWord x (slice_index s.words (word_place_of x)))
 
 -- if a raw step of the table is allowed that adds the step x to its seat's view, by the number found, x says the word
 -- that is there, in every state that words and views show: so no body tells a step of a word that it did not find
