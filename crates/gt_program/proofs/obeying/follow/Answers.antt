@@ -1,5 +1,5 @@
 use Rattle.std.proofs.Common.{refl}
-use Rattle.gt_program.proofs.Obeyed.{answered, as_planned, sought, told}
+use Rattle.gt_program.proofs.Obeyed.{answered, as_planned, sought, told, worked}
 use Rattle.gt_program.proofs.obeying.follow.Goals as goal
 
 pub returns-in-Explore : goal.returns-in-Explore
@@ -16,3 +16,8 @@ pub returns-in-Entries : goal.returns-in-Entries
 returns-in-Entries g c =
     as_planned _ _ _ _ _ _ _ c.in-Entries.is
     (told _ _ _ _ _ _ _ _ _ c.perform_on-in-Entries.result _ (refl, refl, refl, c.domain.ensures) c.perform_on-in-Entries.ensures c.report-in-Entries.ensures)
+
+pub returns-in-Policy : goal.returns-in-Policy
+returns-in-Policy g c =
+    as_planned _ _ _ _ _ _ _ c.in-Policy.is
+    (worked _ _ _ _ c.perform_on-in-Policy.result _ c.perform_on-in-Policy.ensures c.report-in-Policy.ensures)
