@@ -29,7 +29,7 @@ use Rattle.gt_replay.specs.Orders.{Happening, did, raised, passed, doer, own_hap
 use Rattle.gt_replay.specs.Orders.{CallGoesOn, CallHappens, GivesMappingsBack, FollowsList, DoesDeed, Prints, AllFollow}
 use Rattle.gt_replay.specs.Orders.{IsOrderOf}
 use Rattle.gt_replay.specs.Walking.{HaveOwnIds}
-use Rattle.gt_replay.specs.Courses.{Opened, resting, calling, giving, Course, course_answered, line_after, back_after}
+use Rattle.gt_replay.specs.Courses.{Opened, resting, calling, giving, Course, course_answered, course_after, back_after}
 use Rattle.gt_replay.specs.Courses.{IsDoneIf, DeedLeads, GivesAt, RestLeads, OpenLeads, CourseLeads, CourseEnds, TurnsLead}
 use Rattle.gt_replay.specs.Courses.{AllCoursesEnd, courses_text, first_courses, IsTurnedBy}
 
@@ -112,12 +112,12 @@ line-next : (types : List (List ℕ)) (k : Course) (line : ℕ) (call : ScriptCa
     Prints (answer_line types line k.dom answer)
     (FollowsList types k.dom (with_name k.named k.dom (label_given call) (handle_given answer)) (held_after k.held lost answer) left later)
     part) e more
-    → Next types k (λ c j. j ≡ line_after types line call lost (record k { tasks = left }) (answer_in e)) more part
+    → Next types k (λ c j. j ≡ course_after types line call lost (record k { tasks = left }) (answer_in e)) more part
 line-next types k line call lost left e more part (inl (answer, is, (rest, so, follows))) = record {
   choice = 0;
   next = course_answered types line call lost (record k { tasks = left }) answer;
   rest = rest;
-  leads = ap (λ (o : Option Answer). line_after types line call lost (record k { tasks = left }) o) (sym is);
+  leads = ap (λ (o : Option Answer). course_after types line call lost (record k { tasks = left }) o) (sym is);
   goes = follows;
   text = printed k.text (answer_line types line k.dom answer) part rest so;
   dom = refl;
@@ -126,7 +126,7 @@ line-next types k line call lost left e more part (inr (none, goes)) = record {
   choice = 0;
   next = record k { tasks = left; opened = calling line call lost };
   rest = part;
-  leads = ap (λ (o : Option Answer). line_after types line call lost (record k { tasks = left }) o) (sym none);
+  leads = ap (λ (o : Option Answer). course_after types line call lost (record k { tasks = left }) o) (sym none);
   goes = goes;
   text = refl;
   dom = refl;

@@ -39,9 +39,9 @@ course_answered types line call lost k answer =
     }
 
 -- the call of a line began or went on: with this answer, or it is open
-abbrev pub line_after : List (List ℕ) → ℕ → ScriptCall → Option Handle → Course → Option Answer → Course
-line_after types line call lost k None = record k { opened = calling line call lost }
-line_after types line call lost k (Some answer) = course_answered types line call lost k answer
+abbrev pub course_after : List (List ℕ) → ℕ → ScriptCall → Option Handle → Course → Option Answer → Course
+course_after types line call lost k None = record k { opened = calling line call lost }
+course_after types line call lost k (Some answer) = course_answered types line call lost k answer
 
 -- an unmap at the end of the list did so: with its answer, or it is open
 abbrev pub back_after : Course → Option Answer → Course
@@ -60,7 +60,7 @@ DeedLeads types k line left (Await flag) x j = (x ≡ passed k.dom flag) × (j �
 DeedLeads types k line left (Do call) x j =
     (request : Request) × (e : Element) × SaysRequest k.named k.dom call request
     × (x ≡ did (Begin k.dom request) e)
-    × (j ≡ line_after types line call (given_up request) (record k { tasks = left }) (answer_in e))
+    × (j ≡ course_after types line call (given_up request) (record k { tasks = left }) (answer_in e))
 
 -- by this a domain at the end of its list begins to give back the mapping at this place of those that it has
 abbrev pub GivesAt : Course → ℕ → Happening → Course → Type 0
@@ -78,7 +78,7 @@ RestLeads types k (t ∷ ts) choice x j = (choice ≡ 0) × DeedLeads types k t.
 abbrev pub OpenLeads : List (List ℕ) → Course → Opened → ℕ → Happening → Course → Type 0
 OpenLeads types k resting choice x j = RestLeads types k k.tasks choice x j
 OpenLeads types k (calling line call lost) choice x j =
-    (choice ≡ 0) × (e : Element) × (x ≡ did (Tick k.dom) e) × (j ≡ line_after types line call lost k (answer_in e))
+    (choice ≡ 0) × (e : Element) × (x ≡ did (Tick k.dom) e) × (j ≡ course_after types line call lost k (answer_in e))
 OpenLeads types k giving choice x j =
     (choice ≡ 0) × (e : Element) × (x ≡ did (Tick k.dom) e) × IsDoneIf (answer_in e) × (j ≡ back_after k (answer_in e))
 
