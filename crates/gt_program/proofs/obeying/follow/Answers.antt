@@ -1,6 +1,7 @@
 use Rattle.std.proofs.Common.{refl}
 use Rattle.gt_program.proofs.Obeyed.{answered, as_planned, sought, told, worked}
 use Rattle.gt_program.proofs.obeying.follow.Goals as goal
+use Rattle.gt_program.specs.Obeying.{Lists}
 
 pub returns-in-Explore : goal.returns-in-Explore
 returns-in-Explore g c =
@@ -20,4 +21,5 @@ returns-in-Entries g c =
 pub returns-in-Policy : goal.returns-in-Policy
 returns-in-Policy g c =
     as_planned _ _ _ _ _ _ _ c.in-Policy.is
-    (worked _ _ _ _ c.perform_on-in-Policy.result _ c.perform_on-in-Policy.ensures c.report-in-Policy.ensures)
+    (worked (Lists c.in-Policy.format) _ (g.W.Write.contents c.args.out.now) (g.W.Write.contents c.perform_on-in-Policy.new.out)
+    c.perform_on-in-Policy.result _ c.perform_on-in-Policy.ensures c.report-in-Policy.ensures)
