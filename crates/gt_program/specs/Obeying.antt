@@ -158,11 +158,9 @@ Seeks find witness states input old new r =
     (asked : Searched) × IsSearched find witness states asked × Searches asked input old new r
 
 -- The exit status fits what was asked for, and what was written does: a script that was played, run or explored, a
--- policy that was listed, a policy or a script that was checked, a question that was answered, a dump that was told, the rules,
--- where the status is 2
--- for the name of none, help, the version, or nothing for words that ask for nothing,
--- whose status is 2 and for which nothing is written. Where memory is
--- refused, the status is 1 for all of them.
+-- policy that was listed, a policy or a script that was checked, a question that was answered, a dump that was told, the
+-- rules, for which the status is 2 if the name is of none, help, the version, or nothing for words that ask for nothing,
+-- whose status is 2 and for which nothing is written. If memory is refused, the status is 1 for all of them.
 abbrev pub Obeys : Request → (List ℕ → Option (List ℕ)) → Option (List ℕ) → Option (List ℕ) → Option (List ℕ) → ℕ
     → Type 0
 Obeys (to_play audited verbose format name) file input old new status =
