@@ -47,7 +47,8 @@ check 'a pipe that is closed for rules' '0|1|141' "$(cat "$work/status")" "$clos
 check 'a pipe that is closed for help' '0|1|141' "$(cat "$work/status")" "$closed"
 
 for words in "play $work/short.gt" "run $work/short.gt" "policy $work/short.te" "check $work/missing_semicolon.te" \
-  "why t t copy $work/short.te" 'rules' '--help' '--version' "explore $work/short.gt" "play -v $work/short.gt"; do
+  "why t t copy $work/short.te" 'rules' '--help' '--version' "explore $work/short.gt" "play -v $work/short.gt" \
+  "run -v $work/short.gt"; do
   printf 'type t\n' >"$work/missing_semicolon.te"
   # shellcheck disable=SC2086
   "$program" $words >/dev/full 2>"$work/err"

@@ -1,12 +1,13 @@
 //! The loads of bytes: loads and stores through mappings, and copies by reference, through transitive entries too.
-use crate::loads::{FEWEST, FIRST_MAPPER, MIDDLE, MOST, OWNER, POLICY, run_domains};
-use crate::running::{Audit, Running, all_running};
+use crate::audit::{Audit, Extent, record_calls};
+use crate::loads::{FEWEST, FIRST_MAPPER, MIDDLE, MOST, OWNER, POLICY, run_domains, sum_of};
 use anyhow::{Result, bail};
 use gt_allow::AllowTable;
-use gt_calls::{CopyArgs, End, Handle};
+use gt_calls::{CopyArgs, End};
 use gt_entry::Entry;
 use gt_live::Monitor;
 use gt_policy::Policy;
+use gt_running::{Running, WRITABLE, all_running};
 use gt_types::{Allows, DOMID_SELF, DomId, GrantRef};
 use std::alloc::Global;
 use std::sync::Wait;
@@ -28,38 +29,12 @@ struct Worker<'m, P: Allows> {
     gref: GrantRef,
 }
 
-// Reads so many bytes so often. Answers how often that was done.
-fn load_often<R: Wait, P: Allows>(
-    rt: &R,
-    domain: &mut Running<'_, P>,
-    handle: Handle,
-    len: u16,
-    rounds: u32,
-) -> u32 {
-    let mut done = 0u32;
-    'rounds: for _ in 0..rounds {
-        if domain.load(rt, handle, len) {
-            done = done.saturating_add(1);
-        }
-    }
-    done
-}
-
-// Writes these bytes so often. Answers how often that was done.
-fn store_often<R: Wait, P: Allows>(
-    rt: &R,
-    domain: &mut Running<'_, P>,
-    handle: Handle,
-    bytes: &[u8],
-    rounds: u32,
-) -> u32 {
-    let mut done = 0u32;
-    'rounds: for _ in 0..rounds {
-        if domain.store(rt, handle, bytes) {
-            done = done.saturating_add(1);
-        }
-    }
-    done
+// What a thread does in a round: it reads so many bytes, writes these, or makes this copy.
+#[derive(Clone, Copy)]
+enum Access<'a> {
+    Load(u16),
+    Store(&'a [u8]),
+    Copy(CopyArgs),
 }
 
 // The copy that a thread makes: of so many bytes of the owner's page to a frame of its own, or from one page of the
@@ -83,20 +58,17 @@ fn copy_of(moves: Moves, gref: GrantRef, len: u16) -> CopyArgs {
     }
 }
 
-// Makes this copy so often. Answers how often that was done.
-fn copy_often<R: Wait, P: Allows>(
+// Makes one access, and answers whether it was done.
+fn access_once<R: Wait, P: Allows>(
     rt: &R,
     domain: &mut Running<'_, P>,
-    copy: &CopyArgs,
-    rounds: u32,
-) -> u32 {
-    let mut done = 0u32;
-    'rounds: for _ in 0..rounds {
-        if domain.copy(rt, copy) {
-            done = done.saturating_add(1);
-        }
+    access: &Access<'_>,
+) -> bool {
+    match access {
+        Access::Load(len) => domain.load(rt, 0, *len).is_ok(),
+        Access::Store(bytes) => domain.store(rt, 0, bytes).is_ok(),
+        Access::Copy(copy) => domain.copy(rt, copy).is_ok(),
     }
-    done
 }
 
 fn work<R: Wait, P: Allows>(
@@ -109,20 +81,22 @@ fn work<R: Wait, P: Allows>(
     rounds: u32,
 ) -> u32 {
     let Worker { mut domain, gref } = worker;
-    if !domain.record_calls(audit) {
+    let access = match moves {
+        Moves::Loads => Access::Load(len),
+        Moves::Stores => Access::Store(bytes),
+        Moves::Copies | Moves::Forwards => Access::Copy(copy_of(moves, gref, len)),
+    };
+    let maps = moves == Moves::Loads || moves == Moves::Stores;
+    if !record_calls(&mut domain, audit) || maps && domain.map(OWNER.0, gref.0, WRITABLE).is_err() {
         return 0;
     }
-    if moves == Moves::Copies || moves == Moves::Forwards {
-        let copy = copy_of(moves, gref, len);
-        return copy_often(rt, &mut domain, &copy, rounds);
-    }
-    match domain.map(OWNER, gref) {
-        Some(handle) if moves == Moves::Loads => {
-            load_often(rt, &mut domain, handle, len, rounds)
+    let mut done = 0u32;
+    'rounds: for _ in 0..rounds {
+        if access_once(rt, &mut domain, &access) {
+            done = done.saturating_add(1);
         }
-        Some(handle) => store_often(rt, &mut domain, handle, bytes, rounds),
-        None => 0,
     }
+    done
 }
 
 // Grants the owner's page with this number to a domain, under the reference with this number.
@@ -132,7 +106,7 @@ fn grant_page<P: Allows>(owner: &mut Running<'_, P>, number: u32, dom: DomId) ->
         ro: false,
         frame: u64::from(number),
     };
-    owner.grant(GrantRef(number), &page)
+    owner.grant(number, &page).is_ok()
 }
 
 // Grants a page of the owner's to the domain between, which lets this domain go on to it.
@@ -148,70 +122,64 @@ fn grant_way<P: Allows>(
         dom2: OWNER,
         gref: GrantRef(number),
     };
-    grant_page(owner, number, MIDDLE) && middle.grant(GrantRef(number), &way)
+    grant_page(owner, number, MIDDLE) && middle.grant(number, &way).is_ok()
 }
 
-// The workers, each with the reference of a page that the owner granted to it, or of an entry that leads to one.
-fn workers<'m, P: Allows>(
-    alloc: Global,
-    domains: Vec<Running<'m, P>>,
+// A worker with the reference of a page that the owner granted to it, or of an entry that leads to one.
+fn worker_with_page<'m, P: Allows>(
+    owner: &mut Running<'_, P>,
+    middle: &mut Running<'_, P>,
+    domain: Running<'m, P>,
     moves: Moves,
-    threads: u16,
-) -> Result<Vec<Worker<'m, P>>> {
-    let mut domains = domains;
+    place: u16,
+) -> Result<Worker<'m, P>> {
+    let dom = DomId(FIRST_MAPPER.saturating_add(place));
+    let number = u32::from(place);
+    let granted = if moves == Moves::Forwards {
+        let dest = number.saturating_add(MOST as u32);
+        grant_way(owner, middle, number, dom) && grant_way(owner, middle, dest, dom)
+    } else {
+        grant_page(owner, number, dom)
+    };
+    if !granted {
+        bail!("an entry can't be granted");
+    }
+    let gref = GrantRef(number);
+    Ok(Worker { domain, gref })
+}
+
+/// Moves so many bytes at a time, in a run of six domains. Answers how many rounds were done in all.
+pub(crate) fn run_moves<R: Threads + Wait + Sync>(
+    rt: &R,
+    alloc: Global,
+    moves: Moves,
+    len: u16,
+    extent: Extent,
+) -> Result<u64> {
+    let (threads, rounds, audit) = (extent.threads, extent.rounds, extent.audit);
+    if threads == 0 || threads > MOST {
+        bail!("threads: 1 to {MOST}");
+    }
+    let rights = AllowTable::compile(alloc, &Policy::parse(alloc, POLICY)?)?;
+    let (monitor, domains) = Monitor::new(alloc, run_domains(alloc, FEWEST, 2)?, rights)?;
+    let mut domains = all_running(alloc, &monitor, domains)?;
     if domains.len() != 2 + MOST {
         bail!("not six domains");
     }
     let mut owner = domains.remove(0);
     let mut middle = domains.remove(0);
     let mut workers = Vec::new(alloc);
-    'threads: for place in 0..threads {
-        let dom = DomId(FIRST_MAPPER.saturating_add(place));
-        let number = u32::from(place);
-        let granted = if moves == Moves::Forwards {
-            let dest = number.saturating_add(MOST as u32);
-            grant_way(&mut owner, &mut middle, number, dom)
-                && grant_way(&mut owner, &mut middle, dest, dom)
-        } else {
-            grant_page(&mut owner, number, dom)
-        };
-        if !granted {
-            bail!("an entry can't be granted");
-        }
+    'threads: for place in 0..threads as u16 {
         if !domains.is_empty() {
             let domain = domains.remove(0);
-            let gref = GrantRef(number);
-            workers.push(Worker { domain, gref })?;
+            workers.push(worker_with_page(&mut owner, &mut middle, domain, moves, place)?)?;
         }
     }
-    Ok(workers)
-}
-
-/// Moves so many bytes in so many threads, each of which does so many rounds. Answers how many were done in all.
-pub(crate) fn run_moves<R: Threads + Wait + Sync>(
-    rt: &R,
-    alloc: Global,
-    moves: Moves,
-    len: u16,
-    audit: Audit,
-    threads: usize,
-    rounds: u32,
-) -> Result<u64> {
-    if threads == 0 || threads > MOST {
-        bail!("threads: 1 to {MOST}");
-    }
-    let rights = AllowTable::compile(alloc, &Policy::parse(alloc, POLICY)?)?;
-    let (monitor, domains) = Monitor::new(alloc, run_domains(alloc, FEWEST, 2)?, rights)?;
-    let domains = all_running(alloc, &monitor, domains)?;
-    let workers = workers(alloc, domains, moves, threads as u16)?;
     let bytes = vec![in alloc; 0x5au8; usize::from(len)]?;
     let done = thread::map_vec(
         rt,
         workers,
         &|worker| { work(rt, worker, audit, moves, &bytes, len, rounds) },
     )?;
-    Ok(
-        done.iter()
-            .fold(0, |all, &more| all.saturating_add(u64::from(more))),
-    )
+    Ok(sum_of(&done))
 }

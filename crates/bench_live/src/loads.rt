@@ -1,13 +1,13 @@
 //! The loads, and the run that they are of.
-use crate::running::{Audit, Running, all_running};
+use crate::audit::{Audit, Extent, record_calls};
 use anyhow::{Result, bail};
 use gt_allow::AllowTable;
+use gt_audit::Trail;
 use gt_entry::Entry;
 use gt_live::Monitor;
 use gt_policy::Policy;
-use gt_types::{
-    Allows, Config, DomId, DomainConfig, GrantRef, LAST_GENERATION, MAX_TABLE_FRAMES, TypeId,
-};
+use gt_running::{READ_ONLY, Running, all_running};
+use gt_types::{Allows, Config, DomId, DomainConfig, LAST_GENERATION, MAX_TABLE_FRAMES, TypeId};
 use std::alloc::{AllocError, Global};
 use std::thread::{self, Threads};
 
@@ -54,13 +54,32 @@ const BEFORE_TAKEN: u32 = 128;
 /// Each type may map the pages of each and unmap them, and copy.
 pub(crate) const POLICY: &str = "type a_t; allow a_t a_t:grant { map_read map_write unmap copy };";
 
+/// So many entries from the first on, this far apart.
+#[derive(Clone, Copy)]
+struct Spread {
+    count: u32,
+    stride: u32,
+}
+
+impl Spread {
+    // The entry at this place, by turns, and the domain that maps it.
+    fn at(self, place: u64) -> (u32, DomId) {
+        let place = if self.count == 0 {
+            0
+        } else {
+            (place % u64::from(self.count)) as u32 % MOST as u32
+        };
+        let gref = FIRST + place * (self.stride % 256);
+        (gref, DomId(FIRST_MAPPER + place as u16))
+    }
+}
+
 /// What a domain does, with the entries that it maps or grants.
 #[derive(Clone, Copy)]
 enum Part {
-    Maps(GrantRef),
-    /// So many entries from the first on, this far apart.
-    Grants { count: u32, stride: u32 },
-    Withdraws { count: u32, stride: u32 },
+    Maps(u32),
+    Grants(Spread),
+    Withdraws(Spread),
 }
 
 #[derive(Drop)]
@@ -92,13 +111,6 @@ pub(crate) fn run_domains(alloc: Global, count: u16, version: u32) -> Result<Con
     })
 }
 
-// The entry at this place of a load, and the domain that maps it.
-fn target(place: u32, stride: u32) -> (GrantRef, DomId) {
-    let place = place % MOST as u32;
-    let gref = GrantRef(FIRST + place * (stride % 256));
-    (gref, DomId(FIRST_MAPPER + place as u16))
-}
-
 // A writable page for the domain.
 fn page(dom: DomId) -> Entry {
     Entry::Page {
@@ -108,61 +120,45 @@ fn page(dom: DomId) -> Entry {
     }
 }
 
-// Grants the first entries of a load, each to its mapper.
-fn grant_each<P: Allows>(owner: &mut Running<'_, P>, count: u32, stride: u32) -> bool {
+// Grants the entries of a load, each to its mapper.
+fn grant_each<P: Allows>(owner: &mut Running<'_, P>, spread: Spread) -> bool {
     let mut all = true;
-    'entries: for place in 0..count {
-        let (gref, dom) = target(place, stride);
-        all = owner.grant(gref, &page(dom)) && all;
+    'entries: for place in 0..spread.count {
+        let (gref, dom) = spread.at(u64::from(place));
+        all = owner.grant(gref, &page(dom)).is_ok() && all;
     }
     all
 }
 
 // Revokes the entries and grants them again by turns, so often, each time with as many tries as it takes. Answers how
 // often: less if entries are worn.
-fn revoke_and_grant<P: Allows>(
-    owner: &mut Running<'_, P>,
-    count: u32,
-    stride: u32,
-    rounds: u32,
-) -> u32 {
+fn revoke_and_grant<P: Allows>(owner: &mut Running<'_, P>, spread: Spread, rounds: u32) -> u32 {
     let mut done = 0;
     'rounds: for turn in 0..u64::MAX {
         if done >= rounds || done >= LAST_GENERATION - 1 {
             break;
         }
-        let place = if count == 0 {
-            0
-        } else {
-            (turn % u64::from(count)) as u32
-        };
-        let (gref, dom) = target(place, stride);
-        if owner.revoke(gref) && owner.grant(gref, &page(dom)) {
+        let (gref, dom) = spread.at(turn);
+        if owner.revoke(gref).is_ok() && owner.grant(gref, &page(dom)).is_ok() {
             done += 1;
         }
     }
     done
 }
 
-// Withdraws the entries by turns, and grants each again once it has no pin, so often, each time with as many tries as it
-// takes. Answers how often: less if entries are worn.
-fn withdraw_and_grant<P: Allows>(
-    owner: &mut Running<'_, P>,
-    count: u32,
-    stride: u32,
-    rounds: u32,
-) -> u32 {
+// Withdraws the entries by turns, and grants each again once it has no pin, so often, each time with as many tries as
+// it takes. Answers how often: less if entries are worn.
+fn withdraw_and_grant<P: Allows>(owner: &mut Running<'_, P>, spread: Spread, rounds: u32) -> u32 {
     let mut done = 0;
     let mut withdrawn = false;
     'rounds: for _ in 0..u64::MAX {
         if done >= rounds || done >= LAST_GENERATION - 1 {
             break;
         }
-        let place = if count == 0 { 0 } else { done % count };
-        let (gref, dom) = target(place, stride);
+        let (gref, dom) = spread.at(u64::from(done));
         if !withdrawn {
-            withdrawn = owner.withdraw(gref);
-        } else if owner.grant(gref, &page(dom)) {
+            withdrawn = owner.withdraw(gref).is_ok();
+        } else if owner.grant(gref, &page(dom)).is_ok() {
             withdrawn = false;
             done += 1;
         }
@@ -171,13 +167,13 @@ fn withdraw_and_grant<P: Allows>(
 }
 
 // Maps an entry and unmaps it, so often, each time with as many tries as it takes.
-fn map_and_unmap<P: Allows>(domain: &mut Running<'_, P>, gref: GrantRef, rounds: u32) -> u32 {
+fn map_and_unmap<P: Allows>(domain: &mut Running<'_, P>, gref: u32, rounds: u32) -> u32 {
     let mut done = 0;
     'rounds: for _ in 0..u64::MAX {
         if done >= rounds {
             break;
         }
-        if domain.map_once(OWNER, gref) {
+        if domain.map(OWNER.0, gref, READ_ONLY).is_ok() && domain.unmap().is_ok() {
             done += 1;
         }
     }
@@ -188,17 +184,18 @@ fn map_and_unmap<P: Allows>(domain: &mut Running<'_, P>, gref: GrantRef, rounds:
 fn map_and_take<P: Allows>(
     alloc: Global,
     domain: &mut Running<'_, P>,
-    gref: GrantRef,
+    gref: u32,
     rounds: u32,
 ) -> u32 {
     let mut done: u32 = 0;
+    let mut taken = Trail::new(alloc);
     'parts: for _ in 0..u64::MAX {
         let left = rounds.saturating_sub(done);
         if left == 0 {
             break;
         }
         let part = map_and_unmap(domain, gref, left.min(BEFORE_TAKEN));
-        domain.take_records(alloc);
+        taken = domain.take_records(taken);
         done = done.saturating_add(part);
     }
     done
@@ -206,7 +203,7 @@ fn map_and_take<P: Allows>(
 
 fn work<P: Allows>(alloc: Global, worker: Worker<'_, P>, audit: Audit, rounds: u32) -> u32 {
     let Worker { mut domain, part } = worker;
-    if !domain.record_calls(audit) {
+    if !record_calls(&mut domain, audit) {
         return 0;
     }
     match part {
@@ -214,10 +211,8 @@ fn work<P: Allows>(alloc: Global, worker: Worker<'_, P>, audit: Audit, rounds: u
             map_and_take(alloc, &mut domain, gref, rounds)
         }
         Part::Maps(gref) => map_and_unmap(&mut domain, gref, rounds),
-        Part::Grants { count, stride } => revoke_and_grant(&mut domain, count, stride, rounds),
-        Part::Withdraws { count, stride } => {
-            withdraw_and_grant(&mut domain, count, stride, rounds)
-        }
+        Part::Grants(spread) => revoke_and_grant(&mut domain, spread, rounds),
+        Part::Withdraws(spread) => withdraw_and_grant(&mut domain, spread, rounds),
     }
 }
 
@@ -240,16 +235,19 @@ fn workers<'m, P: Allows>(
     } else {
         threads
     };
-    if !grant_each(&mut owner, count.max(1), stride) {
+    let spread = Spread {
+        count: count.max(1),
+        stride,
+    };
+    if !grant_each(&mut owner, spread) {
         bail!("an entry can't be granted");
     }
     let mut workers = Vec::new(alloc);
     if grants {
-        let count = count.max(1);
         let part = if load == Load::Withdrawals {
-            Part::Withdraws { count, stride }
+            Part::Withdraws(spread)
         } else {
-            Part::Grants { count, stride }
+            Part::Grants(spread)
         };
         workers.push(Worker {
             domain: owner,
@@ -257,7 +255,7 @@ fn workers<'m, P: Allows>(
         })?;
     }
     'mappers: for place in 0..count {
-        let (gref, _) = target(place, stride);
+        let (gref, _) = spread.at(u64::from(place));
         if domains.len() > 1 {
             let part = Part::Maps(gref);
             workers.push(Worker {
@@ -269,26 +267,32 @@ fn workers<'m, P: Allows>(
     Ok(workers)
 }
 
-/// Runs a load in so many threads, each of which does so many rounds. Answers how many were done in all.
+/// How many rounds all threads have done.
+pub(crate) fn sum_of(done: &[u32]) -> u64 {
+    done.iter()
+        .fold(0, |all, &more| all.saturating_add(u64::from(more)))
+}
+
+/// Runs a load. Answers how many rounds were done in all.
 pub(crate) fn run<R: Threads + Sync>(
     rt: &R,
     alloc: Global,
     load: Load,
-    audit: Audit,
-    threads: usize,
-    rounds: u32,
-    count: u16,
+    extent: Extent,
 ) -> Result<u64> {
+    let Extent {
+        threads,
+        rounds,
+        audit,
+        domains,
+    } = extent;
     if threads == 0 || threads > MOST {
         bail!("threads: 1 to {MOST}");
     }
     let rights = AllowTable::compile(alloc, &Policy::parse(alloc, POLICY)?)?;
-    let (monitor, domains) = Monitor::new(alloc, run_domains(alloc, count, 1)?, rights)?;
+    let (monitor, domains) = Monitor::new(alloc, run_domains(alloc, domains, 1)?, rights)?;
     let domains = all_running(alloc, &monitor, domains)?;
     let workers = workers(alloc, domains, load, threads as u32)?;
     let done = thread::map_vec(rt, workers, &|worker| work(alloc, worker, audit, rounds))?;
-    Ok(
-        done.iter()
-            .fold(0, |all, &more| all.saturating_add(u64::from(more))),
-    )
+    Ok(sum_of(&done))
 }

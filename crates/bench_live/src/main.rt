@@ -12,19 +12,20 @@
 //! the owner's to another, by way of a transitive entry at each end.
 //!
 //! The calls are recorded; with a fourth word `off` they are not, with `ahead` each domain makes room for its records
-//! before its first call, and with `taken` each mapper's records are taken while it runs. A fifth word is the number of domains of a load of calls, from 6 to 64 (6).
+//! before its first call, and with `taken` each mapper's records are taken while it runs. A fifth word is the number of
+//! domains of a load of calls, from 6 to 64 (6).
 //!
-//! It promises nothing beyond the calls that it makes, and uses `gt_live`. The script `bench/live.sh` runs and times
-//! it beside the bare words and a program in C.
+//! It promises nothing beyond the calls that it makes, and uses `gt_live` and `gt_running`. The script `bench/live.sh`
+//! runs and times it beside the bare words and a program in C.
 #![tactic(auto)]
 
+mod audit;
 mod bytes;
 mod loads;
-mod running;
 
+use crate::audit::{Audit, Extent};
 use crate::bytes::{Moves, run_moves};
 use crate::loads::{FEWEST, Load, run};
-use crate::running::Audit;
 use anyhow::{Result, bail};
 use std::env;
 
@@ -84,10 +85,15 @@ fn main(rt: HostRuntime) -> Result<()> {
         bail!("no such load: {}", name.as_str());
     };
     let threads = threads.as_str().parse::<usize>()?;
-    let rounds = rounds.as_str().parse::<u32>()?;
+    let extent = Extent {
+        threads,
+        rounds: rounds.as_str().parse::<u32>()?,
+        audit,
+        domains,
+    };
     let done = match work {
-        Work::Calls(load) => run(&rt, rt.alloc(), load, audit, threads, rounds, domains)?,
-        Work::Bytes(moves, len) => run_moves(&rt, rt.alloc(), moves, len, audit, threads, rounds)?,
+        Work::Calls(load) => run(&rt, rt.alloc(), load, extent)?,
+        Work::Bytes(moves, len) => run_moves(&rt, rt.alloc(), moves, len, extent)?,
     };
     println!(rt; "{} {threads} {done}", name.as_str())?;
     Ok(())

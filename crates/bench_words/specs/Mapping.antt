@@ -1,18 +1,32 @@
 -- What a mapper needs of the entry that it maps.
-use Rattle.std.specs.Prelude.{◌≡◌, ◌≢◌, ◌⊎◌, ℕ, ◌≤◌}
+use Rattle.std.specs.Prelude.{◌≡◌, ◌≢◌, ◌⊎◌, ℕ, ◌<◌, ◌≤◌}
 use Rattle.gt_entry.specs.declared.entry.Entry.TheVariants.{Invalid}
 use Rattle.gt_types.specs.declared.Dir.TheVariants.{Read}
 use Rattle.gt_types.specs.declared.DomId.{DomId}
-use Rattle.gt_words.specs.Conditions.{Board, IsEntryOf, IsSeatOf, SeatOf}
+use Rattle.gt_types.specs.declared.GrantRef.{GrantRef}
+use Rattle.gt_types.specs.declared.limits.TheConstants.{TABLE_ENTRIES}
+use Rattle.gt_words.specs.Conditions.{Board, IsEntryOf, IsSameSeat, IsSeatOf, SeatOf}
 use Rattle.gt_words.specs.Controls.{ForwardsPin, LeadsTo}
 use Rattle.gt_words.specs.Rule.{Layout, id_at, position_in}
 use Rattle.gt_words.specs.Views.{IsAmong, LivePin, last_of, live_pins, steps_on}
 use Rattle.gt_words.specs.declared.view.View.{View}
 use Rattle.bench_words.specs.declared.mapper.Target.{Target}
+use Rattle.bench_words.specs.declared.owner.Row.{Row}
 
 -- the seat has published no entry from the reference n on
 abbrev pub IsUnusedFrom : ℕ → View → Type 0
 IsUnusedFrom n v = (r : ℕ) → n ≤ r → last_of r v ≡ record { generation = 0; entry = Invalid }
+
+-- the seat is one of these words', and the row is what it knows of its entry, which is in its table
+abbrev pub Owns : Board → SeatOf → GrantRef → Row → Type 0
+Owns b s q row =
+    IsSeatOf b s × (q.0 < TABLE_ENTRIES)
+    × (last_of q.0 s.view ≡ record { generation = row.generation; entry = row.entry })
+
+-- the seat goes on, and the row is what it knows then
+abbrev pub OwnsStill : SeatOf → SeatOf → GrantRef → Row → Type 0
+OwnsStill s s' q row =
+    IsSameSeat s s' × (last_of q.0 s'.view ≡ record { generation = row.generation; entry = row.entry })
 
 -- the view has a read pin of a transitive entry of the domain m, another one than t, which forwarded the
 -- seat's domain and leads to the entry r of the domain t (own, after grant_table.h, transitive)

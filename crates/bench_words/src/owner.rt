@@ -3,6 +3,7 @@ ghost use Rattle.std.specs.Prelude.{◌≡◌, ◌≢◌, ◌+◌, ◌<◌, ℕ}
 ghost use Rattle.gt_entry.specs.Spelling.{IsSpelled};
 ghost use Rattle.gt_words.specs.Views.{last_of, own_body};
 ghost use Rattle.gt_words.specs.Conditions.{HasDomain, IsSeatOf, IsSameSeat};
+ghost use Rattle.bench_words.specs.Mapping.{Owns, OwnsStill};
 
 use gt_entry::{Control, Entry, Half};
 use gt_types::{DomId, GrantRef, LAST_GENERATION, TABLE_ENTRIES};
@@ -42,12 +43,9 @@ pub(crate) fn publish(
     row: &mut Row,
     entry: Entry,
 ) -> bool
-    requires seat { IsSeatOf words.now seat.old }
-    requires reference { gref.0 < TABLE_ENTRIES }
-    requires row { last_of gref.0 seat.old.view ≡ record { generation = row.old.generation; entry = row.old.entry } }
+    requires owner { Owns words.now seat.old gref row.old }
     requires given { entry ≢ Entry.Invalid }
-    ensures seat { IsSameSeat seat.old seat.new }
-    ensures row { last_of gref.0 seat.new.view ≡ record { generation = row.new.generation; entry = row.new.entry } }
+    ensures owner { OwnsStill seat.old seat.new gref row.new }
     ensures others { (r : ℕ) → gref.0 ≢ r → last_of r seat.new.view ≡ last_of r seat.old.view }
 {
     if !row.entry.is_invalid() || row.generation >= LAST_GENERATION {
@@ -65,11 +63,8 @@ pub(crate) fn publish(
 
 /// Revokes the entry, and answers whether it did: not if it has pins, or is invalid.
 pub(crate) fn revoke(words: &Words, seat: &mut Seat, gref: GrantRef, row: &mut Row) -> bool
-    requires seat { IsSeatOf words.now seat.old }
-    requires reference { gref.0 < TABLE_ENTRIES }
-    requires row { last_of gref.0 seat.old.view ≡ record { generation = row.old.generation; entry = row.old.entry } }
-    ensures seat { IsSameSeat seat.old seat.new }
-    ensures row { last_of gref.0 seat.new.view ≡ record { generation = row.new.generation; entry = row.new.entry } }
+    requires owner { Owns words.now seat.old gref row.old }
+    ensures owner { OwnsStill seat.old seat.new gref row.new }
 {
     if row.entry.is_invalid() || row.generation > LAST_GENERATION {
         return false;
@@ -82,8 +77,8 @@ pub(crate) fn revoke(words: &Words, seat: &mut Seat, gref: GrantRef, row: &mut R
     true
 }
 
-/// Withdraws the entry by one exchange from the word that it finds, and answers whether it did: not if it is invalid, or
-/// if pins came or went meanwhile.
+/// Withdraws the entry by one exchange from the word that it finds, and answers whether it did: not if it is invalid,
+/// or if pins came or went meanwhile.
 pub(crate) fn withdraw(
     words: &Words,
     seat: &mut Seat,
@@ -91,12 +86,9 @@ pub(crate) fn withdraw(
     gref: GrantRef,
     row: &mut Row,
 ) -> bool
-    requires seat { IsSeatOf words.now seat.old }
+    requires owner { Owns words.now seat.old gref row.old }
     requires own { (owner ≡ seat.old.dom) × HasDomain words.now.layout owner }
-    requires reference { gref.0 < TABLE_ENTRIES }
-    requires row { last_of gref.0 seat.old.view ≡ record { generation = row.old.generation; entry = row.old.entry } }
-    ensures seat { IsSameSeat seat.old seat.new }
-    ensures row { last_of gref.0 seat.new.view ≡ record { generation = row.new.generation; entry = row.new.entry } }
+    ensures owner { OwnsStill seat.old seat.new gref row.new }
 {
     if row.entry.is_invalid() {
         return false;
@@ -130,9 +122,7 @@ pub(crate) fn revoke_and_grant(
     named: DomId,
     rounds: u32,
 ) -> u32
-    requires seat { IsSeatOf words.now seat }
-    requires reference { gref.0 < TABLE_ENTRIES }
-    requires row { last_of gref.0 seat.view ≡ record { generation = row.generation; entry = row.entry } }
+    requires owner { Owns words.now seat gref row }
 {
     let mut done = 0;
     for _ in 0..u64::MAX {
@@ -158,10 +148,8 @@ pub(crate) fn withdraw_and_grant(
     named: DomId,
     rounds: u32,
 ) -> u32
-    requires seat { IsSeatOf words.now seat }
+    requires owner { Owns words.now seat gref row }
     requires own { (owner ≡ seat.dom) × HasDomain words.now.layout owner }
-    requires reference { gref.0 < TABLE_ENTRIES }
-    requires row { last_of gref.0 seat.view ≡ record { generation = row.generation; entry = row.entry } }
 {
     let mut done = 0;
     for _ in 0..u64::MAX {

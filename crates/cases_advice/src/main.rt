@@ -10,7 +10,7 @@ mod questions;
 mod reports;
 
 use questions::answer_said;
-use reports::report_said;
+use reports::{report_said, wide_said};
 use std::fs;
 
 // If the questions begin.
@@ -33,6 +33,7 @@ fn main(rt: HostRuntime) -> anyhow::Result<()> {
         let said = report_said(alloc, path.as_str(), text.as_str())?;
         print!(rt; "== {name}\n{said}")?;
     }
+    print!(rt; "== wide\n{}", wide_said(alloc)?)?;
     let asked = words.get(start..).unwrap_or(&[]);
     for question in asked.get(1..).unwrap_or(&[]).chunks(4) {
         let [name, source, target, perm] = question else {

@@ -12,6 +12,8 @@
 //!   each time that the second flag was raised, or where one was awaited, and how many records the log has.
 //! - `--beginnings`: each beginning of the script, from no byte to the whole, with its records and without. What it
 //!   prints stands after its count of bytes if it differs from what one byte less prints.
+//! - `--refusing`: threads and memory are refused in turn, each with its records, and lines say what came of that. It
+//!   comes first, since a thread that found memory leaves some to those that come after it. `--run` ends it.
 //!
 //! No name comes after two more words. After `--many` as many domains as a run may have, with long lists that are made
 //! here, meet at a gate. After `--long` one domain has as many lines as a script has room for.
@@ -20,9 +22,12 @@
 mod beginnings;
 mod failing;
 mod gates;
+mod likeness;
 mod long;
 mod many;
+mod refusing;
 mod running;
+mod scarce;
 
 use beginnings::beginnings_said;
 use failing::failing_said;
@@ -31,6 +36,7 @@ use gt_audit::SharedLog;
 use gt_run::{Flags, run};
 use long::long_said;
 use many::many_said;
+use refusing::refusing_said;
 use std::alloc::Global;
 use std::fs::{self, File};
 use std::io;
@@ -50,6 +56,7 @@ enum Mode {
     Told,
     Awaited,
     Beginnings,
+    Refusing,
 }
 
 // The mode that a word names, if it is no name of a file.
@@ -64,6 +71,8 @@ fn mode_named(word: &str) -> Option<Mode> {
         "--told" => Some(Mode::Told),
         "--awaited" => Some(Mode::Awaited),
         "--beginnings" => Some(Mode::Beginnings),
+        "--refusing" => Some(Mode::Refusing),
+        "--run" => Some(Mode::Run),
         _ => None,
     }
 }
@@ -105,6 +114,7 @@ fn try_file<R: Runtime + Threads + Wait + Sync>(
         Mode::Told => records_said(rt, alloc, script, true)?,
         Mode::Awaited => records_said(rt, alloc, script, false)?,
         Mode::Beginnings => beginnings_said(rt, alloc, script)?,
+        Mode::Refusing => refusing_said(rt, alloc, script)?,
     };
     print!(rt; "{said}")?;
     Ok(())

@@ -112,6 +112,10 @@ nothing_push old new x fine tells repeat is = (no_error_more old new x is fine, 
 pub repeat_push : (old new : List Finding) (x : Finding) → is_error x.kind ≡ false → is_of_nothing x.kind ≡ false → is_of_repeat x.kind ≡ true → new ≡ old ++ x ∷ [] → TellsUseless old new [] (x.line ∷ [])
 repeat_push old new x fine nothing tells is = (no_error_more old new x is fine, no_more (nothing_lines old) (nothing_lines new) (no_statement_more old new x is nothing), a_repeat_more old new x is tells)
 
+-- a statement that repeats another, and then a note
+pub repeat_then_note : (a b c : List Finding) (repeated : List ℕ) → TellsUseless a b [] repeated → Quiet b c → TellsUseless a c [] repeated
+repeat_then_note a b c repeated t q = (q.0 ∙ t.0, q.1 ∙ t.1, q.2 ∙ t.2)
+
 one_then_none : (a b c l : List ℕ) → b ≡ a ++ l → c ≡ b ++ [] → c ≡ a ++ l
 one_then_none a b c l p q = q ∙ append-nil b ∙ p
 

@@ -5,7 +5,7 @@ use Rattle.gt_advice.specs.Prelude.{flat_map, list_any, every_permission, permis
 use Rattle.gt_advice.specs.Prelude.{IsLined, statements_in, has_grant, types_in, Says, TokenFault, LinedStatement}
 use Rattle.gt_advice.specs.Prelude.{Statement, DeclareType, DeclareAttribute, GiveAttributes, Allow, Finding, Kind}
 use Rattle.gt_advice.specs.Prelude.{Fault, OtherClass, OtherPermission, AllowsNothing, NeverAsked, Repeats, NeverNamed}
-use Rattle.gt_advice.specs.Prelude.{NoDomain, NeverMatters, NeverMapped, Member}
+use Rattle.gt_advice.specs.Prelude.{NoDomain, NeverMatters, NeverMapped, Note, Member}
 use Rattle.gt_advice.specs.Granting.{exceeds_some, gives_some}
 
 -- the finding is an error
@@ -20,6 +20,7 @@ is_error NeverNamed = false
 is_error NoDomain = false
 is_error NeverMatters = false
 is_error NeverMapped = false
+is_error Note = false
 
 -- the finding is that a statement allows nothing
 abbrev pub is_of_nothing : Kind → Bool
@@ -33,6 +34,7 @@ is_of_nothing NeverNamed = false
 is_of_nothing NoDomain = false
 is_of_nothing NeverMatters = false
 is_of_nothing NeverMapped = false
+is_of_nothing Note = false
 
 -- the finding is that a statement repeats an earlier one
 abbrev pub is_of_repeat : Kind → Bool
@@ -46,6 +48,7 @@ is_of_repeat NeverNamed = false
 is_of_repeat NoDomain = false
 is_of_repeat NeverMatters = false
 is_of_repeat NeverMapped = false
+is_of_repeat Note = false
 
 -- the lines of the errors
 abbrev pub error_lines : List Finding → List ℕ

@@ -6,6 +6,7 @@ use Rattle.gt_advice.specs.declared.findings.Kind.{Kind}
 use Rattle.gt_advice.specs.declared.findings.Kind.TheVariants.{Fault, OtherClass, OtherPermission, AllowsNothing}
 use Rattle.gt_advice.specs.declared.findings.Kind.TheVariants.{NeverAsked}
 use Rattle.gt_advice.specs.declared.findings.Kind.TheVariants.{Repeats, NeverNamed, NoDomain, NeverMatters, NeverMapped}
+use Rattle.gt_advice.specs.declared.findings.Kind.TheVariants.{Note}
 
 -- how bad a finding is
 abbrev pub severity_text : Kind → List ℕ
@@ -19,6 +20,7 @@ severity_text NeverNamed = codes "warning"
 severity_text NoDomain = codes "warning"
 severity_text NeverMatters = codes "warning"
 severity_text NeverMapped = codes "warning"
+severity_text Note = codes "note"
 
 -- `FILE:LINE:COLUMN: SEVERITY: MESSAGE`
 abbrev pub heading_text : List ℕ → Finding → List ℕ

@@ -1,6 +1,8 @@
-//! If a fault of a text stands, and what would fit there.
+//! Where a fault of a text stands, and what would fit there.
+use crate::declared::{Declared, declared_in};
 use crate::nearest::nearest;
-use crate::places::{LineTokens, Span, bytes_of, column_of, column_of_word, front_of, line_tokens};
+use crate::places::{LineTokens, bytes_of, column_of, column_of_word, front_of, line_tokens};
+use crate::report::push_shown;
 use gt_policy::{Policy, PolicyFault, PolicyFaultKind};
 use gt_streams::{push_text, text_of};
 use gt_types::Memory;
@@ -8,7 +10,8 @@ use itoa::Buffer;
 use std::alloc::{AllocError, Global};
 
 /// What a statement may go on with. A permission stands for any name, since it is one in each place of a name.
-const CANDIDATES: [(&str, &str); 9] = [
+const CANDIDATES: [(&str, &str); 10] = [
+    ("allow", "a statement"),
     (";", "\";\""),
     (",", "\",\""),
     (":", "\":\""),
@@ -31,11 +34,20 @@ pub(crate) const PERMISSIONS: [&str; 7] = [
     "query",
 ];
 
-/// If a fault stands in its line, and what is said of it.
+/// What is said beside an error or a warning, and where.
 #[derive(Drop)]
-pub struct Explained {
+pub(crate) struct Note {
+    pub line: u32,
     pub column: u32,
     pub message: Vec<u8>,
+}
+
+/// Where a fault stands in its line, and what is said of it.
+#[derive(Drop)]
+pub(crate) struct Explained {
+    pub column: u32,
+    pub message: Vec<u8>,
+    pub note: Option<Note>,
 }
 
 // The line on which a text stops.
@@ -123,11 +135,25 @@ fn expected(alloc: Global, front: &[u8]) -> Result<Vec<u8>, Memory> {
     Ok(out)
 }
 
-// Appends a word in quotes.
+// Appends a word in quotes, as its line is shown.
 fn push_quoted(out: &mut Vec<u8>, word: &[u8]) -> Result<(), AllocError> {
     push_text(out, "\"")?;
-    out.extend_from_slice(word)?;
+    if let Ok(text) = text_of(word) {
+        for letter in text.chars() {
+            push_shown(out, letter)?;
+        }
+    }
     push_text(out, "\"")
+}
+
+// Appends the name that may be meant, if there is one.
+fn push_meant(out: &mut Vec<u8>, meant: Option<&str>) -> Result<(), AllocError> {
+    let Some(name) = meant else {
+        return Ok(());
+    };
+    push_text(out, "; did you mean ")?;
+    push_quoted(out, name.as_bytes())?;
+    push_text(out, "?")
 }
 
 /// Appends the name that a misspelt one may be meant as, if there is one.
@@ -137,12 +163,8 @@ pub fn push_hint(
     word: &str,
     names: &[&str],
 ) -> Result<(), AllocError> {
-    if let Some(name) = nearest(alloc, word, names)? {
-        push_text(out, "; did you mean ")?;
-        push_quoted(out, name.as_bytes())?;
-        push_text(out, "?")?;
-    }
-    Ok(())
+    let meant = nearest(alloc, word, names)?;
+    push_meant(out, meant)
 }
 
 /// A word in quotes, and what is said of it.
@@ -189,7 +211,11 @@ fn explain_syntax(alloc: Global, bytes: &[u8], line: &LineTokens) -> Result<Expl
         push_text(&mut message, " after ")?;
         push_quoted(&mut message, last)?;
     }
-    Ok(Explained { column, message })
+    Ok(Explained {
+        column,
+        message,
+        note: None,
+    })
 }
 
 // The column of the token that does not fit.
@@ -201,43 +227,47 @@ fn misfit_column(alloc: Global, bytes: &[u8], line: &LineTokens) -> Result<u32, 
     }
 }
 
-/// A name that is declared, with its line.
-#[derive(Clone, Copy)]
-struct Declared<'a> {
-    name: &'a str,
-    line: u32,
+// Says where a name is declared.
+fn declared_here(alloc: Global, declared: &Declared, said: &str) -> Result<Note, AllocError> {
+    Ok(Note {
+        line: declared.line,
+        column: declared.column,
+        message: said_of(alloc, declared.name, said)?,
+    })
 }
 
-// Appends the names that a line declares.
-fn push_declared<'a>(
+// The declaration of a name, if it has one.
+fn declaration<'d, 'a>(declared: &'d [Declared<'a>], name: &str) -> Option<&'d Declared<'a>> {
+    declared.iter().find(|one| one.name == name)
+}
+
+// A name that is declared as something else than is needed.
+fn explain_other(alloc: Global, column: u32, declared: &Declared) -> Result<Explained, AllocError> {
+    let said = if declared.is_type {
+        " is a type, and an attribute is expected here"
+    } else {
+        " is an attribute, and a type is expected here"
+    };
+    let message = said_of(alloc, declared.name, said)?;
+    let note = declared_here(alloc, declared, " is declared here")?;
+    Ok(Explained {
+        column,
+        message,
+        note: Some(note),
+    })
+}
+
+// The name that is declared and nearest to one that is not.
+fn nearest_declared<'a>(
     alloc: Global,
-    names: &mut Vec<Declared<'a>>,
-    text: &'a str,
-    line: u32,
-) -> Result<(), AllocError> {
-    let tokens = line_tokens(alloc, text.as_bytes(), 1)?;
-    let mut declares = false;
-    for token in &tokens.tokens {
-        let word = bytes_of(text.as_bytes(), *token);
-        if declares {
-            if let Ok(name) = text_of(word) {
-                names.push(Declared { name, line })?;
-            }
-        }
-        declares = word == b"type".as_slice() || word == b"attribute".as_slice();
-    }
-    Ok(())
-}
-
-// The words after `type` and `attribute`, line by line.
-fn declared_in<'a>(alloc: Global, text: &'a str) -> Result<Vec<Declared<'a>>, AllocError> {
+    declared: &[Declared<'a>],
+    name: &str,
+) -> Result<Option<&'a str>, AllocError> {
     let mut names = Vec::new(alloc);
-    let mut number: u32 = 1;
-    for line in text.lines() {
-        push_declared(alloc, &mut names, line, number)?;
-        number = number.saturating_add(1);
+    for one in declared {
+        names.push(one.name)?;
     }
-    Ok(names)
+    nearest(alloc, name, names.as_slice())
 }
 
 // A name that is not declared, and the nearest that is.
@@ -246,16 +276,23 @@ fn explain_unknown(
     text: &str,
     line: &LineTokens,
     name: &str,
-) -> Result<Explained, Memory> {
-    let mut message = said_of(alloc, name, " is not declared")?;
-    let mut names = Vec::new(alloc);
-    for declared in &declared_in(alloc, text)? {
-        names.push(declared.name)?;
+) -> Result<Explained, AllocError> {
+    let column = column_of_word(text.as_bytes(), line, name.as_bytes(), 0);
+    let declared = declared_in(alloc, text)?;
+    if let Some(other) = declaration(declared.as_slice(), name) {
+        return explain_other(alloc, column, other);
     }
-    push_hint(alloc, &mut message, name, names.as_slice())?;
+    let mut message = said_of(alloc, name, " is not declared")?;
+    let meant = nearest_declared(alloc, declared.as_slice(), name)?;
+    push_meant(&mut message, meant)?;
+    let note = match meant.and_then(|meant| declaration(declared.as_slice(), meant)) {
+        Some(near) => Some(declared_here(alloc, near, " is declared here")?),
+        None => None,
+    };
     Ok(Explained {
-        column: column_of_word(text.as_bytes(), line, name.as_bytes(), 0),
+        column,
         message,
+        note,
     })
 }
 
@@ -267,42 +304,66 @@ fn explain_twice(
     name: &str,
 ) -> Result<Explained, Memory> {
     let mut message = said_of(alloc, name, " is declared twice")?;
+    let mut note = None;
     let declared = declared_in(alloc, text)?;
-    if let Some(first) = declared.iter().find(|one| one.name == name) {
+    if let Some(first) = declaration(declared.as_slice(), name) {
         let mut digits = Buffer::new();
         push_text(&mut message, ", and first on line ")?;
         push_text(&mut message, digits.format(first.line))?;
+        note = Some(declared_here(alloc, first, " is first declared here")?);
     }
+    let column = misfit_column(alloc, text.as_bytes(), line)?;
     Ok(Explained {
-        column: misfit_column(alloc, text.as_bytes(), line)?,
+        column,
         message,
+        note,
     })
 }
 
-/// If the fault of a text stands in its line, and what is said of it.
+// A word that fits nowhere, and what is said of it.
+fn explain_word(
+    alloc: Global,
+    bytes: &[u8],
+    line: &LineTokens,
+    message: Vec<u8>,
+) -> Result<Explained, Memory> {
+    let column = misfit_column(alloc, bytes, line)?;
+    Ok(Explained {
+        column,
+        message,
+        note: None,
+    })
+}
+
+/// Where the fault of a text stands in its line, and what is said of it.
 pub(crate) fn explain(alloc: Global, text: &str, fault: &PolicyFault) -> Result<Explained, Memory> {
     let bytes = text.as_bytes();
     let line = line_tokens(alloc, bytes, fault.line)?;
     match &fault.kind {
         PolicyFaultKind::Syntax => explain_syntax(alloc, bytes, &line),
-        PolicyFaultKind::Unknown(name) => explain_unknown(alloc, text, &line, name.as_str()),
+        PolicyFaultKind::Unknown(name) => {
+            let explained = explain_unknown(alloc, text, &line, name.as_str())?;
+            Ok(explained)
+        }
         PolicyFaultKind::Twice(name) => explain_twice(alloc, text, &line, name.as_str()),
         PolicyFaultKind::Permission(name) => {
             let mut message = said_of(alloc, name.as_str(), " is no permission of class grant")?;
             push_hint(alloc, &mut message, name.as_str(), PERMISSIONS.as_slice())?;
-            let column = misfit_column(alloc, bytes, &line)?;
-            Ok(Explained { column, message })
+            explain_word(alloc, bytes, &line, message)
         }
         PolicyFaultKind::Outside(word) => {
             let said = " is outside the part of the policy language that is read here";
             let message = said_of(alloc, word.as_str(), said)?;
-            let column = misfit_column(alloc, bytes, &line)?;
-            Ok(Explained { column, message })
+            explain_word(alloc, bytes, &line, message)
         }
         PolicyFaultKind::Limit => {
             let mut message = Vec::new(alloc);
             push_text(&mut message, LIMITS)?;
-            Ok(Explained { column: 1, message })
+            Ok(Explained {
+                column: 1,
+                message,
+                note: None,
+            })
         }
         PolicyFaultKind::Memory => Err(Memory),
     }

@@ -10,7 +10,7 @@ ghost use Rattle.gt_advice.specs.Check.{no_more_with, nothing_lines, repeat_line
 ghost use Rattle.gt_advice.specs.Check.{repeats_with, useless_line};
 ghost use Rattle.gt_advice.specs.Granting.{exceeds_some, gives_some};
 
-use crate::fault::{Explained, PERMISSIONS, explain, push_hint, said_of};
+use crate::fault::{Explained, Note, PERMISSIONS, explain, push_hint, said_of};
 use crate::granting::{exceeds_some, gives_some, has_grant, names_type};
 use crate::members::{Member, is_same, members_of};
 use crate::places::{LineTokens, column_of_word, line_tokens};
@@ -46,6 +46,8 @@ pub enum Kind {
     NeverMatters,
     /// A label of a script that no map before it has.
     NeverMapped,
+    /// What is said beside the error or the warning before it.
+    Note,
 }
 
 /// Something in a text that is wrong or useless. Lines and columns are counted from 1.
@@ -116,13 +118,68 @@ fn push_quiet(found: &mut Vec<Finding>, finding: Finding) -> Result<(), AllocErr
     Ok(())
 }
 
+// Adds a note, if there is one.
+fn push_note(found: &mut Vec<Finding>, note: Option<Note>) -> Result<(), AllocError>
+    ensures { OnOk result (Quiet found.old.items found.new.items) }
+{
+    match note {
+        Some(
+            Note {
+                line,
+                column,
+                message,
+            },
+        ) => push_quiet(
+            found,
+            Finding {
+                kind: Kind::Note,
+                line,
+                column,
+                message,
+            },
+        ),
+        None => Ok(()),
+    }
+}
+
+// The line on which a statement begins.
+#[derive(Clone, Copy)]
+struct Line<'t> {
+    bytes: &'t [u8],
+    tokens: &'t LineTokens,
+    number: u32,
+}
+
+// Tells something of a word of a line, which is no error, nor about a statement that allows nothing or repeats another.
+fn push_of_word(
+    found: &mut Vec<Finding>,
+    kind: Kind,
+    line: &Line,
+    word: &str,
+    message: Vec<u8>,
+) -> Result<(), AllocError>
+    requires no_error { is_error kind ≡ false }
+    requires no_statement { is_of_nothing kind ≡ false }
+    requires no_repeat { is_of_repeat kind ≡ false }
+    ensures { OnOk result (Quiet found.old.items found.new.items) }
+{
+    let column = column_of_word(line.bytes, line.tokens, word.as_bytes(), 0);
+    push_quiet(
+        found,
+        Finding {
+            kind,
+            line: line.number,
+            column,
+            message,
+        },
+    )
+}
+
 // Tells a class that is not `grant`.
 fn warn_class(
     alloc: Global,
     found: &mut Vec<Finding>,
-    bytes: &[u8],
-    line: &LineTokens,
-    number: u32,
+    line: &Line,
     class: &str,
 ) -> Result<(), AllocError>
     ensures { OnOk result (Quiet found.old.items found.new.items) }
@@ -133,41 +190,21 @@ fn warn_class(
     let said = " is another class than grant: what it lists is granted by no call here";
     let mut message = said_of(alloc, class, said)?;
     push_hint(alloc, &mut message, class, ["grant"].as_slice())?;
-    push_quiet(
-        found,
-        Finding {
-            kind: Kind::OtherClass,
-            line: number,
-            column: column_of_word(bytes, line, class.as_bytes(), 0),
-            message,
-        },
-    )
+    push_of_word(found, Kind::OtherClass, line, class, message)
 }
 
 // Tells a word among the permissions of class `grant` that is none of them, or that no call asks for.
 fn warn_perm(
     alloc: Global,
     found: &mut Vec<Finding>,
-    bytes: &[u8],
-    line: &LineTokens,
-    number: u32,
+    line: &Line,
     word: &str,
 ) -> Result<(), AllocError>
     ensures { OnOk result (Quiet found.old.items found.new.items) }
 {
-    let column = column_of_word(bytes, line, word.as_bytes(), 0);
     if word == "transfer" {
         let message = said_of(alloc, word, " is asked by no call")?;
-        let kind = Kind::NeverAsked;
-        return push_quiet(
-            found,
-            Finding {
-                kind,
-                line: number,
-                column,
-                message,
-            },
-        );
+        return push_of_word(found, Kind::NeverAsked, line, word, message);
     }
     if Perms::named(word.as_bytes()).is_some() {
         return Ok(());
@@ -175,31 +212,20 @@ fn warn_perm(
     let said = " is no permission of class grant, which grants nothing by it";
     let mut message = said_of(alloc, word, said)?;
     push_hint(alloc, &mut message, word, PERMISSIONS.as_slice())?;
-    let kind = Kind::OtherPermission;
-    push_quiet(
-        found,
-        Finding {
-            kind,
-            line: number,
-            column,
-            message,
-        },
-    )
+    push_of_word(found, Kind::OtherPermission, line, word, message)
 }
 
 // Tells what is useless among the classes.
 fn warn_classes(
     alloc: Global,
     found: &mut Vec<Finding>,
-    bytes: &[u8],
-    line: &LineTokens,
-    number: u32,
+    line: &Line,
     classes: &[TextPiece],
 ) -> Result<(), AllocError>
     ensures { OnOk result (Quiet found.old.items found.new.items) }
 {
     'classes: for class in classes {
-        warn_class(alloc, found, bytes, line, number, class.as_str())?;
+        warn_class(alloc, found, line, class.as_str())?;
     }
     Ok(())
 }
@@ -208,15 +234,13 @@ fn warn_classes(
 fn warn_perms(
     alloc: Global,
     found: &mut Vec<Finding>,
-    bytes: &[u8],
-    line: &LineTokens,
-    number: u32,
+    line: &Line,
     perms: &[TextPiece],
 ) -> Result<(), AllocError>
     ensures { OnOk result (Quiet found.old.items found.new.items) }
 {
     'perms: for perm in perms {
-        warn_perm(alloc, found, bytes, line, number, perm.as_str())?;
+        warn_perm(alloc, found, line, perm.as_str())?;
     }
     Ok(())
 }
@@ -225,23 +249,19 @@ fn warn_perms(
 fn warn_words(
     alloc: Global,
     found: &mut Vec<Finding>,
-    bytes: &[u8],
-    line: &LineTokens,
-    number: u32,
+    line: &Line,
     allowed: &Allowance,
 ) -> Result<(), AllocError>
     ensures { OnOk result (Quiet found.old.items found.new.items) }
 {
     let classes = allowed.classes.as_slice();
-    warn_classes(alloc, found, bytes, line, number, classes)?;
+    warn_classes(alloc, found, line, classes)?;
     if !has_grant(classes) {
         return Ok(());
     }
     match &allowed.perms {
         Permissions::Every => Ok(()),
-        Permissions::Named(words) => {
-            warn_perms(alloc, found, bytes, line, number, words.as_slice())
-        }
+        Permissions::Named(words) => warn_perms(alloc, found, line, words.as_slice()),
     }
 }
 
@@ -301,52 +321,40 @@ fn warn_nothing(
     Ok(())
 }
 
-// What is said of a statement that repeats one of those before it.
-fn repeat_message(
-    alloc: Global,
+// The first of the statements before one that grants all that it grants.
+fn first_giving(
     stated: &LinedStatement,
     before: &[LinedStatement],
     members: &[Member],
-) -> Result<Vec<u8>, AllocError> {
+) -> Option<usize> {
+    before.iter().position(|earlier| grants_no_more(&stated.statement, &earlier.statement, members))
+}
+
+// What is said of a statement that repeats the one on this line.
+fn repeat_message(alloc: Global, line: u32) -> Result<Vec<u8>, AllocError> {
+    let mut digits = Buffer::new();
     let mut message = message_of(alloc, "this statement allows only what the one on line ")?;
-    let first = before.iter().find(|earlier| grants_no_more(
-        &stated.statement,
-        &earlier.statement,
-        members,
-    ));
-    if let Some(first) = first {
-        let mut digits = Buffer::new();
-        push_text(&mut message, digits.format(first.line))?;
-    }
+    push_text(&mut message, digits.format(line))?;
     push_text(&mut message, " allows")?;
     Ok(message)
 }
 
-// Tells that a statement repeats one of those before it, if it does.
-fn warn_repeat(
+// Says where the statement stands that another repeats, which is the last of these.
+fn repeat_note(
     alloc: Global,
-    found: &mut Vec<Finding>,
-    column: u32,
-    stated: &LinedStatement,
-    before: &[LinedStatement],
-    members: &[Member],
-) -> Result<(), AllocError>
-    ensures { OnOk result (TellsUseless found.old.items found.new.items []
-        (repeat_line members.now before.now stated.now)) }
-{
-    if repeats(&stated.statement, before, members) {
-        let message = repeat_message(alloc, stated, before, members)?;
-        return push_repeat(
-            found,
-            Finding {
-                kind: Kind::Repeats,
-                line: stated.line,
-                column,
-                message,
-            },
-        );
-    }
-    Ok(())
+    bytes: &[u8],
+    earlier: &[LinedStatement],
+) -> Result<Option<Note>, AllocError> {
+    let Some((first, before)) = earlier.split_last() else {
+        return Ok(None);
+    };
+    let tokens = line_tokens(alloc, bytes, first.line)?;
+    let skipped = allows_on(before, first.line);
+    Ok(Some(Note {
+        line: first.line,
+        column: column_of_word(bytes, &tokens, b"allow".as_slice(), skipped),
+        message: message_of(alloc, "this statement allows it first")?,
+    }))
 }
 
 // The types of a policy, whether there is a script, and the types that its domains have.
@@ -381,45 +389,21 @@ fn has_no_domain(types: &Types, name: &TextPiece) -> bool {
 fn warn_type(
     alloc: Global,
     found: &mut Vec<Finding>,
-    bytes: &[u8],
-    line: &LineTokens,
-    number: u32,
+    line: &Line,
     statements: &[LinedStatement],
     types: &Types,
     name: &TextPiece,
 ) -> Result<(), AllocError>
     ensures { OnOk result (Quiet found.old.items found.new.items) }
 {
-    let column = column_of_word(bytes, line, name.as_bytes(), 0);
+    let word = name.as_str();
     if !is_named(statements, types.members, name) {
-        let message = said_of(alloc, name.as_str(), " is in no set of an allow statement")?;
-        let kind = Kind::NeverNamed;
-        return push_quiet(
-            found,
-            Finding {
-                kind,
-                line: number,
-                column,
-                message,
-            },
-        );
+        let message = said_of(alloc, word, " is in no set of an allow statement")?;
+        return push_of_word(found, Kind::NeverNamed, line, word, message);
     }
     if has_no_domain(types, name) {
-        let message = said_of(
-            alloc,
-            name.as_str(),
-            " is the type of no domain of this script",
-        )?;
-        let kind = Kind::NoDomain;
-        return push_quiet(
-            found,
-            Finding {
-                kind,
-                line: number,
-                column,
-                message,
-            },
-        );
+        let message = said_of(alloc, word, " is the type of no domain of this script")?;
+        return push_of_word(found, Kind::NoDomain, line, word, message);
     }
     Ok(())
 }
@@ -462,8 +446,7 @@ fn warn_matter(
 fn warn_parts(
     alloc: Global,
     found: &mut Vec<Finding>,
-    bytes: &[u8],
-    line: &LineTokens,
+    line: &Line,
     stated: &LinedStatement,
     statements: &[LinedStatement],
     types: &Types,
@@ -471,18 +454,9 @@ fn warn_parts(
     ensures { OnOk result (Quiet found.old.items found.new.items) }
 {
     match &stated.statement {
-        Statement::Allow(allowed) => warn_words(alloc, found, bytes, line, stated.line, allowed),
+        Statement::Allow(allowed) => warn_words(alloc, found, line, allowed),
         Statement::DeclareType(name, _) => {
-            warn_type(
-                alloc,
-                found,
-                bytes,
-                line,
-                stated.line,
-                statements,
-                types,
-                name,
-            )
+            warn_type(alloc, found, line, statements, types, name)
         }
         _ => Ok(()),
     }
@@ -503,6 +477,42 @@ fn allows_on(statements: &[LinedStatement], line: u32) -> usize {
         .count()
 }
 
+// Tells that a statement repeats one of those before it, if it does.
+#[tactic(auto, using(crate::proofs::CheckLemmas::repeat_then_note))]
+fn warn_repeat(
+    alloc: Global,
+    found: &mut Vec<Finding>,
+    bytes: &[u8],
+    column: u32,
+    stated: &LinedStatement,
+    before: &[LinedStatement],
+    members: &[Member],
+) -> Result<(), AllocError>
+    ensures { OnOk result (TellsUseless found.old.items found.new.items []
+        (repeat_line members.now before.now stated.now)) }
+{
+    if repeats(&stated.statement, before, members) {
+        let end = match first_giving(stated, before, members) {
+            Some(place) => place.saturating_add(1),
+            None => 0,
+        };
+        let earlier = before.get(..end).unwrap_or(&[]);
+        let note = repeat_note(alloc, bytes, earlier)?;
+        let message = repeat_message(alloc, note.as_ref().map_or(0, |note| note.line))?;
+        push_repeat(
+            found,
+            Finding {
+                kind: Kind::Repeats,
+                line: stated.line,
+                column,
+                message,
+            },
+        )?;
+        return push_note(found, note);
+    }
+    Ok(())
+}
+
 // Tells what is useless in a statement, which comes after these.
 #[tactic(auto, using(crate::proofs::CheckLemmas::tells_all))]
 fn warn(
@@ -517,12 +527,18 @@ fn warn(
     ensures { OnOk result (TellsUseless found.old.items found.new.items (useless_line types.now.members.now stated.now)
         (repeat_line types.now.members.now before.now stated.now)) }
 {
-    let line = line_tokens(alloc, bytes, stated.line)?;
-    let skipped = allows_on(before, stated.line);
-    let column = column_of_word(bytes, &line, b"allow".as_slice(), skipped);
-    warn_parts(alloc, found, bytes, &line, stated, statements, types)?;
+    let number = stated.line;
+    let tokens = line_tokens(alloc, bytes, number)?;
+    let skipped = allows_on(before, number);
+    let column = column_of_word(bytes, &tokens, b"allow".as_slice(), skipped);
+    let line = Line {
+        bytes,
+        tokens: &tokens,
+        number,
+    };
+    warn_parts(alloc, found, &line, stated, statements, types)?;
     warn_nothing(alloc, found, column, stated, types.members)?;
-    warn_repeat(alloc, found, column, stated, before, types.members)?;
+    warn_repeat(alloc, found, bytes, column, stated, before, types.members)?;
     warn_matter(alloc, found, column, stated, types)
 }
 
@@ -628,7 +644,11 @@ fn errors(alloc: Global, text: &str, fault: &PolicyFault) -> Result<Vec<Finding>
     if let PolicyFaultKind::Memory = fault.kind {
         return Err(Memory);
     }
-    let Explained { column, message } = explain(alloc, text, fault)?;
+    let Explained {
+        column,
+        message,
+        note,
+    } = explain(alloc, text, fault)?;
     let mut found = Vec::new(alloc);
     found.push(Finding {
         kind: Kind::Fault,
@@ -636,6 +656,7 @@ fn errors(alloc: Global, text: &str, fault: &PolicyFault) -> Result<Vec<Finding>
         column,
         message,
     })?;
+    push_note(&mut found, note)?;
     Ok(found)
 }
 

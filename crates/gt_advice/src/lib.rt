@@ -11,10 +11,11 @@
 //! are exactly those that do.
 //!
 //! It uses `gt_policy` (the statements of a text), `gt_types` (permissions), `gt_streams` (text),
-//! `itoa` (numbers) and `strsim` (nearest names).
+//! `itoa` (numbers), `strsim` (nearest names) and `unicode_width` (columns of a terminal).
 #![tactic(auto)]
 
 mod asking;
+mod declared;
 mod fault;
 mod findings;
 mod granting;

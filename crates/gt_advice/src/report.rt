@@ -4,20 +4,22 @@ ghost use Rattle.gt_advice.specs.Report.{severity_text, heading_text};
 
 use crate::findings::{Finding, Kind};
 use crate::places::{bytes_of, line_span};
-use gt_streams::push_text;
+use gt_streams::{push_text, text_of};
 use itoa::Buffer;
 use std::alloc::AllocError;
+use unicode_width::UnicodeWidthChar;
 
 impl Kind {
     ghost use Rattle.std.specs.Prelude.{◌≡◌};
     ghost use Rattle.gt_advice.specs.Report.{severity_text};
 
-    /// How bad it is: `error` or `warning`.
+    /// How bad it is: `error`, `warning` or `note`.
     pub fn severity(self) -> &'static str
         ensures { result.now ≡ severity_text self }
     {
         match self {
             Kind::Fault => "error",
+            Kind::Note => "note",
             _ => "warning",
         }
     }
@@ -41,20 +43,52 @@ fn push_heading(out: &mut Vec<u8>, file: &str, finding: &Finding) -> Result<(), 
     push_text(out, "\n")
 }
 
-// Appends the line of a finding, and a caret below its column. A tab stays a tab, so that the caret stands right
-// whatever a tab's width; what is before a token is ASCII, if each character takes one column.
-fn push_excerpt(out: &mut Vec<u8>, text: &[u8], finding: &Finding) -> Result<(), AllocError> {
-    let line = bytes_of(text, line_span(text, finding.line));
+/// Appends a character of a line. A control character could move the terminal's cursor, so another stands for it.
+pub(crate) fn push_shown(out: &mut Vec<u8>, letter: char) -> Result<(), AllocError> {
+    let mut bytes = [0; 4];
+    let shown = if letter.is_control() && letter != '\t' {
+        '\u{fffd}'
+    } else {
+        letter
+    };
+    push_text(out, shown.encode_utf8(&mut bytes))
+}
+
+// Appends blanks as wide as a character of a line. A tab stays a tab, so that the caret stands right whatever a tab's
+// width.
+fn push_blank(out: &mut Vec<u8>, letter: char) -> Result<(), AllocError> {
+    if letter == '\t' {
+        return push_text(out, "\t");
+    }
+    for _ in 0..letter.width().unwrap_or(1) {
+        push_text(out, " ")?;
+    }
+    Ok(())
+}
+
+// The text of a line, without its end.
+fn line_of<'a>(text: &'a str, line: u32) -> &'a str {
+    match text_of(bytes_of(text.as_bytes(), line_span(text.as_bytes(), line))) {
+        Ok(line) => line.trim_end_matches('\r'),
+        Err(_) => "",
+    }
+}
+
+// Appends the line of a finding, and a caret below its column.
+fn push_excerpt(out: &mut Vec<u8>, text: &str, finding: &Finding) -> Result<(), AllocError> {
+    let line = line_of(text, finding.line);
     if line.is_empty() {
         return Ok(());
     }
-    out.extend_from_slice(line)?;
+    for letter in line.chars() {
+        push_shown(out, letter)?;
+    }
     push_text(out, "\n")?;
-    for (i, byte) in line.iter().enumerate() {
-        if i + 1 >= finding.column as usize {
+    for (place, letter) in line.char_indices() {
+        if place + 1 >= finding.column as usize {
             break;
         }
-        push_text(out, if *byte == b'\t' { "\t" } else { " " })?;
+        push_blank(out, letter)?;
     }
     push_text(out, "^\n")
 }
@@ -68,7 +102,7 @@ pub fn push_report(
 ) -> Result<(), AllocError> {
     for finding in found {
         push_heading(out, file, finding)?;
-        push_excerpt(out, text.as_bytes(), finding)?;
+        push_excerpt(out, text, finding)?;
     }
     Ok(())
 }

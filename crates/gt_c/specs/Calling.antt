@@ -1,7 +1,8 @@
 -- What an export answers, of the call that it made.
 use Rattle.std.specs.Prelude.{◌≡◌, ◌≤◌, ◌⊎◌, ℕ, Bool, Option, Some, None, IsSome, Result, Ok, Err, OnOk, OnErr}
 use Rattle.gt_c.specs.Prelude.{GrantRef, DomId, Memory, Size, TypeId, Perms, Denial, Table, looks_up, Hypercall, Kept}
-use Rattle.gt_c.specs.Prelude.{Tells, Verdict, Mapped, Request, Name, Domain, Left, Answered, HasLeft, KeepsPinned}
+use Rattle.gt_c.specs.Prelude.{Tells, Verdict, Mapped, Request, Name, Domain, Left, Answered, AnswersQuietly}
+use Rattle.gt_c.specs.Prelude.{AnswersTold, HasLeft, KeepsPinned}
 use Rattle.gt_c.specs.Prelude.{MapAnswered, mapping_reply, subject_of, told_of, verdict_of, Removes, encoded}
 use Rattle.gt_c.specs.Prelude.{EndsAccess}
 use Rattle.gt_c.specs.Prelude.{Seated, StaysIdle, Answer, Outcome, Here}
@@ -67,16 +68,14 @@ pub record SaysAs {R : Type 0} (said : Result R Denial → Outcome) (Holds : Res
 -- this request of the domain was answered so, by the steps of its path; mappings, pins and records are as before
 abbrev pub SaysDone : Request → Answer → Here → Here → Type 0
 SaysDone request answer d e =
-    SaysAs outcome (λ r. Answered may d.guest.monitor d.guest.domain request (verdict_of r) e.guest.domain
-    × KeepsPinned d.guest.domain e.guest.domain × (e.guest.domain.trail ≡ d.guest.domain.trail)) answer d e
+    SaysAs outcome (λ r. AnswersQuietly may d.guest.monitor d.guest.domain request (verdict_of r) e.guest.domain)
+    answer d e
 
 -- the same of a call that is recorded, whose result gives this verdict
 abbrev pub SaysTold : {R : Type 0} → (Result R Denial → Outcome) → (Result R Denial → Verdict) → Request → Hypercall
     → Answer → Here → Here → Type 0
 SaysTold said verdict request call answer d e =
-    SaysAs said (λ r. Answered may d.guest.monitor d.guest.domain request (verdict r) e.guest.domain
-    × KeepsPinned d.guest.domain e.guest.domain
-    × Tells d.guest.domain.trail (told_of d.guest.domain call (verdict r)) e.guest.domain.trail) answer d e
+    SaysAs said (λ r. AnswersTold may d.guest.monitor d.guest.domain request call (verdict r) e.guest.domain) answer d e
 
 -- the record of a map
 abbrev pub map_told : Domain → Hypercall → Result Name Denial → Kept

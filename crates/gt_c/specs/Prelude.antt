@@ -19,7 +19,8 @@ pub use Rattle.gt_calls.specs.declared.request.Request.{Request}
 pub use Rattle.gt_entry.specs.Entries.{frame_of}
 pub use Rattle.gt_handles.specs.Handles.{value_of}
 pub use Rattle.gt_handles.specs.declared.handles.Handle.{Handle as Name}
-pub use Rattle.gt_live.specs.Domains.{Answered, HasLeft, KeepsPinned, MapAnswered, mapping_reply, subject_of, told_of}
+pub use Rattle.gt_live.specs.Domains.{Answered, AnswersQuietly, AnswersTold, HasLeft, KeepsPinned, MapAnswered}
+pub use Rattle.gt_live.specs.Domains.{mapping_reply, subject_of, told_of}
 pub use Rattle.gt_live.specs.Domains.{verdict_of}
 pub use Rattle.gt_live.specs.Mappings.{Removes}
 pub use Rattle.gt_live.specs.declared.domain.Domain.{Domain}

@@ -89,7 +89,7 @@ fn verbose_flag<'a>(alloc: Global) -> Arg<'a>
     flag(
         alloc,
         "verbose",
-        "Tells why on standard error: of a fault, and of what the policy refused a play; also -v",
+        "Tells why on standard error: of a fault, and of what the policy refused; also -v",
     )
 }
 

@@ -15,9 +15,10 @@ use Rattle.gt_core.proofs.Words.{StateAgrees, DomainsStand, OpensAs, numbered, m
 use Rattle.gt_core.proofs.Words.{pins_by_call, steps_to_come, asks_memory, WantsMemory, IsOpenCall, answer_of}
 use Rattle.gt_core.proofs.Words.{cond_both}
 use Rattle.gt_core.proofs.Words.{StartOpen, Ok}
-use Rattle.gt_core.{specs.Standing.IsMapping, proofs.Keeping.KeepsEntries, proofs.Keeping.known-same}
-use Rattle.gt_core.{proofs.Keeping.open_call-own, proofs.Keeping.stood-own, proofs.Keeping.given-none}
-use Rattle.gt_core.{proofs.Keeping.quiet-stands, proofs.Steps.Observers.KeepsKnown, proofs.Steps.Observers.kept-known}
+use Rattle.gt_core.{specs.Standing.IsMapping, proofs.AgreementKept.KeepsEntries, proofs.AgreementKept.known-same}
+use Rattle.gt_core.{proofs.AgreementKept.open_call-own, proofs.AgreementKept.stood-own, proofs.AgreementKept.given-none}
+use Rattle.gt_core.{proofs.AgreementKept.quiet-stands, proofs.Steps.Observers.KeepsKnown}
+use Rattle.gt_core.{proofs.Steps.Observers.kept-known}
 use Rattle.gt_core.{proofs.Steps.Observers.kept-legs, proofs.Rows.has_id, proofs.Rows.found, proofs.Rows.not-found}
 use Rattle.gt_core.{proofs.Rows.state_of-set}
 use Rattle.gt_calls.specs.declared.request.Request.TheVariants as requests

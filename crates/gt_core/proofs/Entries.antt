@@ -8,7 +8,8 @@ use Rattle.gt_core.proofs.Words.{is_pin_on, reads_at, writes_at, IsRight, IsSafe
 use Rattle.gt_core.proofs.Words.{NoneStands, StepsRightIn, leg_at, Answer, Happened, Stepped, Item, body_at, entry_at}
 use Rattle.gt_core.proofs.Words.{live, open_call, without, IsLegalHistory}
 use Rattle.gt_core.specs.History.{with_ro, changed_entry}
-use Rattle.gt_core.proofs.{Steps.Observers.pins_at, Steps.Observers.unstored, Staying.spelled-stays, Legs.passed-valid}
+use Rattle.gt_core.proofs.{Steps.Observers.pins_at, Steps.Observers.unstored, CallsStand.spelled-stays}
+use Rattle.gt_core.proofs.{Legs.passed-valid}
 use Rattle.gt_core.proofs.{Steps.Observers.kept-entry, Steps.Observers.stepped, Steps.Observers.new_pin}
 use Rattle.gt_core.proofs.{Steps.Observers.pinned-live, Steps.Observers.unpinned-live, Steps.Observers.exchanged}
 use Rattle.gt_core.proofs.{Steps.Observers.exchanged-live, Steps.Observers.grown-count, Steps.Observers.at-place}

@@ -40,7 +40,8 @@ use Rattle.gt_core.specs.declared.trace.Bytes.{Bytes}
 use Rattle.gt_core.specs.Acting.{answer_of, IsOpenCall}
 use Rattle.gt_core.specs.declared.core_state.Begun.TheVariants.{Open as BegunOpen, Done as BegunDone}
 use Rattle.gt_core.proofs.{Beginning.begin-answers, Beginning.begin-opened, Beginning.not-done, Beginning.opened}
-use Rattle.gt_core.proofs.{Keeping.known-same, Performing.kept-part, Performing.stepped-state, Playing.core-starts}
+use Rattle.gt_core.proofs.{AgreementKept.known-same, Performing.kept-part, Performing.stepped-state}
+use Rattle.gt_core.proofs.{Playing.core-starts}
 use Rattle.gt_core.proofs.{Playing.legal-grows, Starting.get-replicate, Rows.found, Rows.has_id, Rows.not-found}
 use Rattle.gt_core.proofs.{Rows.state_of-set, Steps.Observers.stepped, Steps.Write.frames-begun}
 use Rattle.gt_core.proofs.{Steps.Write.frames-start, Stepping.Begins, Stepping.tick-does, Ticking.Ticks, Ticking.ticks}

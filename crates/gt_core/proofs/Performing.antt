@@ -15,7 +15,7 @@ use Rattle.gt_core.proofs.Words.{first_body, second_body, AnswerDone, cond_both,
 use Rattle.gt_calls.specs.Following.{IsLeftAlike}
 use Rattle.gt_core.specs.declared.pin_counts.CountsChange.{CountsChange}
 use Rattle.gt_core.specs.declared.pin_counts.CountsChange.TheVariants.{Pinned as PinnedCount}
-use Rattle.gt_core.proofs.{Rows.has_id, Rows.set-state, Settling.length-applied, Phases.makes-same}
+use Rattle.gt_core.proofs.{Rows.has_id, Rows.set-state, CallsOver.length-applied, Phases.makes-same}
 
 -- two changes of states
 

@@ -8,8 +8,9 @@ use Rattle.gt_core.proofs.Words.{is_pin_on, reads_at, writes_at, mappings_at, ma
 use Rattle.gt_core.proofs.Words.{word_at, known_at, shown_at, subject_at, bare_handle, bare_happened, told_part}
 use Rattle.gt_core.proofs.Words.{IsGiven}
 use Rattle.gt_core.proofs.Words.{IsKnown, IsRun, AreAlike, map, map-append, length-map, All-head, All-tail, All, arith}
-use Rattle.gt_core.proofs.{Bare.bare-same, Bare.answer_from, Bare.bare, Bare.bared, Given.HeldGiven, Given.PinsGiven}
-use Rattle.gt_core.proofs.{Given.pins-given, Given.known-tells, Given.unpin-known}
+use Rattle.gt_core.proofs.{WithoutKeys.bare-same, WithoutKeys.answer_from, WithoutKeys.bare, WithoutKeys.bared}
+use Rattle.gt_core.proofs.{HandlesGiven.HeldGiven, HandlesGiven.PinsGiven}
+use Rattle.gt_core.proofs.{HandlesGiven.pins-given, HandlesGiven.known-tells, HandlesGiven.unpin-known}
 use Rattle.std.proofs.lemmas.List.Elements.{All-weaker}
 
 abbrev pub bare_holder : Holder → Holder

@@ -11,7 +11,7 @@ use Rattle.gt_core.proofs.Words.{StateAgrees, SlotAgrees, FitsTable, FitsWord, I
 use Rattle.gt_core.proofs.Words.{LAST_GENERATION}
 use Rattle.gt_core.proofs.Words.{gather, get_or-replicate, header_from, LAST_VERSION, MAX_TABLE_FRAMES, cond_both}
 use Rattle.gt_core.proofs.Words.{All-nil, IsWithinLimits}
-use Rattle.gt_core.proofs.{Keeping.given-none, Mappings.no-handles, Steps.Store.room-there}
+use Rattle.gt_core.proofs.{AgreementKept.given-none, Mappings.no-handles, Steps.Store.room-there}
 
 state-of-map : (g : ℕ) (ds : List DomainConfig) (dom : DomId) → state_of (map (first_state g) ds) dom.0 ≡ option_map (first_state g) (domain_of ds dom)
 state-of-map g [] dom = refl

@@ -23,8 +23,8 @@ use Rattle.gt_calls.specs.Following.{IsLeftAlike}
 use Rattle.gt_core.proofs.{Performing.left-alike, Performing.settled-after, Performing.stepped-state}
 use Rattle.gt_core.proofs.{Performing.EndsByPin, Beginning.place-at, Values.call-ends, Steps.Observers.pins}
 use Rattle.gt_core.proofs.{Steps.Pin.map-legs, Steps.Observers.new_pin, Steps.Pin.pin-stands, Steps.Pin.map-agrees}
-use Rattle.gt_core.proofs.{Steps.Pin.leg-agrees as pin-agrees, Steps.Observers.stepped, Keeping.open_call-own}
-use Rattle.gt_core.proofs.{Keeping.quiet-stands, Steps.Store.IsStore, Phases.IsHere, Steps.Store.header-stands}
+use Rattle.gt_core.proofs.{Steps.Pin.leg-agrees as pin-agrees, Steps.Observers.stepped, AgreementKept.open_call-own}
+use Rattle.gt_core.proofs.{AgreementKept.quiet-stands, Steps.Store.IsStore, Phases.IsHere, Steps.Store.header-stands}
 use Rattle.gt_core.proofs.{Steps.Store.store-stands, Steps.Write.bytes-held, Steps.Write.open-admitted}
 use Rattle.gt_core.proofs.{Steps.Write.open-readable, Steps.Write.frames-stepped, Phases.next_of, Outcomes.ends-so}
 use Rattle.gt_core.proofs.{Ticking.Ticks, Ticking.ticks, Ticking.given-goes-on, Ticking.legs-after, Ticking.open-after}

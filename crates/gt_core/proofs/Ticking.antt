@@ -19,7 +19,8 @@ use Rattle.gt_core.proofs.Words.{IsLegalHistory}
 use Rattle.gt_core.proofs.{Steps.Observers.unstored, Steps.Observers.known-as, Steps.Observers.kept-entry}
 use Rattle.gt_core.proofs.{Steps.Observers.kept-raises, Steps.Observers.kept-known, Steps.Observers.kept-legs}
 use Rattle.gt_core.proofs.{Steps.Observers.kept-table, Steps.Observers.answered-stays, Steps.Observers.stepped}
-use Rattle.gt_core.proofs.{Keeping.known-same, Keeping.open_call-own, Keeping.stood-own, Staying.place-stays}
+use Rattle.gt_core.proofs.{AgreementKept.known-same, AgreementKept.open_call-own, AgreementKept.stood-own}
+use Rattle.gt_core.proofs.{CallsStand.place-stays}
 use Rattle.gt_core.proofs.{Phases.IsHere, Phases.seen-fits, Phases.by-giving, Phases.call-is, Steps.See.sees-agree}
 use Rattle.gt_core.proofs.{Steps.Observers.unpins, Steps.Unpin.leg-left, Steps.Unpin.leg-mappings}
 use Rattle.gt_core.proofs.{Steps.Unpin.mapping-legs, Steps.Unpin.from-zero, Steps.Observers.pins, Steps.Pin.leg-grows}

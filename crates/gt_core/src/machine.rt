@@ -99,20 +99,28 @@ fn given_by<'a>(request: Request<'a>) -> &'a [u8]
 }
 
 impl<P: Allows> Machine<P> {
-    fn open_at(&self, at: usize, dom: DomId, request: Request<'_>) -> Result<Open, Verdict>
+    // What the domain at this place knows by itself, and what the policy allows.
+    fn known_at(&self, at: usize) -> Known<'_, P>
         requires { at < length self.now.domains.items }
         ensures { (d : State) → slice_get self.now.domains.items at ≡ Some d →
-            OpensAs (known_by P.may self.now d) dom request.entry result }
+            knows P.may result ≡ known_by P.may self.now d }
     {
         let domain = &self.domains[at];
-        let known = Known {
+        Known {
             config: &self.config,
             rights: &self.rights,
             own: &domain.own,
             header: domain.header,
             mappings: &domain.mappings,
-        };
-        open_call(&known, dom, request)
+        }
+    }
+
+    fn open_at(&self, at: usize, dom: DomId, request: Request<'_>) -> Result<Open, Verdict>
+        requires { at < length self.now.domains.items }
+        ensures { (d : State) → slice_get self.now.domains.items at ≡ Some d →
+            OpensAs (known_by P.may self.now d) dom request.entry result }
+    {
+        open_call(&self.known_at(at), dom, request)
     }
 
     /// Begins a call of the domain.
@@ -179,15 +187,7 @@ impl<P: Allows> Machine<P> {
             IsLeftAlike k (known_by P.may self.now d) last.call seen → Goes k last.call seen result.0 result.1 }
     {
         let mut call = last.call;
-        let domain = &self.domains[at];
-        let known = Known {
-            config: &self.config,
-            rights: &self.rights,
-            own: &domain.own,
-            header: domain.header,
-            mappings: &domain.mappings,
-        };
-        let action = call.next(&known, seen);
+        let action = call.next(&self.known_at(at), seen);
         (call, action)
     }
 

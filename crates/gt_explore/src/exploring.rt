@@ -104,7 +104,7 @@ fn explore_bytes<W: Write>(
     input: &[u8],
     writer: &mut W,
 ) -> Result<bool, ExploreFault>
-    ensures { (all : List ℕ) → input.now ≡ take 1048577 all →
+    ensures { (all : List ℕ) → input.now ≡ take READ_LIMIT all →
         Explored asked.now (RunTells all) (W.contents writer.old) (W.contents writer.new) result }
 {
     match parse_run(alloc, input) {

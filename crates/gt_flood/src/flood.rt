@@ -70,19 +70,6 @@ impl Flood {
         Ok(())
     }
 
-    /// The same, but `room` bytes of addresses are left for the stacks of threads: 4 MiB or more.
-    ///
-    /// # Errors
-    ///
-    /// If there is no room for the gap, or for that. Then the flood is open.
-    pub fn close_with_room(&mut self, gap: usize, room: usize) -> Result<(), AllocError> {
-        self.open();
-        let stacks: Vec<u8> = Vec::with_capacity(self.alloc, room)?;
-        self.close(gap)?;
-        drop(stacks);
-        Ok(())
-    }
-
     /// Lets so many bytes of the gap through, and answers whether the others are held back.
     pub fn let_through(&mut self, bytes: usize) -> bool {
         self.plug = None;

@@ -7,6 +7,8 @@ use std::alloc::Global;
 /// What a run keeps beside the core: what labels name, the calls that are open, and its records.
 #[derive(Drop)]
 pub struct Kept<'b, 'a> {
+    /// Where what is kept and printed takes its memory.
+    pub alloc: Global,
     pub labels: Labels<'a>,
     pub calls: OpenCalls<'b, 'a>,
     pub audit: Audit,
@@ -25,6 +27,7 @@ impl<'b, 'a> Kept<'b, 'a> {
         ensures records { RecordsNothing result }
     {
         Kept {
+            alloc,
             labels: Labels::new(alloc),
             calls: OpenCalls::new(alloc),
             audit: Audit::new(alloc, audit),

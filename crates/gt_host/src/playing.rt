@@ -88,7 +88,7 @@ fn run_lines<'s, 'a, W: Write>(
     let mut waiting = Vec::new(alloc);
     let steps = script.steps();
     'steps: for step in steps {
-        run_step(alloc, core, &mut kept, types.as_slice(), step, &mut waiting)?;
+        run_step(core, &mut kept, types.as_slice(), step, &mut waiting)?;
         send(writer, &mut waiting)?;
     }
     push_open_lines(&mut waiting, script.domains(), &kept.calls)?;
@@ -122,7 +122,7 @@ fn play_bytes<W: Write>(
     writer: &mut W,
     audit: bool,
 ) -> Result<(), PlayFault>
-    ensures { (all : List ℕ) → input.now ≡ take 1048577 all →
+    ensures { (all : List ℕ) → input.now ≡ take READ_LIMIT all →
         Played (TellsScript all) audit (W.contents writer.old) (W.contents writer.new) result }
 {
     every_beginning_is_of_the_text();

@@ -33,20 +33,7 @@ fn text_said<'b, 'a>(call: &'b ScriptCall<'a>) -> Option<&'b Text<'a>>
         ScriptCall::GrantBytes { hex, .. }
         | ScriptCall::Store { hex, .. }
         | ScriptCall::Poke { hex, .. } => Some(hex),
-        ScriptCall::Grant { .. }
-        | ScriptCall::Revoke { .. }
-        | ScriptCall::Withdraw { .. }
-        | ScriptCall::Demote { .. }
-        | ScriptCall::Promote { .. }
-        | ScriptCall::Map { .. }
-        | ScriptCall::Unmap { .. }
-        | ScriptCall::Load { .. }
-        | ScriptCall::Peek { .. }
-        | ScriptCall::Copy(_)
-        | ScriptCall::SetVersion { .. }
-        | ScriptCall::SetupTable { .. }
-        | ScriptCall::QuerySize { .. }
-        | ScriptCall::GetVersion { .. } => None,
+        _ => None,
     }
 }
 
@@ -128,22 +115,7 @@ pub fn label_given<'a>(call: &ScriptCall<'a>) -> Option<&'a [u8]>
 {
     match call {
         ScriptCall::Map { label, .. } => Some(label.as_bytes()),
-        ScriptCall::Grant { .. }
-        | ScriptCall::GrantBytes { .. }
-        | ScriptCall::Revoke { .. }
-        | ScriptCall::Withdraw { .. }
-        | ScriptCall::Demote { .. }
-        | ScriptCall::Promote { .. }
-        | ScriptCall::Unmap { .. }
-        | ScriptCall::Load { .. }
-        | ScriptCall::Store { .. }
-        | ScriptCall::Peek { .. }
-        | ScriptCall::Poke { .. }
-        | ScriptCall::Copy(_)
-        | ScriptCall::SetVersion { .. }
-        | ScriptCall::SetupTable { .. }
-        | ScriptCall::QuerySize { .. }
-        | ScriptCall::GetVersion { .. } => None,
+        _ => None,
     }
 }
 
@@ -233,7 +205,6 @@ fn run_call<P: Allows>(
 
 // A line `do ID CALL`, whose call says these bytes.
 fn run_do<'b, 'a, P: Allows>(
-    alloc: Global,
     core: &mut Core<P>,
     kept: &mut Kept<'b, 'a>,
     types: &[Text<'a>],
@@ -255,6 +226,7 @@ fn run_do<'b, 'a, P: Allows>(
     match run_call(core, step.dom, request)? {
         Outcome::Answered(answer) => {
             kept.audit.record(step.dom, told, &answer)?;
+            let alloc = kept.alloc;
             answer_call(alloc, &mut kept.labels, types, step.dom, step, &answer, out)?;
         }
         Outcome::Busy => push_busy_line(out, step.line, step.dom)?,
@@ -264,7 +236,6 @@ fn run_do<'b, 'a, P: Allows>(
 
 // A line `begin ID CALL`, whose call says these bytes.
 fn run_begin<'b, 'a, P: Allows>(
-    alloc: Global,
     core: &mut Core<P>,
     kept: &mut Kept<'b, 'a>,
     types: &[Text<'a>],
@@ -286,6 +257,7 @@ fn run_begin<'b, 'a, P: Allows>(
     match core.begin(step.dom, request)? {
         Begun::Done(answer) => {
             kept.audit.record(step.dom, told, &answer)?;
+            let alloc = kept.alloc;
             answer_call(alloc, &mut kept.labels, types, step.dom, step, &answer, out)?;
         }
         Begun::Busy => push_busy_line(out, step.line, step.dom)?,
@@ -296,7 +268,6 @@ fn run_begin<'b, 'a, P: Allows>(
 
 // A line `tick ID N`.
 fn run_ticks<'b, 'a, P: Allows>(
-    alloc: Global,
     core: &mut Core<P>,
     kept: &mut Kept<'b, 'a>,
     types: &[Text<'a>],
@@ -320,7 +291,7 @@ fn run_ticks<'b, 'a, P: Allows>(
         kept.calls.end(step.dom);
         kept.audit.record(step.dom, begun.told, &answer)?;
         answer_call(
-            alloc,
+            kept.alloc,
             &mut kept.labels,
             types,
             step.dom,
@@ -335,7 +306,6 @@ fn run_ticks<'b, 'a, P: Allows>(
 /// Runs a step of a script on the core, and appends its line if it has one. After an Err a part of
 /// the line may be there.
 pub fn run_step<'b, 'a, P: Allows>(
-    alloc: Global,
     core: &mut Core<P>,
     kept: &mut Kept<'b, 'a>,
     types: &[Text<'a>],
@@ -352,17 +322,17 @@ pub fn run_step<'b, 'a, P: Allows>(
 {
     match &step.action {
         ScriptAction::Do(call) => {
-            let bytes = bytes_said(alloc, call)?;
-            run_do(alloc, core, kept, types, step, call, bytes.as_slice(), out)
+            let bytes = bytes_said(kept.alloc, call)?;
+            run_do(core, kept, types, step, call, bytes.as_slice(), out)
         }
         ScriptAction::Begin(call) => {
-            let bytes = bytes_said(alloc, call)?;
-            run_begin(alloc, core, kept, types, step, call, bytes.as_slice(), out)
+            let bytes = bytes_said(kept.alloc, call)?;
+            run_begin(core, kept, types, step, call, bytes.as_slice(), out)
         }
-        ScriptAction::Tick(most) => run_ticks(alloc, core, kept, types, step, *most, out),
+        ScriptAction::Tick(most) => run_ticks(core, kept, types, step, *most, out),
         ScriptAction::Show(gref) => {
             let shown = core.show(step.dom, *gref);
-            push_show_line(alloc, out, step.line, step.dom, *gref, shown)?;
+            push_show_line(kept.alloc, out, step.line, step.dom, *gref, shown)?;
             Ok(())
         }
     }

@@ -177,7 +177,7 @@ module _ {P : Type 0} (may : P → AllowRelation) (m : Monitor P) where
         let says = x.says in
         let asks : Asks may m p.domain x.request x.answer q.domain = subst (λ (y : Monitor P). Asks may y p.domain x.request x.answer q.domain) over x.asks in
         let no-bytes : NoBytes x.request = subst NoBytes (sym says.2) (quiet-request p.named duty.part.dom says.0 call none) in
-        let z = is-made p.domain q.domain (record { before = come.mine; afterwards = asks.2; seat = asks.3 }) x.request x.answer no-bytes (fits p.named x.request says) asks.1 in
+        let z = is-made p.domain q.domain (record { before = come.mine; afterwards = asks.2.0; seat = asks.2.1 }) x.request x.answer no-bytes (fits p.named x.request says) asks.1 in
         let m' : CallMade = record { request = x.request; outcome = z.0; steps = z.1; old = p.domain; new = q.domain } in
         let o : Outcome = record { line = line; answer = x.answer; told = x.told; lost = x.lost } in
         record {
@@ -185,7 +185,7 @@ module _ {P : Type 0} (may : P → AllowRelation) (m : Monitor P) where
           calls_are = (z.3, subst (λ (y : Domain). IsAtRest y p.domain) (sym come.now) (record { seat = refl; own = refl; mappings = refl }), come.calls_are);
           now = refl;
           lines = (p.outcomes, o, x.outcomes, record { call = call; before = p; afterwards = q; made = x; request = refl; old = refl; new = refl; answer = refl; answered = z.2 }, come.lines);
-          mine = asks.2;
+          mine = asks.2.0;
         }
 
     one-deed : (task : Task) → IsAmong task duty.part.tasks.now → (task.dom.0 == duty.part.dom.0) ≡ true → (deed : Deed) → task.deed ≡ deed → (p q : ListProgress) → DoesDeed may duty task.line deed p q → Come p → Come q

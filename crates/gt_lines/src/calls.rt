@@ -169,14 +169,11 @@ fn read_via(args: &[&[u8]]) -> Option<Entry>
 fn read_entry(kind: &[u8], args: &[&[u8]]) -> Option<Entry>
     ensures { result ≡ granted kind.now (map (λ word. word.now) args.now) }
 {
-    if is(kind, "page") {
-        read_page(args)
-    } else if is(kind, "sub") {
-        read_sub(args)
-    } else if is(kind, "via") {
-        read_via(args)
-    } else {
-        None
+    match kind {
+        b"page" => read_page(args),
+        b"sub" => read_sub(args),
+        b"via" => read_via(args),
+        _ => None,
     }
 }
 
@@ -293,20 +290,18 @@ fn read_poke<'a>(args: &[&'a [u8]]) -> Option<ScriptCall<'a>>
 fn read_end(kind: &[u8], dom: &[u8], place: &[u8], off: &[u8]) -> Option<End>
     ensures { result ≡ end_of kind.now dom.now place.now off.now }
 {
-    if is(kind, "gref") {
-        Some(End {
+    match kind {
+        b"gref" => Some(End {
             domid: domain(dom)?,
             ptr: u64::from(reference(place)?.0),
             offset: u16_of(off)?,
-        })
-    } else if is(kind, "frame") {
-        Some(End {
+        }),
+        b"frame" => Some(End {
             domid: domain(dom)?,
             ptr: u64_of(place)?,
             offset: u16_of(off)?,
-        })
-    } else {
-        None
+        }),
+        _ => None,
     }
 }
 
@@ -334,14 +329,12 @@ fn read_copy<'a>(args: &[&'a [u8]]) -> Option<ScriptCall<'a>>
             to,
             to_off,
             len,
-        ] => {
-            Some(ScriptCall::Copy(CopyArgs {
-                source: read_end(from_kind, from_dom, from, from_off)?,
-                dest: read_end(to_kind, to_dom, to, to_off)?,
-                len: u16_of(len)?,
-                flags: grant_flag(from_kind, SOURCE_GREF) + grant_flag(to_kind, DEST_GREF),
-            }))
-        }
+        ] => Some(ScriptCall::Copy(CopyArgs {
+            source: read_end(from_kind, from_dom, from, from_off)?,
+            dest: read_end(to_kind, to_dom, to, to_off)?,
+            len: u16_of(len)?,
+            flags: grant_flag(from_kind, SOURCE_GREF) + grant_flag(to_kind, DEST_GREF),
+        })),
         _ => None,
     }
 }
@@ -475,15 +468,11 @@ fn read_tick<'a>(args: &[&'a [u8]]) -> Option<ScriptAction<'a>>
 pub fn read_action<'a>(word: &[u8], args: &[&'a [u8]]) -> Option<ScriptAction<'a>>
     ensures { result ≡ action_of word.now (map (λ word. word.now) args.now) }
 {
-    if is(word, "do") {
-        Some(ScriptAction::Do(read_call(args)?))
-    } else if is(word, "begin") {
-        Some(ScriptAction::Begin(read_call(args)?))
-    } else if is(word, "tick") {
-        read_tick(args)
-    } else if is(word, "show") {
-        Some(ScriptAction::Show(only_reference(args)?))
-    } else {
-        None
+    match word {
+        b"do" => Some(ScriptAction::Do(read_call(args)?)),
+        b"begin" => Some(ScriptAction::Begin(read_call(args)?)),
+        b"tick" => read_tick(args),
+        b"show" => Some(ScriptAction::Show(only_reference(args)?)),
+        _ => None,
     }
 }

@@ -36,11 +36,9 @@ pub fn is_signal_word(word: &[u8]) -> bool
 pub fn read_signal<'a>(word: &[u8], args: &[&'a [u8]]) -> Option<Signal<'a>>
     ensures { result ≡ signal_of word.now (map (λ word. word.now) args.now) }
 {
-    if is(word, "tell") {
-        Some(Signal::Tell(read_flag(args)?))
-    } else if is(word, "await") {
-        Some(Signal::Await(read_flag(args)?))
-    } else {
-        None
+    match word {
+        b"tell" => Some(Signal::Tell(read_flag(args)?)),
+        b"await" => Some(Signal::Await(read_flag(args)?)),
+        _ => None,
     }
 }

@@ -40,7 +40,7 @@ use Rattle.gt_live.specs.Domains.{IsRefused, AllowRelation, denial_in}
 use Rattle.gt_live.specs.Ending.{IsAccessing, IsWordless}
 use Rattle.gt_live.specs.Mappings.{IsMappingOf, ReachesItsFrame}
 use Rattle.gt_live.specs.Walks.{Called, CarriesFound}
-use Rattle.gt_live.proofs.Once.{refused-once}
+use Rattle.gt_live.proofs.AnsweredAtOnce.{refused-once}
 
 -- what permits a mapping permits it any range
 any-range : (e : Entry) (d : DomId) (dir : Dir) (off len : ℕ) → permits e d dir ForMap 0 0 ≡ true → permits e d dir ForMap off len ≡ true

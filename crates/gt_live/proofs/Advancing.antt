@@ -45,7 +45,7 @@ use Rattle.gt_live.specs.Effects.{Answers, EndsSo, IsFound, IsFoundAt, IsFoundIn
 use Rattle.gt_live.specs.Ending.{IsAnswerTo, WaitsForNobody}
 use Rattle.gt_live.specs.Walks.{Called, CarriesFound, Made, MakesStep, TellsSteps, view_after, found_by, all_shown}
 use Rattle.gt_live.specs.Walks.{shown_by}
-use Rattle.gt_live.proofs.Can.{can-make, leaves}
+use Rattle.gt_live.proofs.ActionsAllowed.{can-make, leaves}
 use Rattle.gt_live.proofs.Ends.{path-sound}
 use Rattle.gt_live.proofs.Making.{made-fits, made-gains, same-self}
 

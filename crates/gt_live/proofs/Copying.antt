@@ -84,9 +84,9 @@ use Rattle.gt_live.specs.Underway.{AreOfRun, HasTaken, StandsInCopy, StandsWell}
 use Rattle.gt_live.specs.Walks.{CarriesFound, IsWalk, Made, view_after, all_shown}
 use Rattle.gt_live.proofs.Accessing.{wordless-found}
 use Rattle.gt_live.proofs.Advancing.{carried-facts}
-use Rattle.gt_live.proofs.Can.{in-own, named-run, own-of-run}
+use Rattle.gt_live.proofs.ActionsAllowed.{in-own, named-run, own-of-run}
 use Rattle.gt_live.proofs.Making.{IsLook, look-same, made-gains}
-use Rattle.gt_live.proofs.Once.{via-refused}
+use Rattle.gt_live.proofs.AnsweredAtOnce.{via-refused}
 use Rattle.gt_live.proofs.Rules.{none-stands, room-for}
 use Rattle.gt_live.proofs.Taking.{has-pin, holds-taken, taken-look, taken-pin, taken-unpin}
 use Rattle.gt_live.proofs.Walking.{after-position, in-seen-table, made-last, read-page}

@@ -4,13 +4,13 @@ pub mod Ends
 pub mod Walking
 pub mod Rules
 pub mod Counting
-pub mod Can
+pub mod ActionsAllowed
 pub mod Advancing
 pub mod RowsKept
-pub mod Kept
+pub mod DomainKept
 pub mod Knowing
 pub mod Labels
-pub mod Once
+pub mod AnsweredAtOnce
 pub mod Accessing
 pub mod Maps
 pub mod Legs

@@ -31,7 +31,7 @@ use Rattle.gt_live.specs.Copies.{dest_leg, source_leg}
 use Rattle.gt_live.specs.Domains.{denial_in}
 use Rattle.gt_live.specs.Legs.{CanWalkLeg, WalksLeg}
 use Rattle.gt_live.specs.Phases.{CanRun, Runs}
-use Rattle.gt_live.proofs.Once.{via-refused}
+use Rattle.gt_live.proofs.AnsweredAtOnce.{via-refused}
 use Rattle.gt_live.proofs.Phases.{can-from, leg-can, leg-runs, runs-from, runs-none, runs-to}
 
 -- the entry is no Via

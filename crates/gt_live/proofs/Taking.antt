@@ -15,7 +15,7 @@ use Rattle.gt_calls.specs.declared.held.Held.{Held}
 use Rattle.gt_live.specs.Driving.{IsSame}
 use Rattle.gt_live.specs.Mappings.{HasPin, entry_record_of}
 use Rattle.gt_live.specs.Underway.{AreOfRun, HasTaken, is_of_entry, live_pins_by}
-use Rattle.gt_live.proofs.Can.{in-counted}
+use Rattle.gt_live.proofs.ActionsAllowed.{in-counted}
 use Rattle.gt_live.proofs.Counting.{dir-self}
 
 in-append : {A : Type 0} (a : A) (xs ys : List A) → IsAmong a xs → IsAmong a (xs ++ ys)

@@ -9,11 +9,14 @@ use Rattle.gt_live.specs.Prelude.{Refused, Frames, SizeTold, Version, Held, Copy
 use Rattle.gt_live.specs.Prelude.{path, path_of, IsFreshCall, IsStepAction, Call, CallerKnowledge, knowledge_of}
 use Rattle.gt_live.specs.Prelude.{entry_in}
 use Rattle.gt_live.specs.Prelude.{own_generation, Domain, Left, Monitor, NotMade, Gone, OutOfMemory, Step, asked}
+use Rattle.gt_audit.specs.Telling.{Tells}
+use Rattle.gt_frames.specs.Visits.{Visit}
 use Rattle.gt_audit.specs.declared.record.Hypercall.TheVariants as hypercalls
 use Rattle.gt_audit.specs.declared.record.Reply.TheVariants as replies
 use Rattle.gt_live.specs.Mappings.{AddsMapping, IsMappingOf, KeepsMappings, PinsAreOf, Removes}
 use Rattle.gt_live.specs.Accesses.{AnsweredAtAccess}
 use Rattle.gt_live.specs.Ending.{IsWordless}
+use Rattle.gt_live.specs.Visiting.{HasVisited}
 use Rattle.gt_live.specs.Walks.{AreMoments, Called, view_after}
 
 -- whose type may do what to whose (XSM FLASK)
@@ -211,6 +214,34 @@ without_mapping verdict = verdict
 -- the record of a call of this domain, which was answered so
 abbrev pub told_of : Domain → Hypercall → Verdict → Record
 told_of d call verdict = record { dom = d.seat.dom; call = call; reply = reply_of verdict }
+
+-- A call that is not recorded was answered so: the domain has the mappings, pins and records that it had, and locked
+-- no frame.
+abbrev pub AnswersQuietly : {P : Type 0} → (P → AllowRelation) → Monitor P → Domain → Request → Verdict → Domain
+    → Type 0
+AnswersQuietly may m d request verdict e =
+    Answered may m d request verdict e × KeepsPinned d e × (e.trail ≡ d.trail) × (e.visits ≡ d.visits)
+
+-- a call that is recorded was answered so: the domain has the mappings and pins that it had, and this call is the one
+-- record more, which is kept or counted as lost; it locked no frame
+abbrev pub AnswersTold : {P : Type 0} → (P → AllowRelation) → Monitor P → Domain → Request → Hypercall → Verdict
+    → Domain
+    → Type 0
+AnswersTold may m d request call verdict e =
+    Answered may m d request verdict e × KeepsPinned d e × Tells d.trail (told_of d call verdict) e.trail
+    × (e.visits ≡ d.visits)
+
+-- An access to one frame was answered so: the domain has the mappings, pins and records that it had, and what was
+-- answered is what it did to the frame under its lock.
+abbrev pub AccessesQuietly : {P R : Type 0} → (P → AllowRelation) → Monitor P → Domain → Request → (Step → R → Type 0)
+    → (R → List Visit → Type 0) → Result R Denial → Domain → Type 0
+AccessesQuietly may m d request tells did result e =
+    Accesses may m d request tells result e × KeepsPinned d e × (e.trail ≡ d.trail)
+    × HasVisited did result d.visits e.visits
+
+-- the domain is of this monitor's run still, with the seat that it had
+abbrev pub StaysIn : {P : Type 0} → (P → AllowRelation) → Monitor P → Domain → Domain → Type 0
+StaysIn may m d e = BelongsTo may m e × IsSameSeat d.seat e.seat
 
 -- the entry that a pin is of
 abbrev pub subject_in : Option Held → Option (DomId × GrantRef)

@@ -4,9 +4,14 @@ ghost use Rattle.gt_calls.specs.Asking.{asked};
 ghost use Rattle.gt_calls.specs.Following.{Starts};
 ghost use Rattle.gt_calls.specs.Path.{path};
 ghost use Rattle.gt_words.specs.Conditions.{IsSameSeat};
+ghost use Rattle.gt_words.specs.Rule.{IsKeptHeader};
+ghost use Rattle.gt_words.specs.Views.{own_table};
+ghost use Rattle.gt_calls.specs.Rules.{knows};
+ghost use Rattle.gt_live.specs.declared.domain.Domain.{Domain};
 ghost use Rattle.gt_live.specs.Rows.{row_changed};
 ghost use Rattle.gt_live.specs.Ending.{IsAnswerTo, IsOfMapping, WaitsForNobody};
-ghost use Rattle.gt_live.specs.Domains.{Answered, BelongsTo, done_by, known_on, outcome_of, denial_in};
+ghost use Rattle.gt_live.specs.Domains.{Answered, AnswersQuietly, AnswersTold, BelongsTo, StaysIn};
+ghost use Rattle.gt_live.specs.Domains.{done_by, known_on, outcome_of, denial_in};
 ghost use Rattle.gt_live.specs.Domains.{reply_of, told_by, version_told, size_told, frames_told, without_mapping};
 ghost use Rattle.gt_live.specs.Walks.{Called};
 ghost use Rattle.gt_live.specs.Driving.{Leaves};
@@ -76,6 +81,26 @@ fn change_row(own: &mut [Own], gref: GrantRef, change: Change)
     let at = gref.0 as usize;
     if at < own.len() {
         own[at] = own[at].after(change);
+    }
+}
+
+// What a domain with this seat, these rows and these mappings knows by itself, and what the monitor allows.
+fn known_with<'a, P: Allows>(
+    monitor: &'a Monitor<P>,
+    seat: &Seat,
+    own: &'a [Own],
+    mappings: &'a Handles<Held>,
+) -> Known<'a, P>
+    ensures known { (d : Domain) → own.now ≡ d.own.items → seat.now ≡ d.seat → mappings.now ≡ d.mappings →
+        knows P.may result ≡ known_on P.may monitor.now d }
+    ensures kept { IsKeptHeader (own_table seat.now.view) }
+{
+    Known {
+        config: &monitor.config,
+        rights: &monitor.rights,
+        own,
+        header: seat.header(),
+        mappings,
     }
 }
 
@@ -288,13 +313,7 @@ impl Domain {
     fn known<'a, P: Allows>(&'a self, monitor: &'a Monitor<P>) -> Known<'a, P>
         ensures { knows P.may result ≡ known_on P.may monitor.now self.now }
     {
-        Known {
-            config: &monitor.config,
-            rights: &monitor.rights,
-            own: &self.own,
-            header: self.seat.header(),
-            mappings: &self.mappings,
-        }
+        known_with(monitor, &self.seat, &self.own, &self.mappings)
     }
 
     // Judges a call at its beginning.
@@ -317,13 +336,7 @@ impl Domain {
             self.old.seat.dom call.old.request self.old.seat.view self.new.seat.view result.effect }
         ensures answers { Answers result.effect result.verdict × IsAnswerTo call.old.request result.verdict }
     {
-        let known = Known {
-            config: &monitor.config,
-            rights: &monitor.rights,
-            own: &self.own,
-            header: self.seat.header(),
-            mappings: &self.mappings,
-        };
+        let known = known_with(monitor, &self.seat, &self.own, &self.mappings);
         drive(&monitor.words, &known, &mut self.seat, call)
     }
 
@@ -353,13 +366,9 @@ impl Domain {
     fn call<P: Allows>(&mut self, monitor: &Monitor<P>, request: Request<'_>) -> Verdict
         requires mine { BelongsTo P.may monitor.now self.old }
         requires waits { WaitsForNobody (asked request) × (IsOfMapping (asked request) → ⊥) }
-        ensures mine { BelongsTo P.may monitor.now self.new }
-        ensures seat { IsSameSeat self.old.seat self.new.seat }
-        ensures answered { Answered P.may monitor.now self.old request.entry result self.new }
+        ensures stays { StaysIn P.may monitor.now self.old self.new }
+        ensures answers { AnswersQuietly P.may monitor.now self.old request.entry result self.new }
         ensures answer { IsAnswerTo (asked request.entry) result }
-        ensures kept { KeepsPinned self.old self.new }
-        ensures silent { self.new.trail ≡ self.old.trail }
-        ensures untouched { self.new.visits ≡ self.old.visits }
     {
         match self.begin(monitor, request) {
             Start::Done(verdict) => verdict,
@@ -386,13 +395,9 @@ impl Domain {
     ) -> Verdict
         requires mine { BelongsTo P.may monitor.now self.old }
         requires waits { WaitsForNobody (asked request) × (IsOfMapping (asked request) → ⊥) }
-        ensures mine { BelongsTo P.may monitor.now self.new }
-        ensures seat { IsSameSeat self.old.seat self.new.seat }
-        ensures answered { Answered P.may monitor.now self.old request.entry result self.new }
+        ensures stays { StaysIn P.may monitor.now self.old self.new }
+        ensures answers { AnswersTold P.may monitor.now self.old request.entry call result self.new }
         ensures answer { IsAnswerTo (asked request.entry) result }
-        ensures kept { KeepsPinned self.old self.new }
-        ensures told { Tells self.old.trail (told_of self.old call result) self.new.trail }
-        ensures untouched { self.new.visits ≡ self.old.visits }
     {
         let verdict = self.call(monitor, request);
         let dom = self.seat.dom();
@@ -412,13 +417,9 @@ impl Domain {
         entry: &Entry,
     ) -> Result<(), Denial>
         requires mine { BelongsTo P.may monitor.now self.old }
-        ensures mine { BelongsTo P.may monitor.now self.new }
-        ensures seat { IsSameSeat self.old.seat self.new.seat }
-        ensures answered { Answered P.may monitor.now self.old
+        ensures stays { StaysIn P.may monitor.now self.old self.new }
+        ensures answers { AnswersQuietly P.may monitor.now self.old
             (Request.Grant gref entry.now) (verdict_of result) self.new }
-        ensures kept { KeepsPinned self.old self.new }
-        ensures silent { self.new.trail ≡ self.old.trail }
-        ensures untouched { self.new.visits ≡ self.old.visits }
     {
         let entry = *entry;
         done(self.call(monitor, Request::Grant { gref, entry }))
@@ -436,13 +437,9 @@ impl Domain {
         bytes: &[u8],
     ) -> Result<(), Denial>
         requires mine { BelongsTo P.may monitor.now self.old }
-        ensures mine { BelongsTo P.may monitor.now self.new }
-        ensures seat { IsSameSeat self.old.seat self.new.seat }
-        ensures answered { Answered P.may monitor.now self.old
+        ensures stays { StaysIn P.may monitor.now self.old self.new }
+        ensures answers { AnswersQuietly P.may monitor.now self.old
             (Request.GrantBytes gref bytes.entry) (verdict_of result) self.new }
-        ensures kept { KeepsPinned self.old self.new }
-        ensures silent { self.new.trail ≡ self.old.trail }
-        ensures untouched { self.new.visits ≡ self.old.visits }
     {
         done(self.call(monitor, Request::GrantBytes { gref, bytes }))
     }
@@ -453,12 +450,8 @@ impl Domain {
     /// N9, N10 or, with the word found, N19, and nothing changes.
     pub fn revoke<P: Allows>(&mut self, monitor: &Monitor<P>, gref: GrantRef) -> Result<(), Denial>
         requires mine { BelongsTo P.may monitor.now self.old }
-        ensures mine { BelongsTo P.may monitor.now self.new }
-        ensures seat { IsSameSeat self.old.seat self.new.seat }
-        ensures answered { Answered P.may monitor.now self.old (Request.Revoke gref) (verdict_of result) self.new }
-        ensures kept { KeepsPinned self.old self.new }
-        ensures silent { self.new.trail ≡ self.old.trail }
-        ensures untouched { self.new.visits ≡ self.old.visits }
+        ensures stays { StaysIn P.may monitor.now self.old self.new }
+        ensures answers { AnswersQuietly P.may monitor.now self.old (Request.Revoke gref) (verdict_of result) self.new }
     {
         done(self.call(monitor, Request::Revoke { gref }))
     }
@@ -473,12 +466,9 @@ impl Domain {
         gref: GrantRef,
     ) -> Result<(), Denial>
         requires mine { BelongsTo P.may monitor.now self.old }
-        ensures mine { BelongsTo P.may monitor.now self.new }
-        ensures seat { IsSameSeat self.old.seat self.new.seat }
-        ensures answered { Answered P.may monitor.now self.old (Request.Withdraw gref) (verdict_of result) self.new }
-        ensures kept { KeepsPinned self.old self.new }
-        ensures silent { self.new.trail ≡ self.old.trail }
-        ensures untouched { self.new.visits ≡ self.old.visits }
+        ensures stays { StaysIn P.may monitor.now self.old self.new }
+        ensures answers { AnswersQuietly P.may monitor.now self.old
+            (Request.Withdraw gref) (verdict_of result) self.new }
     {
         done(self.call(monitor, Request::Withdraw { gref }))
     }
@@ -489,12 +479,8 @@ impl Domain {
     /// N9, N10, N22, or with the word found N18 or N19, and nothing changes.
     pub fn demote<P: Allows>(&mut self, monitor: &Monitor<P>, gref: GrantRef) -> Result<(), Denial>
         requires mine { BelongsTo P.may monitor.now self.old }
-        ensures mine { BelongsTo P.may monitor.now self.new }
-        ensures seat { IsSameSeat self.old.seat self.new.seat }
-        ensures answered { Answered P.may monitor.now self.old (Request.Demote gref) (verdict_of result) self.new }
-        ensures kept { KeepsPinned self.old self.new }
-        ensures silent { self.new.trail ≡ self.old.trail }
-        ensures untouched { self.new.visits ≡ self.old.visits }
+        ensures stays { StaysIn P.may monitor.now self.old self.new }
+        ensures answers { AnswersQuietly P.may monitor.now self.old (Request.Demote gref) (verdict_of result) self.new }
     {
         done(self.call(monitor, Request::Demote { gref }))
     }
@@ -505,12 +491,9 @@ impl Domain {
     /// N9, N10, N22, or with the word found N18, and nothing changes.
     pub fn promote<P: Allows>(&mut self, monitor: &Monitor<P>, gref: GrantRef) -> Result<(), Denial>
         requires mine { BelongsTo P.may monitor.now self.old }
-        ensures mine { BelongsTo P.may monitor.now self.new }
-        ensures seat { IsSameSeat self.old.seat self.new.seat }
-        ensures answered { Answered P.may monitor.now self.old (Request.Promote gref) (verdict_of result) self.new }
-        ensures kept { KeepsPinned self.old self.new }
-        ensures silent { self.new.trail ≡ self.old.trail }
-        ensures untouched { self.new.visits ≡ self.old.visits }
+        ensures stays { StaysIn P.may monitor.now self.old self.new }
+        ensures answers { AnswersQuietly P.may monitor.now self.old
+            (Request.Promote gref) (verdict_of result) self.new }
     {
         done(self.call(monitor, Request::Promote { gref }))
     }
@@ -526,14 +509,9 @@ impl Domain {
         version: u32,
     ) -> Result<(), Denial>
         requires mine { BelongsTo P.may monitor.now self.old }
-        ensures mine { BelongsTo P.may monitor.now self.new }
-        ensures seat { IsSameSeat self.old.seat self.new.seat }
-        ensures answered { Answered P.may monitor.now self.old
-            (Request.SetVersion version) (verdict_of result) self.new }
-        ensures kept { KeepsPinned self.old self.new }
-        ensures told { Tells self.old.trail
-            (told_of self.old (Hypercall.SetVersion version) (verdict_of result)) self.new.trail }
-        ensures untouched { self.new.visits ≡ self.old.visits }
+        ensures stays { StaysIn P.may monitor.now self.old self.new }
+        ensures answers { AnswersTold P.may monitor.now self.old
+            (Request.SetVersion version) (Hypercall.SetVersion version) (verdict_of result) self.new }
     {
         let call = Hypercall::SetVersion { version };
         done(self.told_call(monitor, Request::SetVersion { version }, call))
@@ -549,14 +527,9 @@ impl Domain {
         frames: u32,
     ) -> Result<u32, Denial>
         requires mine { BelongsTo P.may monitor.now self.old }
-        ensures mine { BelongsTo P.may monitor.now self.new }
-        ensures seat { IsSameSeat self.old.seat self.new.seat }
-        ensures answered { Answered P.may monitor.now self.old
-            (Request.SetupTable frames) (verdict_of_frames result) self.new }
-        ensures kept { KeepsPinned self.old self.new }
-        ensures told { Tells self.old.trail
-            (told_of self.old (Hypercall.SetupTable frames) (verdict_of_frames result)) self.new.trail }
-        ensures untouched { self.new.visits ≡ self.old.visits }
+        ensures stays { StaysIn P.may monitor.now self.old self.new }
+        ensures answers { AnswersTold P.may monitor.now self.old
+            (Request.SetupTable frames) (Hypercall.SetupTable frames) (verdict_of_frames result) self.new }
     {
         let call = Hypercall::SetupTable { frames };
         frames_told(self.told_call(monitor, Request::SetupTable { frames }, call))
@@ -572,14 +545,9 @@ impl Domain {
         dom: DomId,
     ) -> Result<Size, Denial>
         requires mine { BelongsTo P.may monitor.now self.old }
-        ensures mine { BelongsTo P.may monitor.now self.new }
-        ensures seat { IsSameSeat self.old.seat self.new.seat }
-        ensures answered { Answered P.may monitor.now self.old
-            (Request.QuerySize dom) (verdict_of_size result) self.new }
-        ensures kept { KeepsPinned self.old self.new }
-        ensures told { Tells self.old.trail
-            (told_of self.old (Hypercall.QuerySize dom) (verdict_of_size result)) self.new.trail }
-        ensures untouched { self.new.visits ≡ self.old.visits }
+        ensures stays { StaysIn P.may monitor.now self.old self.new }
+        ensures answers { AnswersTold P.may monitor.now self.old
+            (Request.QuerySize dom) (Hypercall.QuerySize dom) (verdict_of_size result) self.new }
     {
         let call = Hypercall::QuerySize { dom };
         size_told(self.told_call(monitor, Request::QuerySize { dom }, call))
@@ -595,14 +563,9 @@ impl Domain {
         dom: DomId,
     ) -> Result<u32, Denial>
         requires mine { BelongsTo P.may monitor.now self.old }
-        ensures mine { BelongsTo P.may monitor.now self.new }
-        ensures seat { IsSameSeat self.old.seat self.new.seat }
-        ensures answered { Answered P.may monitor.now self.old
-            (Request.GetVersion dom) (verdict_of_version result) self.new }
-        ensures kept { KeepsPinned self.old self.new }
-        ensures told { Tells self.old.trail
-            (told_of self.old (Hypercall.GetVersion dom) (verdict_of_version result)) self.new.trail }
-        ensures untouched { self.new.visits ≡ self.old.visits }
+        ensures stays { StaysIn P.may monitor.now self.old self.new }
+        ensures answers { AnswersTold P.may monitor.now self.old
+            (Request.GetVersion dom) (Hypercall.GetVersion dom) (verdict_of_version result) self.new }
     {
         let call = Hypercall::GetVersion { dom };
         version_told(self.told_call(monitor, Request::GetVersion { dom }, call))
@@ -625,13 +588,7 @@ impl Domain {
         ensures leaves { Leaves (known_on P.may monitor.now self.old) monitor.now.words.layout
             self.old.seat.dom (asks.Map dom gref flags) self.old.seat.view self.new.seat.view (pin_effect result) }
     {
-        let known = Known {
-            config: &monitor.config,
-            rights: &monitor.rights,
-            own: &self.own,
-            header: self.seat.header(),
-            mappings: &self.mappings,
-        };
+        let known = known_with(monitor, &self.seat, &self.own, &self.mappings);
         let caller = self.seat.dom();
         drive_map(
             &monitor.words,

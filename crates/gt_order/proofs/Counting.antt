@@ -44,7 +44,7 @@ use Rattle.gt_core.specs.History.{raise_after, raises_at, reads_at, same_dir, wo
 use Rattle.gt_core.specs.Standing.{FitsWord}
 use Rattle.gt_core.specs.declared.trace.Answer.{Answer}
 use Rattle.gt_core.specs.declared.trace.Item.{Item}
-use Rattle.gt_order.proofs.Kept.{half-few, half-some, word-same}
+use Rattle.gt_order.proofs.AgreementKept.{half-few, half-some, word-same}
 use Rattle.gt_order.proofs.Places.{dom-there, header-apart, places-apart, record-else, record-here, record-kept}
 use Rattle.gt_order.proofs.Places.{test-apart, word-else, word-here}
 use Rattle.gt_order.specs.Agreeing.{Agree, dom_at, last_at}

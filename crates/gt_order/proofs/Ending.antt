@@ -47,7 +47,7 @@ use Rattle.gt_calls.specs.declared.request.Asked.{Asked}
 use Rattle.gt_calls.specs.declared.request.Asked.TheVariants.{Map, Unmap}
 use Rattle.gt_calls.specs.declared.request.Request.{Request}
 use Rattle.gt_core.proofs.Beginning.{plain-unmapped}
-use Rattle.gt_core.proofs.Keeping.{open_call-own}
+use Rattle.gt_core.proofs.AgreementKept.{open_call-own}
 use Rattle.gt_core.proofs.Mappings.{mappings-same}
 use Rattle.gt_core.proofs.Steps.Observers.{kept-table, stepped}
 use Rattle.gt_core.proofs.Steps.See.{table-fits}
@@ -68,9 +68,9 @@ use Rattle.gt_live.specs.Walks.{all_shown, shown_by, seen_in_step}
 use Rattle.gt_live.specs.declared.domain.Domain.{Domain}
 use Rattle.gt_order.proofs.Ends.{KeepsOwn, clean-steps, handles-kept, keeps-own, kept-maps, last-leaves, leaves-known}
 use Rattle.gt_order.proofs.Ends.{leaves-of, maps-quiet, stands-open, told-maps}
-use Rattle.gt_order.proofs.Going.{GoesSo, same-way}
+use Rattle.gt_order.proofs.NextItem.{GoesSo, same-way}
 use Rattle.gt_order.proofs.Making.{header-is}
-use Rattle.gt_order.proofs.Resting.{rest-known}
+use Rattle.gt_order.proofs.DomainsAtRest.{rest-known}
 use Rattle.gt_order.proofs.Stages.{SeatNow}
 use Rattle.gt_order.proofs.Stages.Stage.{Going, Resting}
 use Rattle.gt_order.proofs.Stepping.{state-there}

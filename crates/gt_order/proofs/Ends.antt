@@ -39,7 +39,7 @@ use Rattle.gt_core.specs.declared.trace.Item.{Item}
 use Rattle.gt_handles.specs.Handles.{under}
 use Rattle.gt_live.specs.Ending.{WaitsForNobody}
 use Rattle.gt_live.specs.Mappings.{KeepsMappings, Removes}
-use Rattle.gt_order.proofs.Kept.{KeepsWords, live-kept}
+use Rattle.gt_order.proofs.AgreementKept.{KeepsWords, live-kept}
 use Rattle.gt_order.proofs.Stepping.{StandsHere, open-there, state-there}
 use Rattle.gt_order.specs.Runs.{LeavesMappings}
 

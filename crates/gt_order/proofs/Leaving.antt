@@ -25,7 +25,7 @@ use Rattle.gt_calls.specs.declared.action.Verdict.TheVariants.{Granted, Refused}
 use Rattle.gt_calls.specs.declared.held.Held.{Held}
 use Rattle.gt_calls.specs.declared.request.Holder.TheVariants.{Mapping as ByMapping}
 use Rattle.gt_calls.specs.declared.request.Request.TheVariants as requests
-use Rattle.gt_live.proofs.Kept.{unmapped}
+use Rattle.gt_live.proofs.DomainKept.{unmapped}
 use Rattle.gt_live.proofs.Making.{still_seat}
 use Rattle.gt_live.proofs.Maps.{one-step}
 use Rattle.gt_live.specs.Domains.{AllowRelation, IsDomainOf, Released, knowledge}

@@ -48,9 +48,9 @@ use Rattle.gt_live.specs.declared.domain.Domain.{Domain}
 use Rattle.gt_order.proofs.Bytes.{said}
 use Rattle.gt_order.proofs.Ending.{RefusesOnly, answered-at-once, answers, asked-refuses, begins, core-adds, ends-kept}
 use Rattle.gt_order.proofs.Ending.{ends-told, going-on, keeps-at-once, known-alike, no-pin-at-once, starves, wrote}
-use Rattle.gt_order.proofs.Going.{goes-so, on-way, same-way, unanswered}
+use Rattle.gt_order.proofs.NextItem.{goes-so, on-way, same-way, unanswered}
 use Rattle.gt_order.proofs.Making.{made-as, one-moment}
-use Rattle.gt_order.proofs.Resting.{can-be-answered, keeps-agreement}
+use Rattle.gt_order.proofs.DomainsAtRest.{can-be-answered, keeps-agreement}
 use Rattle.gt_order.proofs.Stages.{Fits, IsGoing, Ordered, SeatNow, Stage, one-more}
 use Rattle.gt_order.proofs.Stages.Stage.{Going, Resting}
 use Rattle.gt_order.proofs.Start.{ordered-first}

@@ -13,7 +13,7 @@ use Rattle.gt_words.specs.declared.view.View.{View}
 use Rattle.gt_calls.specs.Asking.{asked}
 use Rattle.gt_calls.specs.declared.action.Action.TheVariants.{Step as Makes}
 use Rattle.gt_calls.specs.declared.action.Step.{Step}
-use Rattle.gt_core.proofs.Keeping.{open_call-other}
+use Rattle.gt_core.proofs.AgreementKept.{open_call-other}
 use Rattle.gt_core.proofs.Mappings.{mappings-same}
 use Rattle.gt_core.proofs.Playing.{history-more, legal-more}
 use Rattle.gt_core.proofs.Steps.Observers.{other-known, other-maps, other-pins}

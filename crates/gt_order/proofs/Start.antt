@@ -31,7 +31,7 @@ use Rattle.gt_core.specs.Acting.{setting_of}
 use Rattle.gt_live.specs.Domains.{AllowRelation}
 use Rattle.gt_live.specs.Starting.{IsNewDomain}
 use Rattle.gt_live.specs.declared.domain.Domain.{Domain}
-use Rattle.gt_order.proofs.Resting.{rest-known}
+use Rattle.gt_order.proofs.DomainsAtRest.{rest-known}
 use Rattle.gt_order.proofs.Stages.{Ordered, SeatNow, Stage}
 use Rattle.gt_order.proofs.Stages.Stage.{Resting}
 use Rattle.gt_order.proofs.Stepping.{AreBounded, IsBounded, state-there}

@@ -50,7 +50,7 @@ use Rattle.gt_words.specs.declared.view.SeatStep.TheVariants.{Entry, Header}
 use Rattle.gt_live.specs.Domains.{AllowRelation}
 use Rattle.gt_live.specs.Walks.{seen_in_step}
 use Rattle.gt_order.proofs.Counting.{IsIdleFor, IsTurned, changes-entry, gives-back, takes-pin}
-use Rattle.gt_order.proofs.Kept.{KeepsWords, live-kept, quiet, stores-body, stores-header}
+use Rattle.gt_order.proofs.AgreementKept.{KeepsWords, live-kept, quiet, stores-body, stores-header}
 use Rattle.gt_order.specs.Agreeing.{Agree, IsThe, IsWithin, StoresChange, dom_at, last_at}
 use Rattle.gt_order.specs.Laws.{StepsKeepAgreement}
 

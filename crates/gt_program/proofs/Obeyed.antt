@@ -16,7 +16,8 @@ use Rattle.clap.specs.declared.error.kind.ErrorKind.TheVariants.{TooManyValues, 
 use Rattle.gt_advice.specs.declared.asking.Question.{Question}
 use Rattle.gt_commands.specs.Commands.{Request, to_play, to_run, to_explore, to_list, to_tell_rules, to_check}
 use Rattle.gt_commands.specs.Commands.{to_explain}
-use Rattle.gt_commands.specs.Commands.{to_tell_entries, for_help, for_version, nothing, asked_by_plan, refusals, request_in_words}
+use Rattle.gt_commands.specs.Commands.{to_tell_entries, for_help, for_version, nothing, asked_by_plan, refusals}
+use Rattle.gt_commands.specs.Commands.{request_in_words}
 use Rattle.gt_commands.specs.declared.invocation.Invocation.{Invocation}
 use Rattle.gt_dump.specs.declared.asked.Asked.{Asked}
 use Rattle.gt_commands.specs.declared.invocation.Format.{Format}
@@ -30,7 +31,7 @@ use Rattle.gt_program.specs.Obeying.{AnswersQuestion, Checks, Does, Doing, Endin
 use Rattle.gt_program.specs.Obeying.{IsQuestion}
 use Rattle.gt_program.specs.Obeying.{Lists, Obeys, Performs, Plays, RunsDomains, AnswersDump, AnswersEntries, Works}
 use Rattle.gt_program.specs.Obeying.{known_text, shown_name, exit_status_of}
-use Rattle.gt_program.specs.declared.obeying.Work.{Work}
+use Rattle.gt_program.specs.declared.commands.Work.{Work}
 use Rattle.gt_program.specs.declared.failure.Failure.TheVariants as failures
 
 -- it was done
@@ -175,6 +176,11 @@ pub told : (asked : Asked) (version : ℕ) (hex every : Bool) (script : Option �
     → IfSome known (λ bytes. Does (AnswersEntries format asked) bytes old new r) → status ≡ exit_status_of r → Works (AnswersDump version hex every script format) known old new status
 told asked version hex every script format None old new r status asks does is = tt
 told asked version hex every script format (Some bytes) old new r status asks does is = (r, is, inl (tells_asked asked version hex every script format bytes old new r asks does))
+
+-- the domain of a dump's script by its number
+pub of_number : (version : ℕ) (hex every : Bool) (one script : Option ℕ) (format : Format) (known old new : Option (List ℕ)) (status : ℕ) → one ≡ script
+    → Works (AnswersDump version hex every one format) known old new status → Works (AnswersDump version hex every script format) known old new status
+of_number version hex every one script format known old new status is works = subst (λ (n : Option ℕ). Works (AnswersDump version hex every n format) known old new status) is works
 
 -- a script was explored as it was asked
 seeks_asked : (asked : Searched) (find : Option (List ℕ)) (witness : Option ℕ) (states : ℕ) (input : List ℕ) (old new : Option (List ℕ)) (r : Ending) → IsSearched find witness states asked

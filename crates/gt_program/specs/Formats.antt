@@ -1,5 +1,6 @@
 -- What a command writes in a format.
-use Rattle.std.specs.Prelude.{ℕ, Bool, true, false, List, Result}
+use Rattle.std.specs.Prelude.{◌≡◌, ◌⊎◌, ℕ, Bool, true, false, List, Option, Result, Ok, Err}
+use Rattle.std.specs.Io.KnownBytes.{Appends, Keeps}
 use Rattle.gt_advising.specs.Checking.{Checked}
 use Rattle.gt_advising.specs.Scripts.{CheckedScript}
 use Rattle.gt_as_json.specs.AsJson.{Promise, ListedAsJson, PlayedAsJson, RanAsJson, ToldAsJson}
@@ -16,7 +17,9 @@ use Rattle.gt_run.specs.Runs.{Ran}
 use Rattle.gt_run.specs.declared.fault.RunFault.{RunFault}
 use Rattle.gt_script.specs.RunScripts.{RunTells}
 use Rattle.gt_script.specs.Script.{TellsScript}
-use Rattle.std.specs.Prelude.{Option}
+use Rattle.gt_streams.specs.Streams.{AppendsBeginning}
+use Rattle.gt_host.specs.declared.fault.PlayFault.TheVariants as plays
+use Rattle.gt_run.specs.declared.fault.RunFault.TheVariants as runs
 
 -- what `play` writes
 abbrev pub PlayedAs : Format → Bool → List ℕ → Promise PlayFault
@@ -27,6 +30,14 @@ PlayedAs Json audited input = PlayedAsJson input audited
 abbrev pub RanAs : Format → Bool → List ℕ → Promise RunFault
 RanAs Text audited input = Ran audited (RunTells input)
 RanAs Json audited input = RanAsJson input audited
+
+-- What goes out of a text that a run wrote to memory, with its answer. At Ok it is the text, or a beginning of it,
+-- since a write failed. At a fault nothing does, and the fault is the run's, or that memory was refused.
+abbrev pub Relays : List ℕ → Result (Unit {0}) RunFault → Promise RunFault
+Relays text (Ok done) old new (Ok sent) = Appends old new text
+Relays text (Ok done) old new (Err fault) = (fault ≡ runs.Play plays.Write) × AppendsBeginning old new text
+Relays text (Err why) old new (Ok sent) = ⊥
+Relays text (Err why) old new (Err fault) = ((fault ≡ runs.Play plays.Memory) ⊎ (fault ≡ why)) × Keeps old new
 
 -- what `policy` writes
 abbrev pub ListedAs : Format → List ℕ → Promise ListingFault

@@ -9,7 +9,7 @@ use Rattle.gt_program.specs.Prelude.{for_version, nothing, dump_fault_text, Aske
 use Rattle.gt_program.specs.Prelude.{run_fault_text, listing_fault_text, Format, Failure, Work}
 use Rattle.gt_program.specs.Formats.{CheckedAs, ListedAs, PlayedAs, RanAs, ToldAs}
 use Rattle.gt_program.specs.declared.failure.Failure.TheVariants as failures
-use Rattle.gt_program.specs.declared.obeying.Work.TheVariants as works
+use Rattle.gt_program.specs.declared.commands.Work.TheVariants as works
 
 -- the line for a failure
 abbrev pub failure_text : Failure → List ℕ

@@ -16,7 +16,7 @@ pub use Rattle.gt_explore.specs.declared.exploring.Asked.{Asked as Searched}
 pub use Rattle.gt_host.specs.Faults.{play_fault_text}
 pub use Rattle.gt_listing.specs.Faults.{listing_fault_text}
 pub use Rattle.gt_program.specs.declared.failure.Failure.{Failure}
-pub use Rattle.gt_program.specs.declared.obeying.Work.{Work}
+pub use Rattle.gt_program.specs.declared.commands.Work.{Work}
 pub use Rattle.gt_run.specs.Faults.{run_fault_text}
 pub use Rattle.gt_script.specs.RunScripts.{RunTells}
 pub use Rattle.gt_streams.specs.Texts.{read_word}

@@ -12,6 +12,7 @@
 //! of the programs above this crate, show that an error comes only if there is one.
 #![tactic(auto)]
 
+mod commands;
 mod copying;
 mod failure;
 mod formats;
@@ -22,7 +23,8 @@ mod system;
 mod texts;
 mod told;
 
+pub use commands::Work;
 pub use failure::{Failure, exit_status};
-pub use obeying::{Work, obey};
+pub use obeying::obey;
 pub use system::{System, run};
 pub use texts::Texts;

@@ -48,7 +48,7 @@ fn fault_reason(
 
 // The rules that come near what the policy refused when the script that was read was played. It is played again: there
 // is only one text.
-fn refusals(alloc: Global, file: &str, input: &Kept) -> Result<Vec<u8>, AllocError> {
+fn play_refusals(alloc: Global, file: &str, input: &Kept) -> Result<Vec<u8>, AllocError> {
     let mut said = Vec::new(alloc);
     let mut text = Vec::new(alloc);
     if let Some(bytes) = input.bytes() {
@@ -56,6 +56,20 @@ fn refusals(alloc: Global, file: &str, input: &Kept) -> Result<Vec<u8>, AllocErr
         if play(alloc, &mut reader, &mut text, false).is_ok() {
             push_refusals(alloc, &mut said, file, bytes, text.as_slice())?;
         }
+    }
+    Ok(said)
+}
+
+// The rules that come near what the policy refused when the script that was read was run, and wrote this text.
+fn run_refusals(
+    alloc: Global,
+    file: &str,
+    input: &Kept,
+    text: &[u8],
+) -> Result<Vec<u8>, AllocError> {
+    let mut said = Vec::new(alloc);
+    if let Some(bytes) = input.bytes() {
+        push_refusals(alloc, &mut said, file, bytes, text)?;
     }
     Ok(said)
 }
@@ -99,20 +113,24 @@ impl<'a> Reasons<'a> {
     pub(crate) fn add_play(&mut self, input: &Kept, ending: &Result<(), PlayFault>) {
         if let Some(file) = self.file {
             let said = match ending {
-                Ok(()) => refusals(self.alloc, file, input),
+                Ok(()) => play_refusals(self.alloc, file, input),
                 Err(fault) => fault_reason(self.alloc, file, input, fault),
             };
             self.add(said);
         }
     }
 
-    /// Adds those of a script that was read, and whose run ended so. Another run may be refused other calls, so what
-    /// the policy refused has none.
-    pub(crate) fn add_run(&mut self, input: &Kept, ending: &Result<(), RunFault>) {
-        if let (Some(file), Err(RunFault::Play(fault))) = (self.file, ending) {
-            let said = fault_reason(self.alloc, file, input, fault);
-            self.add(said);
-        }
+    /// Adds those of a script that was read, and whose run wrote this text and ended so.
+    pub(crate) fn add_run(&mut self, input: &Kept, text: &[u8], ending: &Result<(), RunFault>) {
+        let Some(file) = self.file else {
+            return;
+        };
+        let said = match ending {
+            Ok(()) => run_refusals(self.alloc, file, input, text),
+            Err(RunFault::Play(fault)) => fault_reason(self.alloc, file, input, fault),
+            Err(RunFault::Thread) => return,
+        };
+        self.add(said);
     }
 
     /// Adds why the file was not opened.

@@ -1,7 +1,7 @@
 //! Scripts that are played or run, and the reasons of what they come to.
 ghost use Rattle.std.specs.Prelude.{is_some};
 ghost use Rattle.gt_streams.specs.Streams.{OfInput};
-ghost use Rattle.gt_program.specs.Formats.{PlayedAs, RanAs};
+ghost use Rattle.gt_program.specs.Formats.{PlayedAs, RanAs, Relays};
 
 use crate::copying::Copied;
 use crate::formats::{play_as, run_as};
@@ -10,6 +10,7 @@ use gt_audit::SharedLog;
 use gt_commands::Format;
 use gt_host::PlayFault;
 use gt_run::{Gate, RunFault};
+use gt_streams::{every_writer_keeps_what_it_has, finish};
 use std::alloc::Global;
 use std::io::{Read, Write};
 use std::sync::Wait;
@@ -36,25 +37,69 @@ pub(crate) fn play_told<R: Read, W: Write>(
     ending
 }
 
-/// Runs the script of a reader, its domains in threads, and adds the reasons that are asked for.
-pub(crate) fn run_told<R: Threads + Wait + Sync, I: Read, W: Write, G: Gate + Sync>(
-    rt: &R,
-    alloc: Global,
-    format: Format,
+/// How the domains of a script are run: by these threads, with a log or without, at this gate, and told in a format.
+#[derive(Drop)]
+pub(crate) struct RunSettings<'r, R, G> {
+    pub rt: &'r R,
+    pub alloc: Global,
+    pub format: Format,
+    pub log: Option<&'r SharedLog>,
+    pub gate: &'r G,
+}
+
+// Runs the script of a reader, its domains in threads.
+fn run_settled<R: Threads + Wait + Sync, I: Read, W: Write, G: Gate + Sync>(
+    settings: &RunSettings<R, G>,
     reader: &mut I,
     out: &mut W,
-    log: Option<&SharedLog>,
-    gate: &G,
+) -> Result<(), RunFault>
+    ensures { OfInput (I.remaining reader.old) (λ input.
+        RanAs settings.now.format (is_some settings.now.log) input (W.contents out.old) (W.contents out.new) result) }
+{
+    run_as(
+        settings.rt,
+        settings.alloc,
+        settings.format,
+        reader,
+        out,
+        settings.log,
+        settings.gate,
+    )
+}
+
+// Writes the text that a run wrote to memory with this answer. A write to memory fails only for want of it.
+fn relay<W: Write>(text: &[u8], ending: Result<(), RunFault>, out: &mut W) -> Result<(), RunFault>
+    ensures { Relays text.now ending (W.contents out.old) (W.contents out.new) result }
+{
+    every_writer_keeps_what_it_has();
+    match ending {
+        Ok(()) => match finish(out, text) {
+            Ok(()) => Ok(()),
+            Err(_) => Err(RunFault::Play(PlayFault::Write)),
+        },
+        Err(RunFault::Play(PlayFault::Write)) => Err(RunFault::Play(PlayFault::Memory)),
+        Err(fault) => Err(fault),
+    }
+}
+
+/// Runs the script of a reader, its domains in threads, and adds the reasons that are asked for. The text of a run
+/// can't be had again, so it is kept in memory then, and goes out at the end.
+pub(crate) fn run_told<R: Threads + Wait + Sync, I: Read, W: Write, G: Gate + Sync>(
+    settings: &RunSettings<R, G>,
+    reader: &mut I,
+    out: &mut W,
     reasons: &mut Reasons,
 ) -> Result<(), RunFault>
     ensures { OfInput (I.remaining reader.old) (λ input.
-        RanAs format (is_some log.entry) input (W.contents out.old) (W.contents out.new) result) }
+        RanAs settings.now.format (is_some settings.now.log) input (W.contents out.old) (W.contents out.new) result) }
 {
     if !reasons.are_asked() {
-        return run_as(rt, alloc, format, reader, out, log, gate);
+        return run_settled(settings, reader, out);
     }
-    let mut input = Copied::new(alloc, reader);
-    let ending = run_as(rt, alloc, format, &mut input, out, log, gate);
-    reasons.add_run(&input.kept, &ending);
+    let mut input = Copied::new(settings.alloc, reader);
+    let mut text = Vec::new(settings.alloc);
+    let outcome = run_settled(settings, &mut input, &mut text);
+    let ending = relay(text.as_slice(), outcome, out);
+    reasons.add_run(&input.kept, text.as_slice(), &ending);
     ending
 }

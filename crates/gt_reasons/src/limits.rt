@@ -2,10 +2,14 @@
 ghost use Rattle.std.specs.Prelude.{◌≡◌};
 ghost use Rattle.gt_reasons.specs.Reasons.{limit_of};
 
+use crate::blocks::block_text;
 use crate::columns::column_of;
-use crate::reason::Reason;
+use crate::reason::{Note, Reason};
 use crate::texts::push_word;
+use gt_advice::push_hint;
 use gt_lines::{BodyLine, DomainLine, Line, Number, line_words, read_line};
+use gt_policy::{LinedStatement, Statement, statements_of};
+use gt_streams::text_of;
 use gt_texts::{push_number, push_text};
 use gt_types::{
     ConfigFault, DOMID_SELF, DomId, DomainConfig, LAST_VERSION, MAX_DOMAINS, MAX_FRAMES,
@@ -51,16 +55,51 @@ fn domain_of(line: &DomainLine) -> DomainConfig {
     }
 }
 
-// The domains of lines.
-fn domains_of(alloc: Global, lines: &[&str]) -> Result<Vec<DomainConfig>, AllocError> {
-    let mut domains = Vec::new(alloc);
-    for line in lines {
+// A line `domain`, where it stands, and its domain.
+#[derive(Drop)]
+struct Configured {
+    number: usize,
+    column: usize,
+    domain: DomainConfig,
+}
+
+// The lines `domain` among these.
+fn configured_in(alloc: Global, lines: &[&str]) -> Result<Vec<Configured>, AllocError> {
+    let mut found = Vec::new(alloc);
+    for (i, line) in lines.iter().enumerate() {
         let words = line_words(alloc, line)?;
         if let Some(Line::Domain(domain)) = read_line(words.as_slice()) {
-            domains.push(domain_of(&domain))?;
+            found.push(Configured {
+                number: i.saturating_add(1),
+                column: column_of(line.as_bytes(), 1),
+                domain: domain_of(&domain),
+            })?;
         }
     }
+    Ok(found)
+}
+
+// Their domains.
+fn domains_of(alloc: Global, lines: &[Configured]) -> Result<Vec<DomainConfig>, AllocError> {
+    let mut domains = Vec::new(alloc);
+    for line in lines {
+        domains.push(line.domain)?;
+    }
     Ok(domains)
+}
+
+// Says where a domain with this number is configured, if one is.
+fn first_of(alloc: Global, lines: &[Configured], id: DomId) -> Result<Option<Note>, AllocError> {
+    let Some(first) = lines.iter().find(|line| line.domain.id == id) else {
+        return Ok(None);
+    };
+    let mut message = Vec::new(alloc);
+    push_text(&mut message, "it is the number of this domain")?;
+    Ok(Some(Note {
+        line: first.number,
+        column: first.column,
+        message,
+    }))
 }
 
 // Appends what a limit is, and says at which word of a line `domain` it is passed.
@@ -82,62 +121,106 @@ fn push_limit(out: &mut Vec<u8>, fault: ConfigFault) -> Result<usize, AllocError
     Ok(word)
 }
 
+const UNDECLARED: &str = " is no type that the policy declares";
+
+const MANY_TYPES: &str = " is one type too many: a script has at most 256";
+
+// Appends that a name is no type of the policy, whose statements these are, and which type may be meant.
+fn push_undeclared(
+    alloc: Global,
+    out: &mut Vec<u8>,
+    statements: &[LinedStatement],
+    name: &str,
+) -> Result<(), AllocError> {
+    let mut types: Vec<&str> = Vec::new(alloc);
+    for stated in statements {
+        match &stated.statement {
+            Statement::DeclareType(declared, _) => types.push(declared.as_str())?,
+            Statement::DeclareAttribute(declared) if declared.as_str() == name => {
+                return push_text(out, " is an attribute of the policy, and no type");
+            }
+            _ => {}
+        }
+    }
+    push_text(out, UNDECLARED)?;
+    push_hint(alloc, out, name, types.as_slice())
+}
+
+// Appends why the type of a domain is none, after the lines before it.
+fn push_no_type(
+    alloc: Global,
+    out: &mut Vec<u8>,
+    before: &[&str],
+    name: &[u8],
+) -> Result<(), AllocError> {
+    push_word(out, name)?;
+    let Some(block) = block_text(alloc, before)? else {
+        return push_text(out, MANY_TYPES);
+    };
+    match (statements_of(alloc, block.as_str()), text_of(name)) {
+        (Ok(statements), Ok(name)) => push_undeclared(alloc, out, statements.as_slice(), name),
+        _ => push_text(out, UNDECLARED),
+    }
+}
+
 // Why a line `domain` is refused, after the lines before it: a limit, or else its type.
 fn domain_reason(
     alloc: Global,
     before: &[&str],
     line: &str,
     domain: &DomainLine,
-    has_policy: bool,
 ) -> Result<Reason, AllocError> {
     let mut message = Vec::new(alloc);
-    let domains = domains_of(alloc, before)?;
-    let word = match domain_of(domain).fault(domains.as_slice()) {
-        Some(fault) => push_limit(&mut message, fault)?,
+    let config = domain_of(domain);
+    let configured = configured_in(alloc, before)?;
+    let domains = domains_of(alloc, configured.as_slice())?;
+    let mut note = None;
+    let word = match config.fault(domains.as_slice()) {
+        Some(fault) => {
+            if let ConfigFault::Repeated(id) = fault {
+                note = first_of(alloc, configured.as_slice(), id)?;
+            }
+            push_limit(&mut message, fault)?
+        }
         None => {
-            push_word(&mut message, domain.type_name.as_bytes())?;
-            push_text(
-                &mut message,
-                if has_policy { UNDECLARED } else { MANY_TYPES },
-            )?;
+            push_no_type(alloc, &mut message, before, domain.type_name.as_bytes())?;
             2
         }
     };
     Ok(Reason {
         column: column_of(line.as_bytes(), word),
         message,
+        note,
     })
 }
 
-const UNDECLARED: &str = " is no type that the policy declares";
-
-const MANY_TYPES: &str = " is one type too many: a script has at most 256";
+// Appends the numbers of the domains that a script has.
+fn push_numbers(alloc: Global, out: &mut Vec<u8>, lines: &[&str]) -> Result<(), AllocError> {
+    push_text(out, " is no domain of this script, which has ")?;
+    for (i, line) in configured_in(alloc, lines)?.iter().enumerate() {
+        if i > 0 {
+            push_text(out, ", ")?;
+        }
+        push_number(out, line.domain.id.0)?;
+    }
+    Ok(())
+}
 
 /// Why a line of a script has the fault `config`, after the lines before it.
-pub fn config_reason(
-    alloc: Global,
-    before: &[&str],
-    line: &str,
-    has_policy: bool,
-) -> Result<Reason, AllocError> {
+pub fn config_reason(alloc: Global, before: &[&str], line: &str) -> Result<Reason, AllocError> {
     let words = line_words(alloc, line)?;
-    if let Some(Line::Domain(domain)) = read_line(words.as_slice()) {
-        return domain_reason(alloc, before, line, &domain, has_policy);
+    let read = read_line(words.as_slice());
+    if let Some(Line::Domain(domain)) = &read {
+        return domain_reason(alloc, before, line, domain);
     }
     let mut message = Vec::new(alloc);
     let word = words.get(1).copied().unwrap_or(&[]);
     push_word(&mut message, word)?;
-    push_text(
-        &mut message,
-        match read_line(words.as_slice()) {
-            Some(Line::Triple(_)) => MANY_TYPES,
-            _ => " is no domain of this script",
-        },
-    )?;
-    Ok(Reason {
-        column: column_of(line.as_bytes(), 1),
-        message,
-    })
+    match read {
+        Some(Line::Triple(_)) => push_text(&mut message, MANY_TYPES)?,
+        _ => push_numbers(alloc, &mut message, before)?,
+    }
+    Ok(Reason::at(column_of(line.as_bytes(), 1), message))
 }
 
 /// Why a line of a script has the fault `mode`.
@@ -157,8 +240,5 @@ pub fn mode_reason(alloc: Global, line: &str) -> Result<Reason, AllocError> {
             _ => " is a line for gthost play",
         },
     )?;
-    Ok(Reason {
-        column: column_of(line.as_bytes(), 0),
-        message,
-    })
+    Ok(Reason::at(column_of(line.as_bytes(), 0), message))
 }

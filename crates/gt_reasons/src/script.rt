@@ -4,11 +4,11 @@ ghost use Rattle.gt_reasons.specs.Reasons.{TellsAt};
 
 use crate::blocks::{block_text, has_policy};
 use crate::limits::{config_reason, mode_reason};
-use crate::reason::Reason;
+use crate::reason::{Note, Reason};
 use crate::syntax::syntax_reason;
 use crate::texts::push_heading;
 use crate::waits::stuck_reason;
-use gt_advice::{Kind, check};
+use gt_advice::{Finding, Kind, check};
 use gt_lines::text_lines;
 use gt_script::{BlockFault, ScriptFault, ScriptFaultKind};
 use gt_streams::text_of;
@@ -20,7 +20,7 @@ use std::alloc::{AllocError, Global};
 fn said(alloc: Global, text: &str) -> Result<Reason, AllocError> {
     let mut message = Vec::new(alloc);
     push_text(&mut message, text)?;
-    Ok(Reason { column: 1, message })
+    Ok(Reason::at(1, message))
 }
 
 fn limit_reason(alloc: Global) -> Result<Reason, AllocError> {
@@ -28,7 +28,7 @@ fn limit_reason(alloc: Global) -> Result<Reason, AllocError> {
     push_text(&mut message, "a script has at most ")?;
     push_number(&mut message, LONGEST_TEXT)?;
     push_text(&mut message, " bytes")?;
-    Ok(Reason { column: 1, message })
+    Ok(Reason::at(1, message))
 }
 
 // The column of the first byte that is no UTF-8.
@@ -70,10 +70,7 @@ fn line_reason(alloc: Global, lines: &[&str], fault: &ScriptFault) -> Result<Rea
     match fault.kind {
         ScriptFaultKind::Limit | ScriptFaultKind::Utf8 => limit_reason(alloc),
         ScriptFaultKind::Syntax => syntax_reason(alloc, line),
-        ScriptFaultKind::Config => {
-            let has_policy = has_policy(alloc, lines)?;
-            config_reason(alloc, &lines[..place], line, has_policy)
-        }
+        ScriptFaultKind::Config => config_reason(alloc, &lines[..place], line),
         ScriptFaultKind::Mode => mode_reason(alloc, line),
         ScriptFaultKind::Stuck => stuck_reason(alloc, lines, line),
     }
@@ -124,6 +121,30 @@ pub fn push_script_reason(
     push_reason(out, file, fault.line, &reason)
 }
 
+// What is said beside an error, if this is a note.
+fn note_found(alloc: Global, finding: Option<&Finding>) -> Result<Option<Note>, AllocError> {
+    let Some(note) = finding.filter(|one| one.kind == Kind::Note) else {
+        return Ok(None);
+    };
+    Ok(Some(Note {
+        line: note.line as usize,
+        column: note.column as usize,
+        message: Vec::from_slice(alloc, note.message.as_slice())?,
+    }))
+}
+
+// The error that was found in a policy block, and the note after it.
+fn reason_found(alloc: Global, found: &[Finding]) -> Result<Reason, AllocError> {
+    let [error, others @ ..] = found else {
+        return said(alloc, "the policy block has a fault");
+    };
+    Ok(Reason {
+        column: error.column as usize,
+        message: Vec::from_slice(alloc, error.message.as_slice())?,
+        note: note_found(alloc, others.first())?,
+    })
+}
+
 /// What is wrong with the policy block of a script.
 pub fn block_reason(alloc: Global, input: &[u8]) -> Result<Reason, AllocError> {
     let Ok(text) = text_of(input) else {
@@ -136,15 +157,7 @@ pub fn block_reason(alloc: Global, input: &[u8]) -> Result<Reason, AllocError> {
     let Ok(found) = check(alloc, block.as_str()) else {
         return Err(AllocError);
     };
-    for finding in found.as_slice() {
-        if finding.kind == Kind::Fault {
-            return Ok(Reason {
-                column: finding.column as usize,
-                message: Vec::from_slice(alloc, finding.message.as_slice())?,
-            });
-        }
-    }
-    said(alloc, "the policy block has a fault")
+    reason_found(alloc, found.as_slice())
 }
 
 /// Appends why the policy block of a script has this fault: a line `FILE:LINE:COLUMN: REASON`, at the line of the

@@ -7,8 +7,11 @@ use crate::forms::{FORMS, example_of, expected_at};
 use crate::misfit::fitting;
 use crate::reason::Reason;
 use crate::texts::push_word;
+use gt_advice::push_hint;
 use gt_lines::{Line, is, line_words, read_line};
+use gt_streams::text_of;
 use gt_texts::push_text;
+use gt_types::Perms;
 use std::alloc::{AllocError, Global};
 
 // The words of a form, and words that fit them.
@@ -36,14 +39,14 @@ pub fn first_misfit(alloc: Global, words: &[&[u8]]) -> Result<usize, AllocError>
     Ok(most)
 }
 
-// Appends the parts that are expected at this word by the forms that fit up to it, each once.
+// Appends the parts that are expected at this word by the forms that fit up to it, each once, and answers them.
 fn push_expected(
     alloc: Global,
     out: &mut Vec<u8>,
     words: &[&[u8]],
     number: usize,
-) -> Result<(), AllocError> {
-    let mut told: Vec<&[u8]> = Vec::new(alloc);
+) -> Result<Vec<&'static [u8]>, AllocError> {
+    let mut told: Vec<&'static [u8]> = Vec::new(alloc);
     for form in FORMS {
         let form = line_words(alloc, form)?;
         let example = examples(alloc, form.as_slice())?;
@@ -51,7 +54,30 @@ fn push_expected(
             push_next(out, &mut told, form.get(number).copied())?;
         }
     }
-    Ok(())
+    Ok(told)
+}
+
+// Appends which of these parts of forms a misspelt word may be meant as.
+fn push_meant(
+    alloc: Global,
+    out: &mut Vec<u8>,
+    word: &[u8],
+    expected: &[&'static [u8]],
+) -> Result<(), AllocError> {
+    let mut names: Vec<&str> = Vec::new(alloc);
+    for part in expected {
+        if is(part, "PERMISSION") {
+            for perm in Perms::EVERY {
+                names.push(perm.name())?;
+            }
+        } else if let (None, Ok(name)) = (expected_at(part), text_of(part)) {
+            names.push(name)?;
+        }
+    }
+    match text_of(word) {
+        Ok(word) => push_hint(alloc, out, word, names.as_slice()),
+        Err(_) => Ok(()),
+    }
 }
 
 const NOTHING_MORE: &str = "nothing more";
@@ -84,11 +110,11 @@ fn misfit_reason(alloc: Global, line: &str, words: &[&[u8]]) -> Result<Reason, A
         None => push_text(&mut message, "the line ends too early")?,
     }
     push_text(&mut message, ": ")?;
-    push_expected(alloc, &mut message, words, number)?;
-    Ok(Reason {
-        column: column_of(line.as_bytes(), number),
-        message,
-    })
+    let expected = push_expected(alloc, &mut message, words, number)?;
+    if let Some(word) = words.get(number) {
+        push_meant(alloc, &mut message, word, expected.as_slice())?;
+    }
+    Ok(Reason::at(column_of(line.as_bytes(), number), message))
 }
 
 // Where a line may stand, for one that stands elsewhere.
@@ -107,7 +133,7 @@ fn place_of(line: &Line) -> &'static str {
 fn place_reason(alloc: Global, text: &str) -> Result<Reason, AllocError> {
     let mut message = Vec::new(alloc);
     push_text(&mut message, text)?;
-    Ok(Reason { column: 1, message })
+    Ok(Reason::at(1, message))
 }
 
 /// Why a line of a script has the fault `syntax`: a word does not fit, or the line is out of its place.

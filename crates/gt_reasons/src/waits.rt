@@ -1,49 +1,101 @@
 //! Why a domain waits forever.
 use crate::columns::column_of;
-use crate::reason::Reason;
+use crate::reason::{Note, Reason};
 use crate::texts::push_word;
+use gt_advice::push_hint;
 use gt_lines::{is, line_words};
+use gt_streams::text_of;
 use gt_texts::{push_number, push_text};
 use std::alloc::{AllocError, Global};
 
-// Appends the line by which the flag would be told, if this is one.
-fn push_teller(
-    alloc: Global,
-    out: &mut Vec<u8>,
+// A line by which a domain tells a flag.
+#[derive(Clone, Copy)]
+struct Teller<'t> {
     number: usize,
-    line: &str,
-    flag: &[u8],
-) -> Result<bool, AllocError> {
-    let words = line_words(alloc, line)?;
-    let [tell, domain, told] = words.as_slice() else {
-        return Ok(false);
-    };
-    if !is(tell, "tell") || *told != flag {
-        return Ok(false);
-    }
-    push_text(out, "; line ")?;
-    push_number(out, number)?;
-    push_text(out, " of domain ")?;
-    out.extend_from_slice(domain)?;
-    push_text(out, " tells it, and does not come")?;
-    Ok(true)
+    column: usize,
+    domain: &'t [u8],
+    flag: &'t [u8],
 }
 
-// Appends the lines by which the flag would be told.
+// The lines by which domains tell flags.
+fn tellers<'t>(alloc: Global, lines: &[&'t str]) -> Result<Vec<Teller<'t>>, AllocError> {
+    let mut found = Vec::new(alloc);
+    for (i, line) in lines.iter().enumerate() {
+        let words = line_words(alloc, line)?;
+        if let [tell, domain, flag] = words.as_slice() {
+            if is(tell, "tell") {
+                found.push(Teller {
+                    number: i.saturating_add(1),
+                    column: column_of(line.as_bytes(), 2),
+                    domain,
+                    flag,
+                })?;
+            }
+        }
+    }
+    Ok(found)
+}
+
+// Appends a line by which the flag would be told.
+fn push_teller(out: &mut Vec<u8>, teller: &Teller) -> Result<(), AllocError> {
+    push_text(out, "; line ")?;
+    push_number(out, teller.number)?;
+    push_text(out, " of domain ")?;
+    out.extend_from_slice(teller.domain)?;
+    push_text(out, " tells it, and does not come")
+}
+
+// Appends that no line tells a flag, and which one may be meant.
+fn push_untold(
+    alloc: Global,
+    out: &mut Vec<u8>,
+    tellers: &[Teller],
+    flag: &[u8],
+) -> Result<(), AllocError> {
+    push_text(out, "; no line tells it")?;
+    let mut names: Vec<&str> = Vec::new(alloc);
+    for teller in tellers {
+        if let Ok(name) = text_of(teller.flag) {
+            names.push(name)?;
+        }
+    }
+    match text_of(flag) {
+        Ok(flag) => push_hint(alloc, out, flag, names.as_slice()),
+        Err(_) => Ok(()),
+    }
+}
+
+// Appends the lines by which the flag would be told, and answers what is said beside the first of them.
 fn push_tellers(
     alloc: Global,
     out: &mut Vec<u8>,
     lines: &[&str],
     flag: &[u8],
-) -> Result<(), AllocError> {
-    let mut is_any = false;
-    for (i, line) in lines.iter().enumerate() {
-        is_any |= push_teller(alloc, out, i.saturating_add(1), line, flag)?;
+) -> Result<Option<Note>, AllocError> {
+    let tellers = tellers(alloc, lines)?;
+    let mut note = None;
+    for teller in tellers.iter().filter(|one| one.flag == flag) {
+        push_teller(out, teller)?;
+        if note.is_none() {
+            note = Some(told_here(alloc, teller)?);
+        }
     }
-    if is_any {
-        return Ok(());
+    if note.is_none() {
+        push_untold(alloc, out, tellers.as_slice(), flag)?;
     }
-    push_text(out, "; no line tells it")
+    Ok(note)
+}
+
+// Says where a flag would be told.
+fn told_here(alloc: Global, teller: &Teller) -> Result<Note, AllocError> {
+    let mut message = Vec::new(alloc);
+    push_word(&mut message, teller.flag)?;
+    push_text(&mut message, " is told here")?;
+    Ok(Note {
+        line: teller.number,
+        column: teller.column,
+        message,
+    })
 }
 
 /// Why the domain of a line `await` waits forever: the flag, and the lines that would tell it.
@@ -56,9 +108,10 @@ pub fn stuck_reason(alloc: Global, lines: &[&str], line: &str) -> Result<Reason,
     message.extend_from_slice(domain)?;
     push_text(&mut message, " waits for the flag ")?;
     push_word(&mut message, flag)?;
-    push_tellers(alloc, &mut message, lines, flag)?;
+    let note = push_tellers(alloc, &mut message, lines, flag)?;
     Ok(Reason {
         column: column_of(line.as_bytes(), 2),
         message,
+        note,
     })
 }

@@ -42,14 +42,14 @@ events_more (did f y ∷ hs) e x = ap (λ (l : List Event). f ∷ l) (events_mor
 events_more (raised d flag ∷ hs) e x = events_more hs e x
 events_more (passed d flag ∷ hs) e x = events_more hs e x
 
-trace_more : (hs : List Happening) (e : Event) (x : Element) → trace_in (hs ++ did e x ∷ []) ≡ trace_in hs ++ x ∷ []
+pub trace_more : (hs : List Happening) (e : Event) (x : Element) → trace_in (hs ++ did e x ∷ []) ≡ trace_in hs ++ x ∷ []
 trace_more [] e x = refl
 trace_more (did f y ∷ hs) e x = ap (λ (l : List Element). y ∷ l) (trace_more hs e x)
 trace_more (raised d flag ∷ hs) e x = trace_more hs e x
 trace_more (passed d flag ∷ hs) e x = trace_more hs e x
 
 -- no event
-data IsQuiet : Happening → Type 0 where
+pub data IsQuiet : Happening → Type 0 where
   tells : (d : DomId) (flag : ℕ) → IsQuiet (raised d flag)
   waits : (d : DomId) (flag : ℕ) → IsQuiet (passed d flag)
 
@@ -60,14 +60,14 @@ events_same (did f y ∷ hs) x q = ap (λ (l : List Event). f ∷ l) (events_sam
 events_same (raised d flag ∷ hs) x q = events_same hs x q
 events_same (passed d flag ∷ hs) x q = events_same hs x q
 
-trace_same : (hs : List Happening) (x : Happening) → IsQuiet x → trace_in (hs ++ x ∷ []) ≡ trace_in hs
+pub trace_same : (hs : List Happening) (x : Happening) → IsQuiet x → trace_in (hs ++ x ∷ []) ≡ trace_in hs
 trace_same [] x (tells d flag) = refl
 trace_same [] x (waits d flag) = refl
 trace_same (did f y ∷ hs) x q = ap (λ (l : List Element). y ∷ l) (trace_same hs x q)
 trace_same (raised d flag ∷ hs) x q = trace_same hs x q
 trace_same (passed d flag ∷ hs) x q = trace_same hs x q
 
-history_one : (h : History) (xs : List Element) (x : Element) → history_after h (xs ++ x ∷ []) ≡ grown (history_after h xs) x
+pub history_one : (h : History) (xs : List Element) (x : Element) → history_after h (xs ++ x ∷ []) ≡ grown (history_after h xs) x
 history_one h [] x = refl
 history_one h (y ∷ xs) x = history_one (grown h y) xs x
 
@@ -100,12 +100,12 @@ flags_more hs x old new = λ at d flag is. elim (get_cases hs x (passed d flag) 
 
 -- domains
 
-map_set : {X Y : Type 0} (f : X → Y) (xs : List X) (k : ℕ) (v w : X) → slice_get xs k ≡ Some v → f w ≡ f v → map f (set xs k w) ≡ map f xs
+pub map_set : {X Y : Type 0} (f : X → Y) (xs : List X) (k : ℕ) (v w : X) → slice_get xs k ≡ Some v → f w ≡ f v → map f (set xs k w) ≡ map f xs
 map_set f [] k v w at same = refl
 map_set f (x ∷ xs) zero v w at same = ap (λ y. y ∷ map f xs) (same ∙ ap f (sym (same_Some x v at)))
 map_set f (x ∷ xs) (suc k) v w at same = ap (λ l. f x ∷ l) (map_set f xs k v w at same)
 
-mapped_back : {X Y : Type 0} (f : X → Y) (o : Option X) (y : Y) → option_map f o ≡ Some y → (x : X) × (o ≡ Some x) × (f x ≡ y)
+pub mapped_back : {X Y : Type 0} (f : X → Y) (o : Option X) (y : Y) → option_map f o ≡ Some y → (x : X) × (o ≡ Some x) × (f x ≡ y)
 mapped_back f None y e = absurd (none-some y e)
 mapped_back f (Some x) y e = (x, refl, same_Some (f x) y e)
 
@@ -123,19 +123,19 @@ domain_found true d o h = λ e. none-some d (sym e)
 domain_found false d o (inl h) = cc
 domain_found false d o (inr h) = h
 
-domain_known : (ds : List DomainConfig) (k : ℕ) (d : DomainConfig) → slice_get ds k ≡ Some d → domain_of ds d.id ≢ None
+pub domain_known : (ds : List DomainConfig) (k : ℕ) (d : DomainConfig) → slice_get ds k ≡ Some d → domain_of ds d.id ≢ None
 domain_known [] k d at = absurd (none-some d at)
 domain_known (e ∷ ds) zero d at =
     domain_found (e.id.0 == d.id.0) e (domain_of ds d.id) (inl (eq-eqb e.id.0 d.id.0 (ap (λ (x : DomainConfig). x.id.0) (same_Some e d at))))
 domain_known (e ∷ ds) (suc k) d at = domain_found (e.id.0 == d.id.0) e (domain_of ds d.id) (inr (domain_known ds k d at))
 
-apart_at : (ds : List DomainConfig) (i j : ℕ) (d e : DomainConfig) → AllPairs (λ (x : DomainConfig) (y : DomainConfig). x.id.0 ≢ y.id.0) ds → slice_get ds i ≡ Some d → slice_get ds j ≡ Some e → i < j → d.id.0 ≢ e.id.0
+pub apart_at : (ds : List DomainConfig) (i j : ℕ) (d e : DomainConfig) → AllPairs (λ (x : DomainConfig) (y : DomainConfig). x.id.0 ≢ y.id.0) ds → slice_get ds i ≡ Some d → slice_get ds j ≡ Some e → i < j → d.id.0 ≢ e.id.0
 apart_at ds i j d e all at there lt = λ same.
     all i j d lt (slice_get_within ds j e there) (
     ap (λ (x : DomainConfig). x.id.0) (get_or_from_slice_get ds i d d at) ∙ same ∙ ap (λ (x : DomainConfig). x.id.0) (sym (get_or_from_slice_get ds j e d there))
     )
 
-less_or : (i j : ℕ) → i ≢ j → (i < j) ⊎ (j < i)
+pub less_or : (i j : ℕ) → i ≢ j → (i < j) ⊎ (j < i)
 less_or zero zero h = absurd (h refl)
 less_or zero (suc j) h = inl (omega arith)
 less_or (suc i) zero h = inr (omega arith)
@@ -249,7 +249,7 @@ quiet c hs r q x place v w still come at moves core types walkers passes told =
     (flags_more hs x come.flags passes)
     told
 
-set_true : (told : List Bool) (at flag : ℕ) → get_or (set told at true) flag false ≡ true → (flag ≡ at) ⊎ (get_or told flag false ≡ true)
+pub set_true : (told : List Bool) (at flag : ℕ) → get_or (set told at true) flag false ≡ true → (flag ≡ at) ⊎ (get_or told flag false ≡ true)
 set_true [] at flag is = inr is
 set_true (b ∷ told) zero zero is = inl refl
 set_true (b ∷ told) zero (suc flag) is = inr is

@@ -1,7 +1,13 @@
+pub mod Abreast
+pub mod Alike
 pub mod Coming
+pub mod Doing
 pub mod Ending
+pub mod Following
+pub mod Keeping
 pub mod Making
 pub mod Moving
 pub mod Places
 pub mod Starting
 pub mod Turning
+pub mod Whole

@@ -55,7 +55,7 @@ goes_done dom After x answer more is after = (x ∷ [], answer, more, refl, ends
 
 -- what follows an answer
 
-left_same : (v w : Walker) → w.tasks.items ≡ v.tasks.items → w.next ≡ v.next → tasks_left w ≡ tasks_left v
+pub left_same : (v w : Walker) → w.tasks.items ≡ v.tasks.items → w.next ≡ v.next → tasks_left w ≡ tasks_left v
 left_same v w tasks next =
     ap (λ (l : List (Bor Task)). drop w.next (map (λ (t : Bor Task). t.now) l)) tasks ∙ ap (λ (n : ℕ). drop n (tasks_left_of v)) next
 

@@ -54,7 +54,7 @@ pub apart_in : (c : Contents) (config : Config) → IsWithinLimits config → co
 apart_in c config fits domains = subst HaveOwnIds domains fits.distinct
 
 -- the setting of such a core is that of the script
-setting_is : (c : Contents) (core : CoreModel Rights) → StartsFor c core → setting_in may_by core ≡ setting_of_script c
+pub setting_is : (c : Contents) (core : CoreModel Rights) → StartsFor c core → setting_in may_by core ≡ setting_of_script c
 setting_is c core s =
     ap (λ (ds : List DomainConfig). record { domains = ds; first_generation = core.config.first_gen; may = may_by core.rights }) s.domains
     ∙ ap (λ (n : ℕ). record { domains = c.domains; first_generation = n; may = may_by core.rights }) s.generation

@@ -1,10 +1,9 @@
 -- Each order has turns.
-use Rattle.std.proofs.Common.{◌≡◌, ◌≢◌, ◌⊎◌, ◌<◌, ℕ, zero, suc, Bool, true, false, cond, List, [], ◌∷◌, ◌++◌, length, map}
+use Rattle.std.proofs.Common.{◌≡◌, ◌≢◌, ◌⊎◌, ◌<◌, ℕ, suc, Bool, cond, List, [], ◌∷◌, ◌++◌, length, map}
 use Rattle.std.proofs.Common.{take, drop, Option, Some, None, refl, ap, sym, ◌∙◌, subst, inl, inr, arith, append_assoc}
-use Rattle.std.proofs.lemmas.Bool.{eq-eqb, ne_eqb, cases_eq, eqb-true}
+use Rattle.std.proofs.lemmas.Bool.{eq-eqb, ne_eqb, cases_eq}
 use Rattle.std.proofs.lemmas.List.{append-nil}
-use Rattle.std.specs.List.{flat_map}
-use Rattle.std.specs.Prelude.{◌==◌, if◌then◌else◌, slice_get, slice_set, All, AllPairs, get_or}
+use Rattle.std.specs.Prelude.{slice_get, slice_set, All, AllPairs, get_or}
 use Rattle.gt_handles.specs.declared.handles.Handle.{Handle}
 use Rattle.gt_calls.specs.declared.request.Request.{Request}
 use Rattle.gt_calls.specs.declared.request.Request.TheVariants.{Unmap}
@@ -23,14 +22,15 @@ use Rattle.gt_types.specs.Names.{domain_of}
 use Rattle.gt_types.specs.declared.DomId.{DomId}
 use Rattle.gt_types.specs.declared.config.DomainConfig.{DomainConfig}
 use Rattle.gt_host.specs.Printing.{answer_line}
-use Rattle.gt_host.specs.Runs.{Named, SaysRequest, EndsWith, AnswerNothing, answer_in, handle_given, label_given, with_name}
+use Rattle.gt_host.specs.Runs.{EndsWith, AnswerNothing, answer_in, handle_given, label_given, with_name}
 use Rattle.gt_replay.specs.declared.replay.Turn.{Turn}
-use Rattle.gt_replay.specs.Orders.{Happening, did, raised, passed, doer, own_happenings, given_up, held_after, ticks_of}
+use Rattle.gt_replay.specs.Orders.{Happening, did, doer, own_happenings, given_up, held_after, ticks_of}
 use Rattle.gt_replay.specs.Orders.{CallGoesOn, CallHappens, GivesMappingsBack, FollowsList, DoesDeed, Prints, AllFollow}
 use Rattle.gt_replay.specs.Orders.{IsOrderOf}
 use Rattle.gt_replay.specs.Walking.{HaveOwnIds}
 use Rattle.gt_replay.specs.Courses.{Opened, resting, calling, giving, Course, course_answered, course_after, back_after}
-use Rattle.gt_replay.specs.Courses.{IsDoneIf, DeedLeads, GivesAt, RestLeads, OpenLeads, CourseLeads, CourseEnds, TurnsLead}
+use Rattle.gt_replay.specs.Courses.{IsDoneIf, DeedLeads, GivesAt, RestLeads, OpenLeads, CourseLeads, CourseEnds}
+use Rattle.gt_replay.specs.Courses.{TurnsLead}
 use Rattle.gt_replay.specs.Courses.{AllCoursesEnd, courses_text, first_courses, IsTurnedBy}
 
 -- one call
@@ -176,7 +176,7 @@ deed-next types k line left (Do call) x more part (request, asks, happens) idle 
     }
 
 -- the element at a place of a list
-at-length : {X : Type 0} (before after : List X) (x : X) → slice_get (before ++ x ∷ after) (length before) ≡ Some x
+pub at-length : {X : Type 0} (before after : List X) (x : X) → slice_get (before ++ x ∷ after) (length before) ≡ Some x
 at-length [] after x = refl
 at-length (b ∷ before) after x = at-length before after x
 

@@ -3,7 +3,7 @@
 use Rattle.std.specs.Prelude.{◌≡◌, ◌++◌, ℕ, suc, List, [], ◌∷◌, map, take, drop, Option, Some, None, slice_get}
 use Rattle.std.specs.Prelude.{slice_set}
 use Rattle.std.specs.List.{flat_map}
-use Rattle.gt_replay.specs.Prelude.{DomId, DomainConfig, Handle, Request, Unmap, Answer, Done, Element, Begin, Tick}
+use Rattle.gt_replay.specs.Prelude.{DomId, Handle, Request, Unmap, Answer, Done, Element, Begin, Tick}
 use Rattle.gt_replay.specs.Prelude.{type_names, RunContents, list_of, Deed, Do, Tell, Await, Task, answer_line, Named}
 use Rattle.gt_replay.specs.Prelude.{SaysRequest, handle_given, label_given, with_name, ScriptCall, answer_in}
 use Rattle.gt_replay.specs.declared.replay.Turn.{Turn}

@@ -1,4 +1,6 @@
+pub mod Abreast
 pub mod Courses
+pub mod Making
 pub mod Orders
 pub mod Prelude
 pub mod Walking

@@ -1,10 +1,16 @@
 -- The names of other crates, and of the code, that the definitions here speak of.
+pub use Rattle.gt_calls.specs.declared.action.Seen.{Seen}
+pub use Rattle.gt_calls.specs.declared.action.Step.{Step}
 pub use Rattle.gt_calls.specs.declared.request.Request.{Request}
 pub use Rattle.gt_calls.specs.declared.request.Request.TheVariants.{Unmap}
-pub use Rattle.gt_core.specs.History.{History, Setting}
+pub use Rattle.gt_core.specs.Acting.{begun_element, ticked_element}
+pub use Rattle.gt_core.specs.Alike.{bare_handle, AreAlike, IsGiven}
+pub use Rattle.gt_core.specs.History.{History, Setting, open_call}
 pub use Rattle.gt_core.specs.Legal.{Legal, MayDo, actor_of, grown, history_after}
-pub use Rattle.gt_core.specs.Standing.{CoreStands, setting_in}
+pub use Rattle.gt_core.specs.Standing.{CoreStands, DoesEvent, setting_in}
 pub use Rattle.gt_core.specs.States.{CoreState}
+pub use Rattle.gt_core.specs.declared.core_state.Begun.{Begun}
+pub use Rattle.gt_core.specs.declared.core_state.Ticked.{Ticked}
 pub use Rattle.gt_core.specs.declared.trace.Answer.{Answer}
 pub use Rattle.gt_core.specs.declared.trace.Answer.TheVariants.{Done, Mapped}
 pub use Rattle.gt_core.specs.declared.trace.Element.{Element}
@@ -17,6 +23,7 @@ pub use Rattle.gt_host.specs.Printing.{answer_line}
 pub use Rattle.gt_host.specs.Rights.{may_by}
 pub use Rattle.gt_host.specs.Runs.{SaysRequest, EndsWith, Named, answer_in, handle_given, label_given, with_name}
 pub use Rattle.gt_lines.specs.declared.calls.ScriptCall.{ScriptCall}
+pub use Rattle.gt_replay.specs.declared.replay.Moved.{Moved}
 pub use Rattle.gt_replay.specs.declared.replay.Replay.{Replay}
 pub use Rattle.gt_replay.specs.declared.walker.Doing.{Doing}
 pub use Rattle.gt_replay.specs.declared.walker.Doing.TheVariants.{GivesBack, Line, Nothing}
@@ -25,6 +32,7 @@ pub use Rattle.gt_script.specs.Contents.{type_names}
 pub use Rattle.gt_script.specs.RunContents.{RunContents}
 pub use Rattle.gt_script.specs.RunScripts.{list_of}
 pub use Rattle.gt_script.specs.Lists.{Deed, Task}
+pub use Rattle.gt_script.specs.Stuck.{AreNumbered, IsBelow}
 pub use Rattle.gt_script.specs.declared.tasks.DeedBy.TheVariants.{Await, Do, Tell}
 pub use Rattle.gt_types.specs.Names.{domain_of}
 pub use Rattle.gt_types.specs.declared.DomId.{DomId}

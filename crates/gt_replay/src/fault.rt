@@ -12,18 +12,33 @@ pub enum ReplayFault {
 }
 
 impl From<AllocError> for ReplayFault {
+    ghost use Rattle.std.specs.Prelude.{◌≡◌};
+    ghost use Rattle.gt_replay.specs.declared.fault.ReplayFault.TheVariants as faults;
+
+    ghost from_gives = { λ _ e. e ≡ faults.Memory };
+
     fn from(_error: AllocError) -> ReplayFault {
         ReplayFault::Memory
     }
 }
 
 impl<T: Drop> From<AllocFailed<T>> for ReplayFault {
+    ghost use Rattle.std.specs.Prelude.{◌≡◌};
+    ghost use Rattle.gt_replay.specs.declared.fault.ReplayFault.TheVariants as faults;
+
+    ghost from_gives = { λ _ e. e ≡ faults.Memory };
+
     fn from(_error: AllocFailed<T>) -> ReplayFault {
         ReplayFault::Memory
     }
 }
 
 impl From<Memory> for ReplayFault {
+    ghost use Rattle.std.specs.Prelude.{◌≡◌};
+    ghost use Rattle.gt_replay.specs.declared.fault.ReplayFault.TheVariants as faults;
+
+    ghost from_gives = { λ _ e. e ≡ faults.Memory };
+
     fn from(_error: Memory) -> ReplayFault {
         ReplayFault::Memory
     }

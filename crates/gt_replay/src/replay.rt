@@ -1,11 +1,16 @@
 //! One order of a script's run, move by move.
-ghost use Rattle.std.specs.Prelude.{◌≡◌, true, false, map, All, IfOk, IfSome, IsOk, IsTrue, slice_set, get_or};
+ghost use Rattle.std.specs.Prelude.{◌≡◌, ◌<◌, ℕ, true, false, List, length, map, All, IfOk, IfSome, IsOk, IsTrue};
+ghost use Rattle.std.specs.Prelude.{IfErr, slice_set, get_or};
+ghost use Rattle.std.specs.Option.{IsSomeAnd};
 ghost use Rattle.gt_script.specs.Contents.{contents_told};
 ghost use Rattle.gt_script.specs.RunContents.{run_told};
 ghost use Rattle.gt_script.specs.RunScripts.{CanConfigure};
+ghost use Rattle.gt_script.specs.Stuck.{AreNumbered};
 ghost use Rattle.gt_host.specs.Playing.{StartsFor};
-ghost use Rattle.gt_replay.specs.Orders.{MayGive};
+ghost use Rattle.gt_replay.specs.Courses.{IsTurnedBy};
+ghost use Rattle.gt_replay.specs.Orders.{Happening, MayGive};
 ghost use Rattle.gt_replay.specs.Walking.{HaveOwnIds, StartsWalk};
+ghost use Rattle.gt_replay.specs.declared.fault.ReplayFault.TheVariants as faults;
 
 use crate::fault::ReplayFault;
 use crate::walker::Walker;
@@ -67,6 +72,7 @@ fn start(alloc: Global, script: &Script) -> Result<Core<Rights>, ReplayFault>
     requires { CanConfigure (contents_told script.now) }
     ensures starts { IfOk result (StartsFor (contents_told script.now)) }
     ensures apart { IsOk result → HaveOwnIds (contents_told script.now).domains }
+    ensures memory { IfErr result (λ f. f ≡ faults.Memory) }
 {
     let config = Config {
         domains: Vec::from_slice(alloc, script.domains())?,
@@ -82,18 +88,16 @@ fn start(alloc: Global, script: &Script) -> Result<Core<Rights>, ReplayFault>
 
 // So many flags, of which none is raised.
 fn no_flags(alloc: Global, count: usize) -> Result<Vec<bool>, AllocError>
-    ensures { IfOk result (λ told. All (λ t. t ≡ false) told.items) }
+    ensures none { IfOk result (λ told. All (λ t. t ≡ false) told.items) }
+    ensures many { IfOk result (λ told. length told.items ≡ count) }
 {
-    let mut told = Vec::new(alloc);
-    'flags: for _ in 0..count {
-        told.push(false)?;
-    }
-    Ok(told)
+    vec![in alloc; false; count]
 }
 
 // A domain raises a flag. Answers whether there is such a flag.
 fn raise(told: &mut Vec<bool>, flag: usize) -> bool
-    ensures { IsTrue result → told.new.items ≡ slice_set told.old.items flag true }
+    ensures raised { IsTrue result → told.new.items ≡ slice_set told.old.items flag true }
+    ensures place { flag < length told.old.items → IsTrue result }
 {
     if flag >= told.len() {
         return false;
@@ -104,18 +108,26 @@ fn raise(told: &mut Vec<bool>, flag: usize) -> bool
 
 // A flag is raised.
 fn is_raised(told: &[bool], flag: usize) -> bool
-    ensures { IsTrue result → get_or told.now flag false ≡ true }
+    ensures raised { IsTrue result → get_or told.now flag false ≡ true }
+    ensures passes { get_or told.now flag false ≡ true → IsTrue result }
 {
     flag < told.len() && told[flag]
 }
 
 impl<'s, 'a> Replay<'s, 'a> {
-    ghost use Rattle.std.specs.Prelude.{◌≡◌, List, [], IfOk, IfSome, IsSome};
-    ghost use Rattle.gt_script.specs.Contents.{contents_told};
+    ghost use Rattle.std.specs.Prelude.{◌≡◌, ◌++◌, List, [], ◌∷◌, IfOk, IfSome, IsSome, Some, slice_get, slice_set};
+    ghost use Rattle.std.specs.Prelude.{IfErr};
+    ghost use Rattle.std.specs.Option.{IsSomeAnd};
+    ghost use Rattle.gt_script.specs.Contents.{contents_told, type_names};
     ghost use Rattle.gt_script.specs.RunContents.{RunContents, run_told};
     ghost use Rattle.gt_script.specs.RunScripts.{CanConfigure};
+    ghost use Rattle.gt_script.specs.Stuck.{AreNumbered};
+    ghost use Rattle.gt_host.specs.Playing.{setting_of_script};
+    ghost use Rattle.gt_replay.specs.Abreast.{IsAbreast, CanComeNext};
+    ghost use Rattle.gt_replay.specs.Courses.{AllCoursesEnd, Course, CourseLeads, courses_text, first_courses};
     ghost use Rattle.gt_replay.specs.Orders.{Happening, IsOrderOf};
     ghost use Rattle.gt_replay.specs.Walking.{ComesOn, HasWalked};
+    ghost use Rattle.gt_replay.specs.declared.fault.ReplayFault.TheVariants as faults;
 
     /// The domains of the script before the first lines of their lists, on a core at rest.
     ///
@@ -123,7 +135,10 @@ impl<'s, 'a> Replay<'s, 'a> {
     /// `Memory` if memory was refused.
     pub fn new(alloc: Global, script: &'s RunScript<'a>) -> Result<Replay<'s, 'a>, ReplayFault>
         requires { CanConfigure (contents_told script.now.head) }
-        ensures { IfOk result (HasWalked (run_told script.entry.now) []) }
+        ensures walks { IfOk result (HasWalked (run_told script.entry.now) []) }
+        ensures abreast { AreNumbered script.entry.now.flags script.entry.now.tasks →
+            IfOk result (IsAbreast (run_told script.entry.now) [] (first_courses (run_told script.entry.now))) }
+        ensures memory { IfErr result (λ f. f ≡ faults.Memory) }
     {
         let head = script.head();
         let walkers = walkers_of(alloc, script, head.domains())?;
@@ -160,8 +175,16 @@ impl<'s, 'a> Replay<'s, 'a> {
     /// # Errors
     /// `Memory` if memory was refused; `Keeps` if the domain can't give a mapping back.
     pub fn advance(&mut self, turn: Turn) -> Result<Option<Moved>, ReplayFault>
-        ensures { (c : RunContents) (hs : List Happening) → HasWalked c hs self.old →
+        ensures walks { (c : RunContents) (hs : List Happening) → HasWalked c hs self.old →
             IfOk result (λ m. IsSome m → ComesOn c hs self.new) }
+        ensures abreast { (c : RunContents) (hs : List Happening) (ks : List Course) (x : Happening) (k j : Course) →
+            IsAbreast c hs ks self.old → slice_get ks turn.place ≡ Some k →
+            CourseLeads (type_names c.head) k turn.choice x j → CanComeNext (setting_of_script c.head) hs x →
+            IfOk result (λ m. IsSome m × IsAbreast c (hs ++ x ∷ []) (slice_set ks turn.place j) self.new) }
+        ensures memory { (c : RunContents) (hs : List Happening) (ks : List Course) (x : Happening) (k j : Course) →
+            IsAbreast c hs ks self.old → slice_get ks turn.place ≡ Some k →
+            CourseLeads (type_names c.head) k turn.choice x j → CanComeNext (setting_of_script c.head) hs x →
+            IfErr result (λ f. f ≡ faults.Memory) }
     {
         if turn.place >= self.walkers.len() {
             return Ok(None);
@@ -193,8 +216,10 @@ impl<'s, 'a> Replay<'s, 'a> {
 
     /// The text of the run: the lines of the first domain's answers first. None if some domain is not at its end.
     pub fn text(&self) -> Result<Option<Vec<u8>>, AllocError>
-        ensures { (c : RunContents) (hs : List Happening) → HasWalked c hs self.now →
+        ensures order { (c : RunContents) (hs : List Happening) → HasWalked c hs self.now →
             IfOk result (λ t. IfSome t (λ text. IsOrderOf c hs text.items)) }
+        ensures whole { (c : RunContents) (hs : List Happening) (ks : List Course) → IsAbreast c hs ks self.now →
+            AllCoursesEnd ks → IfOk result (λ t. IsSomeAnd t (λ text. text.items ≡ courses_text ks)) }
     {
         let mut text = Vec::new(self.alloc);
         'walkers: for walker in self.walkers.as_slice() {
@@ -218,7 +243,12 @@ pub fn text_of<'s, 'a>(
     turns: &[Turn],
 ) -> Result<Option<Vec<u8>>, ReplayFault>
     requires { CanConfigure (contents_told script.now.head) }
-    ensures { IfOk result (λ t. IfSome t (λ text. MayGive (run_told script.now) text.items)) }
+    ensures possible { IfOk result (λ t. IfSome t (λ text. MayGive (run_told script.now) text.items)) }
+    ensures whole { (hs : List Happening) (text : List ℕ) → AreNumbered script.now.flags script.now.tasks →
+        IsTurnedBy (run_told script.now) hs turns.now text →
+        IfOk result (λ t. IsSomeAnd t (λ v. v.items ≡ text)) }
+    ensures memory { (hs : List Happening) (text : List ℕ) → AreNumbered script.now.flags script.now.tasks →
+        IsTurnedBy (run_told script.now) hs turns.now text → IfErr result (λ f. f ≡ faults.Memory) }
 {
     let mut run = Replay::new(alloc, script)?;
     'turns: for turn in turns {

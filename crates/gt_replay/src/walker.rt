@@ -133,7 +133,8 @@ impl<'s, 'a> Walker<'s, 'a> {
 
     /// Whether it is at the end of its list, with no call open and no mapping.
     pub fn is_finished(&self) -> bool
-        ensures { IsTrue result → IsAtEnd self.now }
+        ensures finished { IsTrue result → IsAtEnd self.now }
+        ensures end { IsAtEnd self.now → IsTrue result }
     {
         !self.is_calling() && self.next >= self.tasks.len() && self.held.is_empty()
     }
@@ -180,10 +181,14 @@ impl<'s, 'a> Walker<'s, 'a> {
 }
 
 impl<'s, 'a> Walker<'s, 'a> {
-    ghost use Rattle.std.specs.Prelude.{◌≡◌, ◌≢◌, ◌<◌, ◌≤◌, ℕ, List, length, slice_get, IsTrue, IsSome, IfOk, Some};
+    ghost use Rattle.std.specs.Prelude.{◌≡◌, ◌≢◌, ◌⊎◌, ◌<◌, ◌≤◌, ℕ, List, length, slice_get, IsTrue, IsSome, IfOk};
+    ghost use Rattle.std.specs.Prelude.{IfErr, Some};
     ghost use Rattle.gt_core.specs.Standing.{setting_in};
     ghost use Rattle.gt_host.specs.Rights.{may_by};
     ghost use Rattle.gt_script.specs.declared.tasks.DeedBy.TheVariants as deeds;
+    ghost use Rattle.gt_core.specs.declared.trace.Answer.TheVariants as answers;
+    ghost use Rattle.gt_replay.specs.Making.{BeginsLine, GivesBackAt, TicksOpen, StartKeeps, StepKeeps};
+    ghost use Rattle.gt_replay.specs.declared.fault.ReplayFault.TheVariants as faults;
     ghost use Rattle.gt_replay.specs.Walking.{AnswersLine, ClosesCall, WalksTo, tasks_left_of};
     ghost use Rattle.gt_replay.specs.declared.walker.Doing.TheVariants as doing;
 
@@ -221,6 +226,9 @@ impl<'s, 'a> Walker<'s, 'a> {
         requires idle { self.old.doing ≡ doing.Nothing }
         ensures makes { IfOk result (λ m. IsSome m → WalksTo (setting_in may_by core.old) types.now
             core.old.state self.old core.new.state self.new) }
+        ensures does { IfOk result (λ m. BeginsLine (setting_in may_by core.old) types.now core.old.state
+            self.old task.now call.entry m core.new.state self.new) }
+        ensures memory { IfErr result (λ f. f ≡ faults.Memory) }
         ensures config { core.new.config ≡ core.old.config }
         ensures rights { core.new.rights ≡ core.old.rights }
     {
@@ -255,6 +263,10 @@ impl<'s, 'a> Walker<'s, 'a> {
         ensures makes { (types : List (List ℕ)) → IfOk result (λ m. IsSome m
             → WalksTo (setting_in may_by core.old) types
             core.old.state self.old core.new.state self.new) }
+        ensures does { IfOk result (λ m. GivesBackAt (setting_in may_by core.old) core.old.state
+            self.old choice m core.new.state self.new) }
+        ensures keeps { IfErr result (λ f. (f ≡ faults.Memory)
+            ⊎ StartKeeps (setting_in may_by core.old) core.old.state self.old choice core.new.state) }
         ensures config { core.new.config ≡ core.old.config }
         ensures rights { core.new.rights ≡ core.old.rights }
     {
@@ -268,14 +280,18 @@ impl<'s, 'a> Walker<'s, 'a> {
                 self.doing = Doing::GivesBack;
                 return Ok(Some(Moved::Began));
             }
-            Begun::Done(_) => Err(ReplayFault::Keeps(self.dom)),
-            Begun::Busy | Begun::NoDomain => Ok(None),
+            Begun::Done(_) => return Err(ReplayFault::Keeps(self.dom)),
+            Begun::Busy => return Ok(None),
+            Begun::NoDomain => return Ok(None),
         }
     }
 
     // What it has open has this answer.
     fn close(&mut self, alloc: Global, types: &[Text], answer: &Answer) -> Result<bool, ReplayFault>
-        ensures { IfOk result (λ b. IsTrue b → ClosesCall types.now answer.now self.old self.new) }
+        ensures closes { IfOk result (λ b. IsTrue b → ClosesCall types.now answer.now self.old self.new) }
+        ensures open { self.old.doing ≢ doing.Nothing → IfOk result IsTrue }
+        ensures keeps { IfErr result (λ f. (f ≡ faults.Memory)
+            ⊎ ((self.old.doing ≡ doing.GivesBack) × (answer.now ≢ answers.Done))) }
     {
         match self.doing {
             Doing::Nothing => Ok(false),
@@ -303,6 +319,10 @@ impl<'s, 'a> Walker<'s, 'a> {
         requires { self.old.doing ≢ doing.Nothing }
         ensures makes { IfOk result (λ m. IsSome m → WalksTo (setting_in may_by core.old) types.now
             core.old.state self.old core.new.state self.new) }
+        ensures does { IfOk result (λ m. TicksOpen (setting_in may_by core.old) types.now core.old.state
+            self.old m core.new.state self.new) }
+        ensures keeps { IfErr result (λ f. (f ≡ faults.Memory)
+            ⊎ StepKeeps (setting_in may_by core.old) core.old.state self.old core.new.state) }
         ensures config { core.new.config ≡ core.old.config }
         ensures rights { core.new.rights ≡ core.old.rights }
     {

@@ -1,10 +1,11 @@
 -- What a domain that runs is asked, and how it is answered.
 use Rattle.std.specs.Prelude.{◌≡◌, ℕ, List, Result, Ok, Err, OnOk, OnErr}
-use Rattle.gt_run.specs.Prelude.{Size, Denial, Copying, Reading, Writing, Handle, Tells, Hypercall, Step, Verdict, Held}
-use Rattle.gt_run.specs.Prelude.{Request, Answer, Domain, Monitor, IsCopiedBy, IsReadBy, IsWrittenBy, IsSameSeat}
-use Rattle.gt_run.specs.Prelude.{Accesses, Answered, BelongsTo, KeepsPinned, MapAnswered, AllowRelation, mapping_reply}
+use Rattle.gt_run.specs.Prelude.{Size, Denial, Copying, Reading, Writing, Handle, Tells, Hypercall, Held}
+use Rattle.gt_run.specs.Prelude.{Request, Answer, Domain, Monitor, IsCopiedBy, IsReadBy, IsWrittenBy}
+use Rattle.gt_run.specs.Prelude.{Accesses, Answered, KeepsPinned, MapAnswered, AllowRelation, mapping_reply}
 use Rattle.gt_run.specs.Prelude.{subject_of, told_copy, told_of, verdict_of, verdict_of_frames, verdict_of_size}
-use Rattle.gt_run.specs.Prelude.{verdict_of_version, Removes, HasVisited, WasCopied, WasRead, WasWritten, Visit}
+use Rattle.gt_run.specs.Prelude.{verdict_of_version, Removes, HasVisited, WasCopied, WasRead, WasWritten}
+use Rattle.gt_live.specs.Domains.{AccessesQuietly, AnswersQuietly, AnswersTold, StaysIn}
 use Rattle.gt_audit.specs.declared.record.Hypercall.TheVariants as hypercalls
 use Rattle.gt_calls.specs.declared.request.Request.TheVariants as requests
 use Rattle.gt_core.specs.declared.trace.Answer.TheVariants as answers
@@ -48,30 +49,6 @@ HasBytes bytes answer = ⊥
 abbrev pub IsReadAnswer : Result Reading Denial → Answer → Type 0
 IsReadAnswer (Ok r) answer = HasBytes r.bytes answer
 IsReadAnswer (Err denial) answer = answer ≡ answers.Denied denial
-
--- A call that is not recorded was answered so: the domain has the mappings, pins and records that it had, and locked
--- no frame.
-abbrev pub AnswersQuietly : {P : Type 0} → (P → AllowRelation) → Monitor P → Domain → Request → Verdict → Domain
-    → Type 0
-AnswersQuietly may m d request verdict e =
-    Answered may m d request verdict e × KeepsPinned d e × (e.trail ≡ d.trail) × (e.visits ≡ d.visits)
-
--- a call that is recorded was answered so: the domain has the mappings and pins that it had, and this call is the one
--- record more, which is kept or counted as lost; it locked no frame
-abbrev pub AnswersTold : {P : Type 0} → (P → AllowRelation) → Monitor P → Domain → Request → Hypercall → Verdict
-    → Domain
-    → Type 0
-AnswersTold may m d request call verdict e =
-    Answered may m d request verdict e × KeepsPinned d e × Tells d.trail (told_of d call verdict) e.trail
-    × (e.visits ≡ d.visits)
-
--- An access to one frame was answered so: the domain has the mappings, pins and records that it had, and what was
--- answered is what it did to the frame under its lock.
-abbrev pub AccessesQuietly : {P R : Type 0} → (P → AllowRelation) → Monitor P → Domain → Request → (Step → R → Type 0)
-    → (R → List Visit → Type 0) → Result R Denial → Domain → Type 0
-AccessesQuietly may m d request tells did result e =
-    Accesses may m d request tells result e × KeepsPinned d e × (e.trail ≡ d.trail)
-    × HasVisited did result d.visits e.visits
 
 -- The domain d was asked this, answered so, and is e after it: the answer tells how its own call of that name was
 -- answered, and so what that call did, to its mappings and its records too.
@@ -122,4 +99,4 @@ AnswersCall may m d request answer e =
 -- the same of a domain that keeps its number and its seat, and is of the monitor after it
 abbrev pub Asks : {P : Type 0} → (P → AllowRelation) → Monitor P → Domain → Request → Answer → Domain → Type 0
 Asks may m d request answer e =
-    (e.seat.dom ≡ d.seat.dom) × AnswersCall may m d request answer e × BelongsTo may m e × IsSameSeat d.seat e.seat
+    (e.seat.dom ≡ d.seat.dom) × AnswersCall may m d request answer e × StaysIn may m d e

@@ -19,6 +19,6 @@ mod threads;
 pub use fault::RunFault;
 pub use gate::{FLAGS, Flags, Gate};
 pub use laws::no_script_names_so_many_flags;
-pub use lists::Part;
+pub use lists::{Part, RunContext};
 pub use reading::run;
 pub use threads::run_lists;

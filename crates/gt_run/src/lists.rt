@@ -1,11 +1,24 @@
 //! What the domains of a run do, each in its own order.
+use crate::gate::Gate;
 use crate::serving::Output;
 use gt_audit::SharedLog;
 use gt_lines::Text;
 use gt_live::Monitor;
 use gt_script::Task;
 use gt_types::{Allows, DomId};
+use std::alloc::Global;
+use std::sync::Wait;
 use std::thread::Promise;
+
+/// What all domains of a run use: where it runs, the gate at which they wait for one another, and the log, if their
+/// calls are recorded.
+#[derive(Drop)]
+pub struct RunContext<'s, R: Wait, G: Gate> {
+    pub rt: &'s R,
+    pub alloc: Global,
+    pub gate: &'s G,
+    pub log: Option<&'s SharedLog>,
+}
 
 /// A domain's part of a run: its lines among those of all domains, and the names of types that its answers print.
 #[derive(Clone, Copy)]

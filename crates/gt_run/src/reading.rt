@@ -9,7 +9,7 @@ ghost use Rattle.gt_run.specs.Runs.{AreParts, Ran, WroteScript};
 
 use crate::fault::RunFault;
 use crate::gate::Gate;
-use crate::lists::Part;
+use crate::lists::{Part, RunContext};
 use crate::threads::run_lists;
 use gt_audit::SharedLog;
 use gt_host::{PlayFault, Rights};
@@ -60,16 +60,13 @@ fn run_script<'a, R: Threads + Wait + Sync, G: Gate + Sync, W: Write>(
     let rights = Rights::of(alloc, head)?;
     let types = head.type_names(alloc)?;
     let parts = parts_of(alloc, head.domains(), script.tasks(), types.as_slice())?;
-    run_lists(
+    let context = RunContext {
         rt,
         alloc,
-        config,
-        rights,
-        parts.as_slice(),
-        log,
         gate,
-        writer,
-    )
+        log,
+    };
+    run_lists(&context, config, rights, parts.as_slice(), writer)
 }
 
 // Runs the script that bytes say, of which those up to the limit were read.
@@ -81,7 +78,7 @@ fn run_bytes<R: Threads + Wait + Sync, G: Gate + Sync, W: Write>(
     log: Option<&SharedLog>,
     gate: &G,
 ) -> Result<(), RunFault>
-    ensures { (all : List ℕ) → input.now ≡ take 1048577 all →
+    ensures { (all : List ℕ) → input.now ≡ take READ_LIMIT all →
         Ran (is_some log.entry) (RunTells all) (W.contents writer.old) (W.contents writer.new) result }
 {
     match parse_run(alloc, input) {

@@ -50,6 +50,13 @@ fn make_call<'a, R: Wait, P: Allows>(
     Ok(answer)
 }
 
+// A line of the script that has a call.
+#[derive(Clone, Copy)]
+struct CallLine<'b, 'a> {
+    line: usize,
+    call: &'b ScriptCall<'a>,
+}
+
 // Makes the call of a line, pushes its record, and answers the line that it prints.
 fn call_line<'a, R: Wait, P: Allows>(
     rt: &R,
@@ -58,22 +65,21 @@ fn call_line<'a, R: Wait, P: Allows>(
     labels: &mut Labels<'a>,
     teller: &mut Option<Teller<'_>>,
     duty: &Duty<'_, 'a, P>,
-    line: usize,
-    call: &ScriptCall<'a>,
+    at: CallLine<'_, 'a>,
 ) -> Result<Vec<u8>, AllocError>
     requires { domain.old.monitor ≡ duty.now.monitor.now }
     ensures monitor { domain.new.monitor ≡ domain.old.monitor }
-    ensures calls { IfOk result (λ text. Calls P.may duty.now line call.now domain.old.domain domain.new.domain
-        labels.old labels.new teller.old teller.new text.items) }
+    ensures calls { IfOk result (λ text. Calls P.may duty.now at.entry.line at.entry.call.now
+        domain.old.domain domain.new.domain labels.old labels.new teller.old teller.new text.items) }
 {
-    let answer = make_call(rt, alloc, domain, labels, duty, call);
+    let answer = make_call(rt, alloc, domain, labels, duty, at.call);
     tell_next(rt, teller, domain.trail());
     let mut text = Vec::new(alloc);
     push_answer_line(
         alloc,
         &mut text,
         duty.part.types,
-        line,
+        at.line,
         duty.part.dom,
         &answer?,
     )?;
@@ -128,16 +134,9 @@ fn serve<'a, R: Wait, P: Allows, G: Gate>(
         if task.dom.0 == dom.0 {
             match &task.deed {
                 Deed::Do(call) => {
-                    let printed = call_line(
-                        rt,
-                        alloc,
-                        domain,
-                        &mut labels,
-                        teller,
-                        &duty,
-                        task.line,
-                        call,
-                    );
+                    let line = task.line;
+                    let at = CallLine { line, call };
+                    let printed = call_line(rt, alloc, domain, &mut labels, teller, &duty, at);
                     whole = has_appended(text, whole, printed);
                 }
                 Deed::Tell(flag) => gate.tell(*flag),

@@ -9,24 +9,25 @@ ghost use Rattle.gt_live.specs.Domains.{BelongsTo};
 ghost use Rattle.gt_streams.specs.Streams.{AppendsBeginning};
 ghost use Rattle.gt_run.specs.Faults.{run_out_of_memory};
 ghost use Rattle.gt_run.specs.Joining.{IsLate, Joins, WritesNext, WroteStarted, run_fault_of};
+ghost use Rattle.gt_run.specs.declared.threads.Refusal.TheVariants as refusals;
 ghost use Rattle.gt_run.specs.Printing.{AreDuties, CameOf, promised};
 ghost use Rattle.gt_run.specs.Runs.{AreUnder, Wrote};
 ghost use Rattle.gt_run.specs.Serving.{counted, AreReady, IsReady};
 
 use crate::fault::RunFault;
 use crate::gate::Gate;
-use crate::lists::{Duty, Part};
+use crate::lists::{Duty, Part, RunContext};
 use crate::running::Running;
 use crate::serving::{Output, work};
-use gt_audit::{SharedLog, push_lost};
+use gt_audit::push_lost;
 use gt_live::{Domain, Monitor};
 use gt_streams::{finish, write_text};
 use gt_types::{Allows, Config, Memory, StartFault};
-use std::alloc::Global;
+use std::alloc::{AllocFailed, Global};
 use std::io::Write;
 use std::sync::{OnceLock, Wait};
 use std::thread;
-use std::thread::{PromisedHandle, Scope, Threads};
+use std::thread::{PromisedHandle, Scope, SpawnError, Threads};
 
 // Finishes domains that get no thread.
 fn finish_all<P: Allows>(monitor: &Monitor<P>, domains: Vec<Domain>)
@@ -79,6 +80,22 @@ impl From<Refusal> for RunFault {
     }
 }
 
+impl<F: Drop> From<SpawnError<F>> for Refusal {
+    ghost from_gives = { λ _ refusal. refusal ≡ refusals.Thread };
+
+    fn from(_error: SpawnError<F>) -> Refusal {
+        Refusal::Thread
+    }
+}
+
+impl<T: Drop> From<AllocFailed<T>> for Refusal {
+    ghost from_gives = { λ _ refusal. refusal ≡ refusals.Memory };
+
+    fn from(_error: AllocFailed<T>) -> Refusal {
+        Refusal::Memory
+    }
+}
+
 // What was started: the threads in the order of their domains, and what was refused if there is not one for each.
 #[derive(Drop)]
 struct Started<'s, 'a, P: Allows> {
@@ -90,19 +107,17 @@ struct Started<'s, 'a, P: Allows> {
 // is refused none is started, and the domains that are left are finished.
 fn start_each<'s, 'a, E, R: Wait + Sync, P: Allows + Sync, G: Gate + Sync>(
     scope: &'s Scope<'s, E>,
-    rt: &'s R,
-    alloc: Global,
+    context: &RunContext<'s, R, G>,
     monitor: &'s Monitor<P>,
     domains: Vec<Running<'s, P>>,
     parts: &'s [Part<'s, 'a>],
-    log: Option<&'s SharedLog>,
-    gate: &'s G,
     start: &'s OnceLock<bool>,
 ) -> Started<'s, 'a, P>
     requires { AreReady P.may monitor.now domains.items parts.now }
     ensures { (result.refused ≡ None) →
-        AreDuties monitor.now (is_some log.entry) parts.entry.now (promised result.handles.items) }
+        AreDuties monitor.now (is_some context.now.log) parts.entry.now (promised result.handles.items) }
 {
+    let (rt, alloc, gate, log) = (context.rt, context.alloc, context.gate, context.log);
     let mut handles = Vec::new(alloc);
     let mut rest = domains.into_iter();
     'parts: for part in parts {
@@ -119,13 +134,13 @@ fn start_each<'s, 'a, E, R: Wait + Sync, P: Allows + Sync, G: Gate + Sync>(
             { work(rt, alloc, domain, duty, gate, start) },
         ) {
             Ok(handle) => {
-                if handles.push(handle).is_err() {
-                    let refused = Some(Refusal::Memory);
+                if let Err(error) = handles.push(handle) {
+                    let refused = Some(Refusal::from(error));
                     return Started { handles, refused };
                 }
             }
-            Err(_) => {
-                let refused = Some(Refusal::Thread);
+            Err(error) => {
+                let refused = Some(Refusal::from(error));
                 return Started { handles, refused };
             }
         }
@@ -273,32 +288,30 @@ fn write_each<'s, 'a, R: Threads, P: Allows, W: Write>(
 /// joined, in their order, and then their audit lines. No list begins before all threads are there. If one is
 /// refused, or memory for the list of them, no list runs.
 pub fn run_each<'a, R: Threads + Wait + Sync, P: Allows + Sync, G: Gate + Sync, W: Write>(
-    rt: &R,
-    alloc: Global,
+    context: &RunContext<'_, R, G>,
     monitor: &Monitor<P>,
     domains: Vec<Running<'_, P>>,
     parts: &[Part<'_, 'a>],
-    log: Option<&SharedLog>,
-    gate: &G,
     writer: &mut W,
 ) -> Result<(), RunFault>
     requires { AreReady P.may monitor.now domains.items parts.now }
-    ensures { Wrote P.may (AreDuties monitor.now (is_some log.entry) parts.now)
+    ensures { Wrote P.may (AreDuties monitor.now (is_some context.now.log) parts.now)
         (W.contents writer.old) (W.contents writer.new) result }
 {
     let start = OnceLock::new();
     let start = &start;
+    let (rt, alloc) = (context.rt, context.alloc);
     let Written { writer, outcome } = thread::scope(
         thread::scope_env(),
         rt,
         move |scope| -> Written<'_, W>
             requires { AreReady P.may monitor.now domains.items parts.now }
             ensures same { result.writer.ghost_name ≡ writer.entry.ghost_name }
-            ensures text { Wrote P.may (AreDuties monitor.entry.now (is_some log.entry) parts.entry.now)
+            ensures text { Wrote P.may (AreDuties monitor.entry.now (is_some context.entry.now.log) parts.entry.now)
                 (W.contents writer.entry.now) (W.contents result.writer.now) result.outcome }
         {
             let Started { handles, refused } = start_each(
-                scope, rt, alloc, monitor, domains, parts, log, gate, start,
+                scope, context, monitor, domains, parts, start,
             );
             let _ = start.try_set(refused.is_none());
             let outcome = write_each(rt, alloc, handles, refused, writer);
@@ -311,26 +324,23 @@ pub fn run_each<'a, R: Threads + Wait + Sync, P: Allows + Sync, G: Gate + Sync, 
 
 /// Runs parts over a monitor that starts with this configuration and these rights.
 pub fn run_lists<'a, R: Threads + Wait + Sync, P: Allows + Drop + Sync, G: Gate + Sync, W: Write>(
-    rt: &R,
-    alloc: Global,
+    context: &RunContext<'_, R, G>,
     config: Config,
     rights: P,
     parts: &[Part<'_, 'a>],
-    log: Option<&SharedLog>,
-    gate: &G,
     writer: &mut W,
 ) -> Result<(), RunFault>
     requires faultless { AreFaultless config.domains.items }
     requires some { 1 ≤ length config.domains.items }
     requires generation { config.first_gen ≤ LAST_GENERATION }
     requires each { map (λ p. p.dom) parts.now ≡ map (λ d. d.id) config.domains.items }
-    ensures { Wrote P.may (AreUnder config rights (is_some log.entry) parts.now)
+    ensures { Wrote P.may (AreUnder config rights (is_some context.now.log) parts.now)
         (W.contents writer.old) (W.contents writer.new) result }
 {
-    match Monitor::new(alloc, config, rights) {
+    match Monitor::new(context.alloc, config, rights) {
         Ok((monitor, domains)) => {
-            let domains = all_running(alloc, &monitor, domains)?;
-            run_each(rt, alloc, &monitor, domains, parts, log, gate, writer)
+            let domains = all_running(context.alloc, &monitor, domains)?;
+            run_each(context, &monitor, domains, parts, writer)
         }
         Err(StartFault::Memory) => Err(RunFault::from(Memory)),
         Err(StartFault::Config(_)) => unreachable!(),

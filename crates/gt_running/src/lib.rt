@@ -1,7 +1,7 @@
-//! Monitors and running domains for tests: a call written as a value, and its answer said as a text.
+//! Monitors and running domains for tests and timed loads: a call written as a value, and its answer said as a text.
 //!
-//! [`start`] makes a run of so many domains, and [`all_running`] keeps each of them beside its monitor ([`Running`]), so
-//! that it may be let go and may move into a thread. [`Running::ask`] makes the call that an [`Asks`] names, and
+//! [`start`] makes a run of so many domains, and [`all_running`] keeps each of them beside its monitor ([`Running`]),
+//! so that it may be let go and may move into a thread. [`Running::ask`] makes the call that an [`Asks`] names, and
 //! [`text`] says its answer in words, with the word that a refusal carries.
 //!
 //! What holds: a domain that is let go has left its run, so none keeps a pin; and calls that access no bytes wait for

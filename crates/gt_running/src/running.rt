@@ -3,8 +3,8 @@ ghost use Rattle.std.specs.Prelude.{All};
 ghost use Rattle.gt_live.specs.Domains.{BelongsTo};
 
 use crate::asking::{Asks, Said};
-use gt_audit::Record;
-use gt_calls::{Handle, Request};
+use gt_audit::{Record, Trail};
+use gt_calls::{CopyArgs, Handle, Request};
 use gt_core::{Answer, Bytes};
 use gt_entry::Entry;
 use gt_frames::Read;
@@ -84,6 +84,14 @@ fn read(answer: Result<Read, Denial>) -> Said {
     }
 }
 
+// The answer without its value.
+fn plain<T: Drop>(answer: Result<T, Denial>) -> Result<(), Denial> {
+    match answer {
+        Ok(_) => Ok(()),
+        Err(denial) => Err(denial),
+    }
+}
+
 // The answer of a call as the core gives it.
 fn answer_of(said: Said, mapped: Option<Handle>) -> Answer {
     match (said, mapped) {
@@ -149,9 +157,23 @@ impl<'m, P: Allows> Running<'m, P> {
         self.domain.unmap(self.monitor, self.last)
     }
 
+    /// Reads so many bytes from this offset on through the last mapping.
+    pub fn load<R: Wait>(&mut self, rt: &R, off: u16, len: u16) -> Result<Read, Denial> {
+        self.domain.load(rt, self.monitor, self.last, off, len)
+    }
+
+    /// Writes these bytes from this offset on through the last mapping.
+    pub fn store<R: Wait>(&mut self, rt: &R, off: u16, bytes: &[u8]) -> Result<(), Denial> {
+        plain(self.domain.store(rt, self.monitor, self.last, off, bytes))
+    }
+
+    pub fn copy<R: Wait>(&mut self, rt: &R, copy: &CopyArgs) -> Result<(), Denial> {
+        plain(self.domain.copy(rt, self.monitor, copy))
+    }
+
     /// Makes the call that is asked, and says its answer.
     pub fn ask<R: Wait>(&mut self, rt: &R, asks: Asks<'_>) -> Said {
-        let (monitor, last) = (self.monitor, self.last);
+        let monitor = self.monitor;
         match asks {
             Asks::Grant(gref, entry) => done(self.grant(gref, &entry)),
             Asks::Bytes(gref, bytes) => {
@@ -167,13 +189,13 @@ impl<'m, P: Allows> Running<'m, P> {
             Asks::Setup(count) => frames(self.domain.setup_table(monitor, count)),
             Asks::Size(dom) => size(self.domain.query_size(monitor, DomId(dom))),
             Asks::GetVersion(dom) => version(self.domain.get_version(monitor, DomId(dom))),
-            Asks::Load(off, len) => read(self.domain.load(rt, monitor, last, off, len)),
-            Asks::Store(off, bytes) => done(self.domain.store(rt, monitor, last, off, bytes)),
+            Asks::Load(off, len) => read(self.load(rt, off, len)),
+            Asks::Store(off, bytes) => done(self.store(rt, off, bytes)),
             Asks::Peek(frame, off, len) => read(self.domain.peek(rt, monitor, frame, off, len)),
             Asks::Poke(frame, off, bytes) => {
                 done(self.domain.poke(rt, monitor, frame, off, bytes))
             }
-            Asks::Copy(copy) => done(self.domain.copy(rt, monitor, &copy)),
+            Asks::Copy(copy) => done(self.copy(rt, &copy)),
         }
     }
 
@@ -233,6 +255,12 @@ impl<'m, P: Allows> Running<'m, P> {
         self.domain.reserve_records(records)
     }
 
+    /// Hands out its records so far, and goes on with none in the room of this trail, whose records go.
+    pub fn take_records(&mut self, mut next: Trail) -> Trail {
+        next.clear();
+        self.domain.take_records(next)
+    }
+
     /// Its records so far.
     ///
     /// # Errors
@@ -257,34 +285,24 @@ impl<'m, P: Allows> Running<'m, P> {
     }
 }
 
-// Lets domains leave that nothing is asked of.
-fn finish_all<P: Allows>(monitor: &Monitor<P>, domains: Vec<Domain>)
-    requires { All (λ d. BelongsTo P.may monitor.now d) domains.items }
-{
-    let mut rest = domains.into_iter();
-    'rest: while let Some(domain) = rest.next() {
-        let _ = domain.finish(monitor);
-    }
-    rest.destroy_empty();
-}
-
-/// Each domain beside its monitor.
+/// Each domain beside its monitor. If there is no memory for that, each leaves.
+///
+/// # Errors
+///
+/// `Memory`.
 pub fn all_running<'m, P: Allows>(
     alloc: Global,
     monitor: &'m Monitor<P>,
     domains: Vec<Domain>,
 ) -> Result<Vec<Running<'m, P>>, Memory>
-    requires { All (λ d. BelongsTo P.may monitor.now d) domains.items }
+    requires mine { All (λ d. BelongsTo P.may monitor.now d) domains.items }
 {
-    let Ok(room) = Vec::with_capacity(alloc, domains.len()) else {
-        finish_all(monitor, domains);
-        return Err(Memory);
-    };
-    let mut all: Vec<Running<'m, P>> = room;
+    let mut all = Vec::new(alloc);
+    let mut has_room = true;
     let mut rest = domains.into_iter();
     'rest: while let Some(domain) = rest.next() {
-        all.push_reserved(Running::new(monitor, domain));
+        has_room &= all.push(Running::new(monitor, domain)).is_ok();
     }
     rest.destroy_empty();
-    Ok(all)
+    if has_room { Ok(all) } else { Err(Memory) }
 }

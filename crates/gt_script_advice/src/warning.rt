@@ -19,7 +19,8 @@ pub(crate) fn is_error(kind: Kind) -> bool
         | Kind::NeverNamed
         | Kind::NoDomain
         | Kind::NeverMatters
-        | Kind::NeverMapped => false,
+        | Kind::NeverMapped
+        | Kind::Note => false,
     }
 }
 

@@ -67,7 +67,8 @@ impl<P: Allows + Drop> Guest<P> {
     ghost use Rattle.gt_audit.specs.declared.record.Hypercall.TheVariants as Hypercall;
     ghost use Rattle.gt_calls.specs.declared.held.Held.{Held as Mapping};
     ghost use Rattle.gt_calls.specs.declared.request.Request.TheVariants as Request;
-    ghost use Rattle.gt_live.specs.Domains.{Answered, HasLeft, KeepsPinned, MapAnswered, mapping_reply, subject_of};
+    ghost use Rattle.gt_live.specs.Domains.{Answered, AnswersQuietly, AnswersTold};
+    ghost use Rattle.gt_live.specs.Domains.{HasLeft, KeepsPinned, MapAnswered, mapping_reply, subject_of};
     ghost use Rattle.gt_live.specs.Domains.{told_of, verdict_of, verdict_of_frames, verdict_of_size};
     ghost use Rattle.gt_live.specs.Domains.{verdict_of_version};
     ghost use Rattle.gt_live.specs.Mappings.{Removes};
@@ -95,10 +96,8 @@ impl<P: Allows + Drop> Guest<P> {
     pub fn grant(&mut self, gref: GrantRef, entry: &Entry) -> Result<(), Denial>
         requires idle { self.old.copying ≡ None }
         ensures stays { StaysIdle self.old self.new }
-        ensures answered { Answered P.may self.old.monitor self.old.domain
+        ensures answers { AnswersQuietly P.may self.old.monitor self.old.domain
             (Request.Grant gref entry.now) (verdict_of result) self.new.domain }
-        ensures kept { KeepsPinned self.old.domain self.new.domain }
-        ensures silent { self.new.domain.trail ≡ self.old.domain.trail }
     {
         self.domain.grant(&self.monitor, gref, entry)
     }
@@ -110,10 +109,8 @@ impl<P: Allows + Drop> Guest<P> {
     pub fn grant_bytes(&mut self, gref: GrantRef, bytes: &[u8]) -> Result<(), Denial>
         requires idle { self.old.copying ≡ None }
         ensures stays { StaysIdle self.old self.new }
-        ensures answered { Answered P.may self.old.monitor self.old.domain
+        ensures answers { AnswersQuietly P.may self.old.monitor self.old.domain
             (Request.GrantBytes gref bytes.entry) (verdict_of result) self.new.domain }
-        ensures kept { KeepsPinned self.old.domain self.new.domain }
-        ensures silent { self.new.domain.trail ≡ self.old.domain.trail }
     {
         self.domain.grant_bytes(&self.monitor, gref, bytes)
     }
@@ -125,10 +122,8 @@ impl<P: Allows + Drop> Guest<P> {
     pub fn revoke(&mut self, gref: GrantRef) -> Result<(), Denial>
         requires idle { self.old.copying ≡ None }
         ensures stays { StaysIdle self.old self.new }
-        ensures answered { Answered P.may self.old.monitor self.old.domain
+        ensures answers { AnswersQuietly P.may self.old.monitor self.old.domain
             (Request.Revoke gref) (verdict_of result) self.new.domain }
-        ensures kept { KeepsPinned self.old.domain self.new.domain }
-        ensures silent { self.new.domain.trail ≡ self.old.domain.trail }
     {
         self.domain.revoke(&self.monitor, gref)
     }
@@ -140,10 +135,8 @@ impl<P: Allows + Drop> Guest<P> {
     pub fn withdraw(&mut self, gref: GrantRef) -> Result<(), Denial>
         requires idle { self.old.copying ≡ None }
         ensures stays { StaysIdle self.old self.new }
-        ensures answered { Answered P.may self.old.monitor self.old.domain
+        ensures answers { AnswersQuietly P.may self.old.monitor self.old.domain
             (Request.Withdraw gref) (verdict_of result) self.new.domain }
-        ensures kept { KeepsPinned self.old.domain self.new.domain }
-        ensures silent { self.new.domain.trail ≡ self.old.domain.trail }
     {
         self.domain.withdraw(&self.monitor, gref)
     }
@@ -155,10 +148,8 @@ impl<P: Allows + Drop> Guest<P> {
     pub fn demote(&mut self, gref: GrantRef) -> Result<(), Denial>
         requires idle { self.old.copying ≡ None }
         ensures stays { StaysIdle self.old self.new }
-        ensures answered { Answered P.may self.old.monitor self.old.domain
+        ensures answers { AnswersQuietly P.may self.old.monitor self.old.domain
             (Request.Demote gref) (verdict_of result) self.new.domain }
-        ensures kept { KeepsPinned self.old.domain self.new.domain }
-        ensures silent { self.new.domain.trail ≡ self.old.domain.trail }
     {
         self.domain.demote(&self.monitor, gref)
     }
@@ -170,10 +161,8 @@ impl<P: Allows + Drop> Guest<P> {
     pub fn promote(&mut self, gref: GrantRef) -> Result<(), Denial>
         requires idle { self.old.copying ≡ None }
         ensures stays { StaysIdle self.old self.new }
-        ensures answered { Answered P.may self.old.monitor self.old.domain
+        ensures answers { AnswersQuietly P.may self.old.monitor self.old.domain
             (Request.Promote gref) (verdict_of result) self.new.domain }
-        ensures kept { KeepsPinned self.old.domain self.new.domain }
-        ensures silent { self.new.domain.trail ≡ self.old.domain.trail }
     {
         self.domain.promote(&self.monitor, gref)
     }
@@ -185,11 +174,8 @@ impl<P: Allows + Drop> Guest<P> {
     pub fn set_version(&mut self, version: u32) -> Result<(), Denial>
         requires idle { self.old.copying ≡ None }
         ensures stays { StaysIdle self.old self.new }
-        ensures answered { Answered P.may self.old.monitor self.old.domain
-            (Request.SetVersion version) (verdict_of result) self.new.domain }
-        ensures kept { KeepsPinned self.old.domain self.new.domain }
-        ensures told { Tells self.old.domain.trail
-            (told_of self.old.domain (Hypercall.SetVersion version) (verdict_of result)) self.new.domain.trail }
+        ensures answers { AnswersTold P.may self.old.monitor self.old.domain
+            (Request.SetVersion version) (Hypercall.SetVersion version) (verdict_of result) self.new.domain }
     {
         self.domain.set_version(&self.monitor, version)
     }
@@ -201,11 +187,8 @@ impl<P: Allows + Drop> Guest<P> {
     pub fn setup_table(&mut self, frames: u32) -> Result<u32, Denial>
         requires idle { self.old.copying ≡ None }
         ensures stays { StaysIdle self.old self.new }
-        ensures answered { Answered P.may self.old.monitor self.old.domain
-            (Request.SetupTable frames) (verdict_of_frames result) self.new.domain }
-        ensures kept { KeepsPinned self.old.domain self.new.domain }
-        ensures told { Tells self.old.domain.trail
-            (told_of self.old.domain (Hypercall.SetupTable frames) (verdict_of_frames result)) self.new.domain.trail }
+        ensures answers { AnswersTold P.may self.old.monitor self.old.domain
+            (Request.SetupTable frames) (Hypercall.SetupTable frames) (verdict_of_frames result) self.new.domain }
     {
         self.domain.setup_table(&self.monitor, frames)
     }
@@ -217,11 +200,8 @@ impl<P: Allows + Drop> Guest<P> {
     pub fn query_size(&mut self, dom: DomId) -> Result<Size, Denial>
         requires idle { self.old.copying ≡ None }
         ensures stays { StaysIdle self.old self.new }
-        ensures answered { Answered P.may self.old.monitor self.old.domain
-            (Request.QuerySize dom) (verdict_of_size result) self.new.domain }
-        ensures kept { KeepsPinned self.old.domain self.new.domain }
-        ensures told { Tells self.old.domain.trail
-            (told_of self.old.domain (Hypercall.QuerySize dom) (verdict_of_size result)) self.new.domain.trail }
+        ensures answers { AnswersTold P.may self.old.monitor self.old.domain
+            (Request.QuerySize dom) (Hypercall.QuerySize dom) (verdict_of_size result) self.new.domain }
     {
         self.domain.query_size(&self.monitor, dom)
     }
@@ -233,11 +213,8 @@ impl<P: Allows + Drop> Guest<P> {
     pub fn get_version(&mut self, dom: DomId) -> Result<u32, Denial>
         requires idle { self.old.copying ≡ None }
         ensures stays { StaysIdle self.old self.new }
-        ensures answered { Answered P.may self.old.monitor self.old.domain
-            (Request.GetVersion dom) (verdict_of_version result) self.new.domain }
-        ensures kept { KeepsPinned self.old.domain self.new.domain }
-        ensures told { Tells self.old.domain.trail
-            (told_of self.old.domain (Hypercall.GetVersion dom) (verdict_of_version result)) self.new.domain.trail }
+        ensures answers { AnswersTold P.may self.old.monitor self.old.domain
+            (Request.GetVersion dom) (Hypercall.GetVersion dom) (verdict_of_version result) self.new.domain }
     {
         self.domain.get_version(&self.monitor, dom)
     }

@@ -10,9 +10,9 @@ use lib.Seq.{map-set}
 use Rattle.atomic_table.specs.Table.{State, Me, step, stepped, keeps, Allows}
 use Rattle.atomic_table.proofs.Lists.{at_set, set_again, at_map}
 use Rattle.gt_words.proofs.Lists.{whose_at, whose_here}
-use Rattle.gt_words.proofs.Kept.{header_keeps, header_keeps_pins, header_keeps_rows, header_sees}
+use Rattle.gt_words.proofs.SeatsKept.{header_keeps, header_keeps_pins, header_keeps_rows, header_sees}
 use Rattle.gt_words.proofs.Lifts.{still_dealt, still_seated}
-use Rattle.gt_words.proofs.Owed.{kind_owes, stored_owes}
+use Rattle.gt_words.proofs.StepDuties.{kind_owes, stored_owes}
 use Rattle.gt_entry.specs.Laws.{header-round}
 use Rattle.gt_entry.specs.Words.{header_of, header_word, size_of}
 use Rattle.gt_entry.specs.declared.header.Header.{Header}

@@ -13,7 +13,7 @@ use Rattle.gt_entry.specs.declared.entry.Entry.{Entry}
 use Rattle.gt_entry.specs.declared.entry.Entry.TheVariants.{Invalid, Page, Sub, Via}
 use Rattle.gt_types.specs.declared.Dir.{Dir}
 use Rattle.gt_types.specs.declared.Dir.TheVariants.{Read, Write}
-use Rattle.gt_words.proofs.GoneOn.{goes_on, goes_on_here, still_gone, until_fewer, until_later}
+use Rattle.gt_words.proofs.EarlierRecords.{goes_on, goes_on_here, still_gone, until_fewer, until_later}
 use Rattle.gt_words.proofs.Lists.{whose_at, whose_here}
 use Rattle.gt_words.proofs.Records.{changes_shown, legal_record, pins_shown, sees_shown, stores_shown, unpins_shown}
 use Rattle.gt_words.proofs.Looking.{seen_is_last}

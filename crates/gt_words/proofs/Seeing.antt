@@ -8,7 +8,7 @@ use lib.ListN.{get_elem?}
 use Rattle.atomic_table.specs.Table.{State}
 use Rattle.gt_types.specs.declared.Dir.TheVariants.{Read, Write}
 use Rattle.gt_types.specs.declared.limits.TheConstants.{TABLE_ENTRIES}
-use Rattle.gt_words.proofs.Happened.{same_part}
+use Rattle.gt_words.proofs.HistorySteps.{same_part}
 use Rattle.gt_words.proofs.Lifts.{apart_test, inside, part_there_is}
 use Rattle.gt_words.proofs.Looking.{saw_grown, saw_more}
 use Rattle.gt_words.proofs.Order.{part_else, part_here}

@@ -1,308 +1,119 @@
 //! Copies: what is asked, and the parts of each call.
-use crate::script::Part::{
-    Body, Control, Ends, Header, Leg, LongLeg, Refused, RefusedAt, Step, Try, Unpin,
-};
-use crate::script::{CALLER, HEADER, MIDDLE, OWNER, Part, Row};
-use gt_calls::{CopyArgs, End, Held, Request, Seen, Spot, Step as CallStep, Verdict};
+use crate::script::Part::{Body, Control, Header, Leg, LongLeg, Refused, RefusedAt, Try, Unpin};
+use crate::script::{CALLER, GRANTED, HEADER, MIDDLE, OWNER, Part, Row, pin, unseen};
+use gt_calls::Request::Copy;
+use gt_calls::{CopyArgs, End, Held, Request, Seen, Spot, Step as CallStep};
 use gt_entry::Entry;
+use gt_rows::{copy, end, page, spot, sub, via};
 use gt_types::{Dir, DomId, Facts, FrameName, GrantRef, Perms, Rule, TypeId};
 
 const SELF: DomId = DomId(0x7FF0);
 
 // The ends of most copies: the owner's entry 0, the middle domain's entries 0 and 1, and frames of the caller's own.
-const OWNER_0: End = End {
-    ptr: 0,
-    domid: OWNER,
-    offset: 0,
-};
+const OWNER_0: End = end!(0, OWNER, 0);
 
-const MIDDLE_0: End = End {
-    ptr: 0,
-    domid: MIDDLE,
-    offset: 0,
-};
+const MIDDLE_0: End = end!(0, MIDDLE, 0);
 
-const MIDDLE_1: End = End { ptr: 1, ..MIDDLE_0 };
+const MIDDLE_1: End = end!(1, MIDDLE, 0);
 
-const FRAME_3: End = End {
-    ptr: 3,
-    domid: SELF,
-    offset: 0,
-};
+const FRAME_3: End = end!(3, SELF, 0);
 
-const FRAME_4: End = End { ptr: 4, ..FRAME_3 };
+const FRAME_4: End = end!(4, SELF, 0);
 
-const FROM_OWNER: CopyArgs = CopyArgs {
-    source: OWNER_0,
-    dest: FRAME_3,
-    len: 4,
-    flags: 1,
-};
+// Copies from entries of the owner and of the middle domain to frame 3 of the caller's own, and from one entry of the
+// middle domain to the next.
+const FROM_OWNER: Request = Copy(copy!(OWNER_0, FRAME_3, 4, 1));
 
-// A copy from an entry of the middle domain to frame 3 of the caller's own.
-const FROM_MIDDLE: Request = Request::Copy(CopyArgs {
-    source: MIDDLE_0,
-    ..FROM_OWNER
-});
+const FROM_MIDDLE: Request = Copy(copy!(MIDDLE_0, FRAME_3, 4, 1));
 
-// A copy from one entry of the middle domain to the next.
-const THROUGH_MIDDLE: Request = Request::Copy(CopyArgs {
-    source: MIDDLE_0,
-    dest: MIDDLE_1,
-    len: 4,
-    flags: 3,
-});
+const THROUGH_MIDDLE: Request = Copy(copy!(MIDDLE_0, MIDDLE_1, 4, 3));
 
-const CALLERS_3: Spot = Spot {
-    frame: FrameName {
-        owner: CALLER,
-        number: 3,
-    },
-    off: 0,
-};
+// Entries of the owner: pages and parts for the caller and for the middle domain.
+const FOR_CALLER: Entry = page!(CALLER, false, 5);
 
-const CALLERS_6: Spot = Spot {
-    frame: FrameName {
-        owner: CALLER,
-        number: 6,
-    },
-    off: 0,
-};
+const READ_ONLY: Entry = page!(CALLER, true, 5);
 
-const CALLERS_4: Spot = Spot {
-    frame: FrameName {
-        owner: CALLER,
-        number: 4,
-    },
-    off: 0,
-};
+const SUB_FOR_CALLER: Entry = sub!(CALLER, 6, 0, 8);
 
-const OWNERS_6: Spot = Spot {
-    frame: FrameName {
-        owner: OWNER,
-        number: 6,
-    },
-    off: 0,
-};
+const SUB_FOR_MIDDLE: Entry = sub!(MIDDLE, 6, 0, 8);
 
-const OWNERS_7: Spot = Spot {
-    frame: FrameName {
-        owner: OWNER,
-        number: 7,
-    },
-    off: 0,
-};
+// Entries of the middle domain for the caller, which lead to entries of the owner's.
+const VIA_4: Entry = via!(CALLER, false, OWNER, GrantRef(4));
 
-// A read pin of the owner's page.
-const PAGE: Held = Held {
-    dom: OWNER,
-    gref: GrantRef(0),
-    dir: Dir::Read,
-    entry: Entry::Page {
-        dom: CALLER,
-        ro: false,
-        frame: 5,
-    },
-    word: 0x1000_3000_0001,
-};
+const VIA_5: Entry = via!(CALLER, false, OWNER, GrantRef(5));
 
-const READ_ONLY_PAGE: Held = Held {
-    entry: Entry::Page {
-        dom: CALLER,
-        ro: true,
-        frame: 5,
-    },
-    word: 0x1000_3000_0005,
-    ..PAGE
-};
+// Read pins of the owner's page: also as a read-only page, with as many read pins as there can be, and as a part.
+const PAGE: Held = pin!(OWNER, 0, Read, FOR_CALLER, 0x1000_3000_0001);
 
-// The same page with as many read pins as there can be.
-const FULL_PAGE: Held = Held {
-    word: 0x1000_3000_fff1,
-    ..PAGE
-};
+const READ_ONLY_PAGE: Held = pin!(OWNER, 0, Read, READ_ONLY, 0x1000_3000_0005);
 
-const SUB_FOR_CALLER: Entry = Entry::Sub {
-    dom: CALLER,
-    ro: false,
-    frame: 6,
-    off: 0,
-    len: 8,
-};
+const FULL_PAGE: Held = pin!(OWNER, 0, Read, FOR_CALLER, 0x1000_3000_fff1);
 
-const SUB_FOR_MIDDLE: Entry = Entry::Sub {
-    dom: MIDDLE,
-    ro: false,
-    frame: 6,
-    off: 0,
-    len: 8,
-};
-
-const SUB_PAGE: Held = Held {
-    entry: SUB_FOR_CALLER,
-    word: 0x1000_3000_0009,
-    ..PAGE
-};
+const SUB_PAGE: Held = pin!(OWNER, 0, Read, SUB_FOR_CALLER, 0x1000_3000_0009);
 
 // The pins of a source through the middle domain: the Via's, and of what it leads to.
-const SOURCE_VIA: Held = Held {
-    dom: MIDDLE,
-    gref: GrantRef(0),
-    dir: Dir::Read,
-    entry: Entry::Via {
-        dom: CALLER,
-        ro: false,
-        dom2: OWNER,
-        gref: GrantRef(4),
-    },
-    word: 0x1000_3000_0003,
-};
+const SOURCE_VIA: Held = pin!(MIDDLE, 0, Read, VIA_4, 0x1000_3000_0003);
 
-const BEHIND_SOURCE: Held = Held {
-    dom: OWNER,
-    gref: GrantRef(4),
-    dir: Dir::Read,
-    entry: Entry::Page {
-        dom: MIDDLE,
-        ro: false,
-        frame: 6,
-    },
-    word: 0x1000_2000_0001,
-};
+const BEHIND_SOURCE: Held = pin!(OWNER, 4, Read, page!(MIDDLE, false, 6), 0x1000_2000_0001);
 
 // Those of a destination.
-const DEST_VIA: Held = Held {
-    dom: MIDDLE,
-    gref: GrantRef(1),
-    dir: Dir::Write,
-    entry: Entry::Via {
-        dom: CALLER,
-        ro: false,
-        dom2: OWNER,
-        gref: GrantRef(5),
-    },
-    word: 0x1000_3000_0003,
-};
+const DEST_VIA: Held = pin!(MIDDLE, 1, Write, VIA_5, 0x1000_3000_0003);
 
-const BEHIND_DEST: Held = Held {
-    dom: OWNER,
-    gref: GrantRef(5),
-    dir: Dir::Write,
-    entry: Entry::Page {
-        dom: MIDDLE,
-        ro: false,
-        frame: 7,
-    },
-    word: 0x1000_2000_0001,
-};
+const BEHIND_DEST: Held = pin!(OWNER, 5, Write, page!(MIDDLE, false, 7), 0x1000_2000_0001);
 
 // In an entry the number of the caller's own domain is no domain, and not the caller.
 const VIA_TO_SELF: Held = Held {
-    entry: Entry::Via {
-        dom: CALLER,
-        ro: false,
-        dom2: SELF,
-        gref: GrantRef(4),
-    },
+    entry: via!(CALLER, false, SELF, GrantRef(4)),
     ..SOURCE_VIA
 };
 
 const VIA_TO_CALLER: Held = Held {
-    entry: Entry::Via {
-        dom: CALLER,
-        ro: false,
-        dom2: CALLER,
-        gref: GrantRef(4),
-    },
+    entry: via!(CALLER, false, CALLER, GrantRef(4)),
     ..SOURCE_VIA
 };
 
-const PAGE_OF_CALLER: Held = Held {
-    dom: CALLER,
-    ..BEHIND_SOURCE
-};
+const PAGE_OF_CALLER: Held = pin!(CALLER, 4, Read, page!(MIDDLE, false, 6), 0x1000_2000_0001);
 
+// Other entries after a Via, and parts of pages in the place of each entry.
 const VIA_BEHIND_SOURCE: Held = Held {
-    entry: Entry::Via {
-        dom: MIDDLE,
-        ro: false,
-        dom2: CALLER,
-        gref: GrantRef(0),
-    },
+    entry: via!(MIDDLE, false, CALLER, GrantRef(0)),
     word: 0x1000_2000_0003,
     ..BEHIND_SOURCE
 };
 
-const PAGE_FOR_CALLER: Held = Held {
-    entry: Entry::Page {
-        dom: CALLER,
-        ro: false,
-        frame: 6,
-    },
-    word: 0x1000_3000_0001,
-    ..BEHIND_SOURCE
-};
+const PAGE_FOR_CALLER: Held = pin!(OWNER, 4, Read, page!(CALLER, false, 6), 0x1000_3000_0001);
 
-const READ_ONLY_BEHIND_DEST: Held = Held {
-    entry: Entry::Page {
-        dom: MIDDLE,
-        ro: true,
-        frame: 7,
-    },
-    word: 0x1000_2000_0005,
-    ..BEHIND_DEST
-};
+const READ_ONLY_BEHIND_DEST: Held = pin!(OWNER, 5, Write, page!(MIDDLE, true, 7), 0x1000_2000_0005);
 
-const SUB_AT_SOURCE: Held = Held {
-    entry: SUB_FOR_CALLER,
-    word: 0x1000_3000_0009,
-    ..SOURCE_VIA
-};
+const SUB_AT_SOURCE: Held = pin!(MIDDLE, 0, Read, SUB_FOR_CALLER, 0x1000_3000_0009);
 
-const SUB_BEHIND_SOURCE: Held = Held {
-    entry: SUB_FOR_MIDDLE,
-    word: 0x1000_2000_0009,
-    ..BEHIND_SOURCE
-};
+const SUB_BEHIND_SOURCE: Held = pin!(OWNER, 4, Read, SUB_FOR_MIDDLE, 0x1000_2000_0009);
 
-const SUB_AT_DEST: Held = Held {
-    entry: SUB_FOR_CALLER,
-    word: 0x1000_3000_0009,
-    ..DEST_VIA
-};
+const SUB_AT_DEST: Held = pin!(MIDDLE, 1, Write, SUB_FOR_CALLER, 0x1000_3000_0009);
 
-const SUB_BEHIND_DEST: Held = Held {
-    entry: SUB_FOR_MIDDLE,
-    word: 0x1000_2000_0009,
-    ..BEHIND_DEST
-};
+const SUB_BEHIND_DEST: Held = pin!(OWNER, 5, Write, SUB_FOR_MIDDLE, 0x1000_2000_0009);
+
+// The places that are copied from and to: in frames of the caller and of the owner.
+const CALLERS_3: Spot = spot!(CALLER, 3, 0);
+
+const CALLERS_4: Spot = spot!(CALLER, 4, 0);
+
+const CALLERS_6: Spot = spot!(CALLER, 6, 0);
+
+const OWNERS_6: Spot = spot!(OWNER, 6, 0);
+
+const OWNERS_7: Spot = spot!(OWNER, 7, 0);
 
 // The access.
-const COPIES_PAGE: Part = Step(
-    CallStep::Copy {
-        from: Spot {
-            frame: FrameName {
-                owner: OWNER,
-                number: 5,
-            },
-            off: 0,
-        },
-        to: CALLERS_3,
-        len: 4,
-    },
-    Seen::Nothing,
-);
-
-const COPIES_OWNERS_6: Part = Step(
-    CallStep::Copy {
-        from: OWNERS_6,
-        to: CALLERS_3,
-        len: 4,
-    },
-    Seen::Nothing,
-);
-
-const GRANTED: Part = Ends(Verdict::Granted);
+macro_rules! access {
+    ($from:expr, $to:expr, $len:expr) => {
+        unseen!(CallStep::Copy {
+            from: $from,
+            to: $to,
+            len: $len,
+        })
+    };
+}
 
 /// The domains that are copied from and to.
 pub const PAIRS: [(DomId, DomId); 7] = [
@@ -320,17 +131,11 @@ pub const COPIES: [Row; 15] = [
     // Entries are copied.
     (
         CALLER,
-        Request::Copy(CopyArgs {
-            dest: End {
-                domid: CALLER,
-                ..FRAME_3
-            },
-            ..FROM_OWNER
-        }),
+        Copy(copy!(OWNER_0, end!(3, CALLER, 0), 4, 1)),
         7,
         &[
             Leg(READ_ONLY_PAGE),
-            COPIES_PAGE,
+            access!(spot!(OWNER, 5, 0), CALLERS_3, 4),
             Unpin(&[READ_ONLY_PAGE]),
             GRANTED,
         ],
@@ -338,56 +143,18 @@ pub const COPIES: [Row; 15] = [
     // Own frames need no leg.
     (
         CALLER,
-        Request::Copy(CopyArgs {
-            source: End {
-                domid: CALLER,
-                ..FRAME_3
-            },
-            dest: FRAME_4,
-            len: 4,
-            flags: 0,
-        }),
+        Copy(copy!(end!(3, CALLER, 0), FRAME_4, 4, 0)),
         2,
-        &[
-            Step(
-                CallStep::Copy {
-                    from: CALLERS_3,
-                    to: CALLERS_4,
-                    len: 4,
-                },
-                Seen::Nothing,
-            ),
-            GRANTED,
-        ],
+        &[access!(CALLERS_3, CALLERS_4, 4), GRANTED],
     ),
     // No bytes are copied at the end of a frame.
     (
         CALLER,
-        Request::Copy(CopyArgs {
-            source: End {
-                offset: 4_096,
-                ..OWNER_0
-            },
-            len: 0,
-            ..FROM_OWNER
-        }),
+        Copy(copy!(end!(0, OWNER, 4_096), FRAME_3, 0, 1)),
         7,
         &[
             Leg(PAGE),
-            Step(
-                CallStep::Copy {
-                    from: Spot {
-                        frame: FrameName {
-                            owner: OWNER,
-                            number: 5,
-                        },
-                        off: 4_096,
-                    },
-                    to: CALLERS_3,
-                    len: 0,
-                },
-                Seen::Nothing,
-            ),
+            access!(spot!(OWNER, 5, 4_096), CALLERS_3, 0),
             Unpin(&[PAGE]),
             GRANTED,
         ],
@@ -395,42 +162,21 @@ pub const COPIES: [Row; 15] = [
     // A range past a frame is refused.
     (
         CALLER,
-        Request::Copy(CopyArgs {
-            source: End {
-                offset: 1,
-                ..OWNER_0
-            },
-            len: 4_096,
-            ..FROM_OWNER
-        }),
+        Copy(copy!(end!(0, OWNER, 1), FRAME_3, 4_096, 1)),
         1,
         &[Refused(Rule::N3, Facts::None)],
     ),
     // A frame of another domain is refused.
     (
         CALLER,
-        Request::Copy(CopyArgs {
-            source: FRAME_3,
-            dest: End {
-                domid: OWNER,
-                ..FRAME_4
-            },
-            len: 4,
-            flags: 0,
-        }),
+        Copy(copy!(FRAME_3, end!(4, OWNER, 0), 4, 0)),
         1,
         &[Refused(Rule::N4, Facts::None)],
     ),
     // A large number is no reference.
     (
         CALLER,
-        Request::Copy(CopyArgs {
-            source: End {
-                ptr: 4_294_967_296,
-                ..OWNER_0
-            },
-            ..FROM_OWNER
-        }),
+        Copy(copy!(end!(4_294_967_296, OWNER, 0), FRAME_3, 4, 1)),
         2,
         &[
             Header(OWNER),
@@ -446,13 +192,13 @@ pub const COPIES: [Row; 15] = [
     // The page that was looked at first is a sub-page at the next try.
     (
         CALLER,
-        Request::Copy(FROM_OWNER),
+        FROM_OWNER,
         11,
         &[
             Header(OWNER),
             Try(PAGE, Seen::Missed(0x1000_3000_0009)),
             Try(SUB_PAGE, Seen::Taken),
-            COPIES_OWNERS_6,
+            access!(OWNERS_6, CALLERS_3, 4),
             Unpin(&[SUB_PAGE]),
             GRANTED,
         ],
@@ -460,7 +206,7 @@ pub const COPIES: [Row; 15] = [
     // A word with all pins is looked at twice: the first time it is another then, the second time not.
     (
         CALLER,
-        Request::Copy(FROM_OWNER),
+        FROM_OWNER,
         8,
         &[
             Header(OWNER),
@@ -492,14 +238,7 @@ pub const COPIES: [Row; 15] = [
         &[
             Leg(VIA_TO_CALLER),
             Leg(PAGE_OF_CALLER),
-            Step(
-                CallStep::Copy {
-                    from: CALLERS_6,
-                    to: CALLERS_3,
-                    len: 4,
-                },
-                Seen::Nothing,
-            ),
+            access!(CALLERS_6, CALLERS_3, 4),
             Unpin(&[PAGE_OF_CALLER, VIA_TO_CALLER]),
             GRANTED,
         ],
@@ -540,14 +279,7 @@ pub const COPIES: [Row; 15] = [
             Leg(BEHIND_SOURCE),
             Leg(DEST_VIA),
             Leg(BEHIND_DEST),
-            Step(
-                CallStep::Copy {
-                    from: OWNERS_6,
-                    to: OWNERS_7,
-                    len: 4,
-                },
-                Seen::Nothing,
-            ),
+            access!(OWNERS_6, OWNERS_7, 4),
             Unpin(&[BEHIND_DEST, DEST_VIA, BEHIND_SOURCE, SOURCE_VIA]),
             GRANTED,
         ],
@@ -577,14 +309,7 @@ pub const COPIES: [Row; 15] = [
             LongLeg(SUB_BEHIND_SOURCE, SUB_BEHIND_SOURCE),
             LongLeg(SUB_AT_DEST, DEST_VIA),
             LongLeg(SUB_BEHIND_DEST, SUB_BEHIND_DEST),
-            Step(
-                CallStep::Copy {
-                    from: OWNERS_6,
-                    to: OWNERS_6,
-                    len: 4,
-                },
-                Seen::Nothing,
-            ),
+            access!(OWNERS_6, OWNERS_6, 4),
             Unpin(&[SUB_BEHIND_DEST, DEST_VIA, SUB_BEHIND_SOURCE, SOURCE_VIA]),
             GRANTED,
         ],
@@ -594,12 +319,7 @@ pub const COPIES: [Row; 15] = [
 /// If the caller may copy only to the middle domain: a Via asks for the owners of both frames.
 pub const TO_MIDDLE: [Row; 1] = [(
     CALLER,
-    Request::Copy(CopyArgs {
-        source: FRAME_3,
-        dest: MIDDLE_1,
-        len: 4,
-        flags: 2,
-    }),
+    Copy(copy!(FRAME_3, MIDDLE_1, 4, 2)),
     6,
     &[
         Leg(DEST_VIA),

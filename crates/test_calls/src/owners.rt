@@ -1,31 +1,24 @@
 //! Maps, owners' calls and calls by a handle: what is asked, and the parts of each call.
 use crate::script::Part::{self, Ends, Header, Leg, Refused, RefusedAt, Step, Try};
-use crate::script::{CALLER, OWNER, Row};
+use crate::script::{CALLER, GRANTED, OWNER, Row, pin, unseen};
 use gt_calls::{Change, Half, Handle, Held, Holder, Request, Seen, Step as CallStep, Verdict};
 use gt_entry::Entry;
+use gt_rows::page;
 use gt_types::{Dir, Facts, GrantRef, Rule};
 
 /// The entry of the owner's page.
-pub const PAGE: Entry = Entry::Page {
-    dom: CALLER,
-    ro: false,
-    frame: 5,
-};
+pub const PAGE: Entry = page!(CALLER, false, 5);
+
+// Its words without a pin, and with one read pin.
+const IDLE: u64 = 0x1000_3000_0001;
+
+const PINNED: u64 = 0x1000_3000_0011;
 
 /// The pin of a map of it.
-pub const MAPPING: Held = Held {
-    dom: OWNER,
-    gref: GrantRef(0),
-    dir: Dir::Write,
-    entry: PAGE,
-    word: 0x1000_3000_0001,
-};
+pub const MAPPING: Held = pin!(OWNER, 0, Write, PAGE, IDLE);
 
-// The same pin if the entry has one read pin more.
-const BUSY: Held = Held {
-    word: 0x1000_3000_0011,
-    ..MAPPING
-};
+// A map looked at the page, and misses it.
+const MISSES_MAPPING: Part = Try(MAPPING, Seen::Missed(PINNED));
 
 const MAP: Request = Request::Map {
     dom: OWNER,
@@ -47,14 +40,45 @@ pub const MAPS: [Row; 2] = [
         14,
         &[
             Header(OWNER),
-            Try(MAPPING, Seen::Missed(0x1000_3000_0011)),
-            Try(MAPPING, Seen::Missed(0x1000_3000_0011)),
-            Try(MAPPING, Seen::Missed(0x1000_3000_0011)),
-            Try(MAPPING, Seen::Missed(0x1000_3000_0011)),
-            RefusedAt(Rule::N18, BUSY),
+            MISSES_MAPPING,
+            MISSES_MAPPING,
+            MISSES_MAPPING,
+            MISSES_MAPPING,
+            RefusedAt(Rule::N18, pin!(OWNER, 0, Write, PAGE, PINNED)),
         ],
     ),
 ];
+
+// The owner's calls.
+const GRANT: Request = Request::Grant {
+    gref: GrantRef(0),
+    entry: PAGE,
+};
+
+const WITHDRAW: Request = Request::Withdraw { gref: GrantRef(1) };
+
+const REVOKE: Request = Request::Revoke { gref: GrantRef(1) };
+
+// An exchange by the owner: reference, the word that was looked at, the change, and what it sees.
+macro_rules! exchange {
+    ($gref:expr, $looked:expr, $change:expr, $seen:expr) => {
+        Step(
+            CallStep::Exchange {
+                gref: GrantRef($gref),
+                looked: $looked,
+                change: $change,
+            },
+            $seen,
+        )
+    };
+}
+
+// A grant stores the body of the page.
+const STORES_BODY: Part = unseen!(CallStep::StoreBody {
+    gref: GrantRef(0),
+    half: Half::First,
+    word: 5,
+});
 
 // A withdrawal looks at an entry with a read pin, and misses it.
 const WITHDRAWAL_LOOKS: Part = Step(
@@ -62,75 +86,38 @@ const WITHDRAWAL_LOOKS: Part = Step(
         dom: OWNER,
         gref: GrantRef(1),
     },
-    Seen::Word(0x1000_3000_0011),
+    Seen::Word(PINNED),
 );
 
-const WITHDRAWAL_MISSES: Part = Step(
-    CallStep::Exchange {
-        gref: GrantRef(1),
-        looked: 0x1000_3000_0011,
-        change: Change::Withdraw,
-    },
-    Seen::Missed(0x1000_3000_0001),
-);
+const WITHDRAWAL_MISSES: Part = exchange!(1, PINNED, Change::Withdraw, Seen::Missed(IDLE));
 
 /// An owner that grants or revokes looks at nothing: its entry 0 was never granted, and its entry 1 is of the page.
 pub const OWNERS: [Row; 5] = [
     (
         OWNER,
-        Request::Grant {
-            gref: GrantRef(0),
-            entry: PAGE,
-        },
+        GRANT,
         3,
         &[
-            Step(
-                CallStep::StoreBody {
-                    gref: GrantRef(0),
-                    half: Half::First,
-                    word: 5,
-                },
-                Seen::Nothing,
-            ),
-            Step(
-                CallStep::Exchange {
-                    gref: GrantRef(0),
-                    looked: 0,
-                    change: Change::Publish(PAGE),
-                },
-                Seen::Missed(0x10),
-            ),
-            RefusedAt(
-                Rule::N19,
-                Held {
-                    word: 0x10,
-                    ..MAPPING
-                },
-            ),
+            STORES_BODY,
+            exchange!(0, 0, Change::Publish(PAGE), Seen::Missed(0x10)),
+            RefusedAt(Rule::N19, pin!(OWNER, 0, Write, PAGE, 0x10)),
         ],
     ),
     (
         OWNER,
-        Request::Withdraw { gref: GrantRef(1) },
+        WITHDRAW,
         5,
         &[
             WITHDRAWAL_LOOKS,
             WITHDRAWAL_MISSES,
             WITHDRAWAL_LOOKS,
-            Step(
-                CallStep::Exchange {
-                    gref: GrantRef(1),
-                    looked: 0x1000_3000_0011,
-                    change: Change::Withdraw,
-                },
-                Seen::Taken,
-            ),
-            Ends(Verdict::Granted),
+            exchange!(1, PINNED, Change::Withdraw, Seen::Taken),
+            GRANTED,
         ],
     ),
     (
         OWNER,
-        Request::Withdraw { gref: GrantRef(1) },
+        WITHDRAW,
         9,
         &[
             WITHDRAWAL_LOOKS,
@@ -141,62 +128,26 @@ pub const OWNERS: [Row; 5] = [
             WITHDRAWAL_MISSES,
             WITHDRAWAL_LOOKS,
             WITHDRAWAL_MISSES,
-            RefusedAt(
-                Rule::N18,
-                Held {
-                    gref: GrantRef(1),
-                    ..MAPPING
-                },
-            ),
+            RefusedAt(Rule::N18, pin!(OWNER, 1, Write, PAGE, IDLE)),
         ],
     ),
     (
         OWNER,
-        Request::Grant {
-            gref: GrantRef(0),
-            entry: PAGE,
-        },
+        GRANT,
         3,
         &[
-            Step(
-                CallStep::StoreBody {
-                    gref: GrantRef(0),
-                    half: Half::First,
-                    word: 5,
-                },
-                Seen::Nothing,
-            ),
-            Step(
-                CallStep::Exchange {
-                    gref: GrantRef(0),
-                    looked: 0,
-                    change: Change::Publish(PAGE),
-                },
-                Seen::Taken,
-            ),
-            Ends(Verdict::Granted),
+            STORES_BODY,
+            exchange!(0, 0, Change::Publish(PAGE), Seen::Taken),
+            GRANTED,
         ],
     ),
     (
         OWNER,
-        Request::Revoke { gref: GrantRef(1) },
+        REVOKE,
         2,
         &[
-            Step(
-                CallStep::Exchange {
-                    gref: GrantRef(1),
-                    looked: 0x1000_3000_0001,
-                    change: Change::Revoke,
-                },
-                Seen::Missed(0x1000_3000_0011),
-            ),
-            RefusedAt(
-                Rule::N19,
-                Held {
-                    gref: GrantRef(1),
-                    ..BUSY
-                },
-            ),
+            exchange!(1, IDLE, Change::Revoke, Seen::Missed(PINNED)),
+            RefusedAt(Rule::N19, pin!(OWNER, 1, Write, PAGE, PINNED)),
         ],
     ),
 ];
@@ -217,16 +168,13 @@ pub const BY_HANDLE: [Row; 3] = [
         },
         2,
         &[
-            Step(
-                CallStep::Read {
-                    dom: OWNER,
-                    frame: 5,
-                    off: 9,
-                    len: 2,
-                },
-                Seen::Nothing,
-            ),
-            Ends(Verdict::Granted),
+            unseen!(CallStep::Read {
+                dom: OWNER,
+                frame: 5,
+                off: 9,
+                len: 2,
+            }),
+            GRANTED,
         ],
     ),
     (
@@ -234,14 +182,11 @@ pub const BY_HANDLE: [Row; 3] = [
         Request::Unmap { handle: HANDLE },
         2,
         &[
-            Step(
-                CallStep::Unpin {
-                    held: MAPPING,
-                    holder: Holder::Mapping(HANDLE),
-                },
-                Seen::Nothing,
-            ),
-            Ends(Verdict::Granted),
+            unseen!(CallStep::Unpin {
+                held: MAPPING,
+                holder: Holder::Mapping(HANDLE),
+            }),
+            GRANTED,
         ],
     ),
     (

@@ -47,6 +47,32 @@ pub enum Part {
     RefusedAt(Rule, Held),
 }
 
+/// The call ends, and does what was asked.
+pub const GRANTED: Part = Part::Ends(Verdict::Granted);
+
+// A step that sees nothing.
+macro_rules! unseen {
+    ($step:expr) => {
+        Part::Step($step, Seen::Nothing)
+    };
+}
+
+// A pin: domain, reference, direction, entry, and the word that it is taken from.
+macro_rules! pin {
+    ($dom:expr, $gref:expr, $dir:ident, $entry:expr, $word:expr) => {
+        Held {
+            dom: $dom,
+            gref: GrantRef($gref),
+            dir: Dir::$dir,
+            entry: $entry,
+            word: $word,
+        }
+    };
+}
+
+pub(crate) use pin;
+pub(crate) use unseen;
+
 /// A driver's part of a call: what each step sees, and the action that the call then gives.
 #[derive(Drop)]
 pub struct Script {

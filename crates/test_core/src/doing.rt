@@ -22,6 +22,73 @@ pub const WRITABLE: u32 = 2;
 
 pub const READ_ONLY: u32 = 6;
 
+// Requests in one line each: their fields in order. What is mapped is the owner's.
+macro_rules! grant {
+    ($gref:expr, $entry:expr) => {
+        Request::Grant {
+            gref: GrantRef($gref),
+            entry: $entry,
+        }
+    };
+}
+
+macro_rules! map {
+    ($gref:expr, $flags:expr) => {
+        Request::Map {
+            dom: OWNER,
+            gref: GrantRef($gref),
+            flags: $flags,
+        }
+    };
+}
+
+macro_rules! load {
+    ($handle:expr, $off:expr, $len:expr) => {
+        Request::Load {
+            handle: $handle,
+            off: $off,
+            len: $len,
+        }
+    };
+}
+
+macro_rules! store {
+    ($handle:expr, $off:expr, $bytes:expr) => {
+        Request::Store {
+            handle: $handle,
+            off: $off,
+            bytes: $bytes,
+        }
+    };
+}
+
+macro_rules! peek {
+    ($frame:expr, $off:expr, $len:expr) => {
+        Request::Peek {
+            frame: $frame,
+            off: $off,
+            len: $len,
+        }
+    };
+}
+
+macro_rules! poke {
+    ($frame:expr, $off:expr, $bytes:expr) => {
+        Request::Poke {
+            frame: $frame,
+            off: $off,
+            bytes: $bytes,
+        }
+    };
+}
+
+pub(crate) use grant;
+pub(crate) use load;
+pub(crate) use map;
+pub(crate) use peek;
+pub(crate) use poke;
+pub(crate) use store;
+
 // No call takes more steps.
 const MOST_STEPS: u32 = 71;
 
@@ -100,8 +167,6 @@ pub enum Doing<'a> {
     Do(DomId, Request<'a>),
     /// A whole call: its steps with what each saw, and its answer.
     Steps(DomId, Request<'a>),
-    /// A whole call: its steps as letters with what each saw, and its answer.
-    Path(DomId, Request<'a>),
     /// Only the beginning of a call.
     Begin(DomId, Request<'a>),
     /// So many ticks of the domain, or fewer if its call ends: the answer, if it ended.
@@ -109,6 +174,9 @@ pub enum Doing<'a> {
     /// A look at an owner's entry from outside.
     Show(u32),
 }
+
+/// What is done, and what must come of it.
+pub type Row = (Doing<'static>, &'static str);
 
 fn word_said(alloc: Global, word: u64) -> Result<String, AllocError> {
     format!(in alloc; " {word:x}")
@@ -195,48 +263,29 @@ fn call_said(
     Ok(text)
 }
 
-// The steps of the open call, a line each, and its answer.
-fn steps_said(
-    alloc: Global,
-    core: &mut Core<Triples>,
-    dom: DomId,
-    as_letters: bool,
-) -> Result<String, Fail> {
+// The steps of the open call with what each saw, and its answer.
+fn steps_said(alloc: Global, core: &mut Core<Triples>, dom: DomId) -> Result<String, Fail> {
     let mut out = String::new(alloc);
     for _ in 0..MOST_STEPS {
-        match core.tick(dom)? {
-            Ticked::Step(step, seen) => {
-                out.push_str(step_said(alloc, step, seen, as_letters)?.as_str())?;
-            }
-            Ticked::Done(step, seen, answer) => {
-                out.push_str(step_said(alloc, step, seen, as_letters)?.as_str())?;
-                out.push_str(answer_said(alloc, &answer)?.as_str())?;
-                return Ok(out);
-            }
+        let (step, seen, answer) = match core.tick(dom)? {
+            Ticked::Step(step, seen) => (step, seen, None),
+            Ticked::Done(step, seen, answer) => (step, seen, Some(answer)),
             _ => return Ok(out),
+        };
+        out.push_str(step_said(alloc, step)?.as_str())?;
+        out.push_str(seen_said(alloc, seen)?.as_str())?;
+        out.push_str("; ")?;
+        if let Some(answer) = answer {
+            out.push_str(answer_said(alloc, &answer)?.as_str())?;
+            return Ok(out);
         }
     }
     Ok(out)
 }
 
-fn step_said(
-    alloc: Global,
-    step: Step,
-    seen: Seen,
-    as_letters: bool,
-) -> Result<String, AllocError> {
-    let seen = seen_said(alloc, seen)?;
-    if as_letters {
-        let letter = letter_said(alloc, step)?;
-        format!(in alloc; "{letter}{seen}\n")
-    } else {
-        format!(in alloc; "{step:?}{seen}\n")
-    }
-}
-
-// A step of a copy by its letter, with the numbers of its domain and entry or frame. A look at a header is H, at a
-// control word C, at a body word B; a pin is P, an unpin U, and the access A.
-fn letter_said(alloc: Global, step: Step) -> Result<String, AllocError> {
+// A step, most of them by a letter, with the numbers of its domain and entry or frame. A look at a header is H, at a
+// control word C, at a body word B; a pin is P, an unpin U, the access of a copy A, and a store of a header S.
+fn step_said(alloc: Global, step: Step) -> Result<String, AllocError> {
     match step {
         Step::LookHeader { dom } => format!(in alloc; "H {}", dom.0),
         Step::LookControl { dom, gref } => format!(in alloc; "C {} {}", dom.0, gref.0),
@@ -254,6 +303,7 @@ fn letter_said(alloc: Global, step: Step) -> Result<String, AllocError> {
             let to = place_said(alloc, to)?;
             format!(in alloc; "A {from} to {to} len {len}")
         }
+        Step::StoreHeader { version, frames } => format!(in alloc; "S {version} {frames}"),
         _ => format!(in alloc; "{step:?}"),
     }
 }
@@ -273,11 +323,7 @@ pub fn said(alloc: Global, core: &mut Core<Triples>, doing: Doing<'_>) -> Result
             call_said(alloc, core, dom, begun, MOST_STEPS)
         }
         Doing::Steps(dom, request) => match core.begin(dom, request)? {
-            Begun::Open => steps_said(alloc, core, dom, false),
-            begun => call_said(alloc, core, dom, begun, 0),
-        },
-        Doing::Path(dom, request) => match core.begin(dom, request)? {
-            Begun::Open => steps_said(alloc, core, dom, true),
+            Begun::Open => steps_said(alloc, core, dom),
             begun => call_said(alloc, core, dom, begun, 0),
         },
         Doing::Begin(dom, request) => {
@@ -318,6 +364,14 @@ pub fn trace_said(alloc: Global, trace: &[Element]) -> Result<String, AllocError
     Ok(out)
 }
 
+/// So many ticks of the domain.
+pub fn add_ticks(events: &mut Vec<Event<'_>>, dom: DomId, ticks: u32) -> Result<(), Memory> {
+    for _ in 0..ticks {
+        events.push(Event::Tick(dom))?;
+    }
+    Ok(())
+}
+
 /// The events of a call: its beginning, and so many ticks.
 pub fn add_call<'a>(
     events: &mut Vec<Event<'a>>,
@@ -326,8 +380,5 @@ pub fn add_call<'a>(
     ticks: u32,
 ) -> Result<(), Memory> {
     events.push(Event::Begin(dom, request))?;
-    for _ in 0..ticks {
-        events.push(Event::Tick(dom))?;
-    }
-    Ok(())
+    add_ticks(events, dom, ticks)
 }

@@ -5,10 +5,6 @@
 #![tactic(auto)]
 
 #[cfg(test)]
-mod accesses;
-#[cfg(test)]
-mod copies;
-#[cfg(test)]
 mod doing;
 #[cfg(test)]
 mod memory;
@@ -16,7 +12,3 @@ mod memory;
 mod pins;
 #[cfg(test)]
 mod runs;
-#[cfg(test)]
-mod tables;
-#[cfg(test)]
-mod via;

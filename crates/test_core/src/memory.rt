@@ -1,10 +1,11 @@
 //! Runs in which a request for memory is refused. With tools/refused.sh, which refuses each in turn: what is asked
 //! again is answered as it is without a refusal, a tick as well as a beginning.
-use crate::doing::{OWNER, PEER, rights, start, three_domains};
+use crate::doing::{OWNER, PEER, load, peek, poke, rights, start, store, three_domains};
 use crate::runs::{FIRST_HANDLE, GRANT, MAP_RO, MAP_RW, REVOKE};
 use gt_core::{
     Answer, Begun, CopyArgs, Core, Element, End, Event, Handle, Item, Request, Ticked, play,
 };
+use gt_rows::{copy, end};
 use gt_types::{DomId, GrantRef, Memory, Rule, StartFault, Triples};
 use std::alloc::Global;
 use std::process::Abort;
@@ -156,11 +157,7 @@ const MAPPED: [(DomId, Request, Told); 2] = [
 
 const LAST_LOAD: [(DomId, Request, Told); 1] = [(
     PEER,
-    Request::Load {
-        handle: FIRST_HANDLE,
-        off: 0,
-        len: 9,
-    },
+    load!(FIRST_HANDLE, 0, 9),
     Told::Bytes(&[8, 1, 2, 3, 4, 5, 6, 7, 8]),
 )];
 
@@ -170,11 +167,7 @@ fn accesses_with_memory_refused(rt: HostRuntime) -> Result<(), Fail> {
     goes(&rt, &mut core, &MAPPED)?;
     for byte in 1..9u8 {
         let bytes = [byte];
-        let store = Request::Store {
-            handle: FIRST_HANDLE,
-            off: u16::from(byte),
-            bytes: &bytes,
-        };
+        let store = store!(FIRST_HANDLE, u16::from(byte), &bytes);
         let calls = [
             (PEER, store, Told::Done),
             (OWNER, poke(&bytes), Told::Done),
@@ -185,45 +178,20 @@ fn accesses_with_memory_refused(rt: HostRuntime) -> Result<(), Fail> {
     goes(&rt, &mut core, &LAST_LOAD)
 }
 
-const PEEK: Request = Request::Peek {
-    frame: 5,
-    off: 0,
-    len: 1,
-};
+const PEEK: Request = peek!(5, 0, 1);
 
 fn poke(bytes: &[u8]) -> Request<'_> {
-    Request::Poke {
-        frame: 5,
-        off: 0,
-        bytes,
-    }
+    poke!(5, 0, bytes)
 }
 
 // A copy of one byte of the owner's page to this offset of a frame of the peer's own.
 fn copy(offset: u16) -> Request<'static> {
-    Request::Copy(CopyArgs {
-        source: End {
-            ptr: 0,
-            domid: OWNER,
-            offset: 0,
-        },
-        dest: End {
-            ptr: 3,
-            domid: PEER,
-            offset,
-        },
-        len: 1,
-        flags: 1,
-    })
+    Request::Copy(copy!(end!(0, OWNER, 0), end!(3, PEER, offset), 1, 1))
 }
 
 const LAST_PEEK: [(DomId, Request, Told); 1] = [(
     PEER,
-    Request::Peek {
-        frame: 3,
-        off: 0,
-        len: 10,
-    },
+    peek!(3, 0, 10),
     Told::Bytes(&[0, 1, 2, 3, 4, 5, 6, 7, 8, 0]),
 )];
 

@@ -1,14 +1,14 @@
 //! As many pins on one entry as it can have, and the trace of a try that is missed.
-use crate::doing::Doing::{self, Do, Show};
-use crate::doing::{OWNER, PEER, add_call, rights, start, three_domains, trace_said};
-use crate::runs::{DEMOTE, GRANT, GRANT_ANOTHER, MAP_RO, MAP_RW, REVOKE, goes};
+use crate::doing::Doing::{Do, Show};
+use crate::doing::{
+    OWNER, PEER, Row, add_call, add_ticks, rights, start, three_domains, trace_said,
+};
+use crate::runs::{DEMOTE, GRANT, GRANT_ANOTHER, GRANTED, MAP_RO, MAP_RW, REVOKE, goes};
 use gt_core::{Event, play};
 use std::alloc::Global;
 use std::test::Fail;
 
-const GRANTED: [(Doing, &str); 1] = [(Do(OWNER, GRANT), "ok")];
-
-const BEHIND_ALL_READ_PINS: [(Doing, &str); 5] = [
+const BEHIND_ALL_READ_PINS: [Row; 5] = [
     (Do(PEER, MAP_RO), "N17 10002000fff1"),
     (
         Show(0),
@@ -70,25 +70,6 @@ fn trace_of_all_read_pins_and_one_write_pin(rt: HostRuntime) -> Result<(), Fail>
 }
 
 // Another page is granted between the look and the pin of a map.
-const MISSED_TRY: [Event; 16] = [
-    Event::Begin(OWNER, GRANT),
-    Event::Tick(OWNER),
-    Event::Tick(OWNER),
-    Event::Begin(PEER, MAP_RO),
-    Event::Tick(PEER),
-    Event::Tick(PEER),
-    Event::Tick(PEER),
-    Event::Begin(OWNER, REVOKE),
-    Event::Tick(OWNER),
-    Event::Begin(OWNER, GRANT_ANOTHER),
-    Event::Tick(OWNER),
-    Event::Tick(OWNER),
-    Event::Tick(PEER),
-    Event::Tick(PEER),
-    Event::Tick(PEER),
-    Event::Tick(PEER),
-];
-
 const MISSED: &str = "1 begins\n1 -\n1 taken ok\n\
 2 begins\n2 5\n2 100020000001\n2 5\n\
 1 begins\n1 taken ok\n\
@@ -97,7 +78,14 @@ const MISSED: &str = "1 begins\n1 -\n1 taken ok\n\
 
 #[test]
 fn trace_of_a_missed_try(rt: HostRuntime) -> Result<(), Fail> {
-    let text = played(rt.alloc(), &MISSED_TRY)?;
+    let alloc = rt.alloc();
+    let mut events = Vec::new(alloc);
+    add_call(&mut events, OWNER, GRANT, 2)?;
+    add_call(&mut events, PEER, MAP_RO, 3)?;
+    add_call(&mut events, OWNER, REVOKE, 1)?;
+    add_call(&mut events, OWNER, GRANT_ANOTHER, 2)?;
+    add_ticks(&mut events, PEER, 4)?;
+    let text = played(alloc, events.as_slice())?;
     assert_eq!(rt; text.as_str(), MISSED);
     Ok(())
 }

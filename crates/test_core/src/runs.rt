@@ -1,46 +1,39 @@
 //! Whole runs: what is done, and what must come of each.
-use crate::accesses::{
+mod accesses;
+mod copies;
+mod tables;
+mod via;
+
+use self::accesses::{
     ORDER_OF_ACCESSES, SHARED_PAGE, STORE_BY_A_TAKEN_HANDLE, STORE_WITH_ITS_STEP,
 };
-use crate::copies::COPIES;
-use crate::doing::Doing::{self, Begin, Do, Show, Steps, Tick};
-use crate::doing::{OTHER, OWNER, PEER, READ_ONLY, WRITABLE, said, start};
-use crate::tables::{
+use self::copies::COPIES;
+use self::tables::{
     NOT_MAPPED, SIZES, STEPS_OF_GRANTS, STEPS_ON_HEADERS, SUB_PAGE_BEHIND_AN_OLDER_HEADER,
     VERSION_IN_A_MAP,
 };
+use crate::doing::Doing::{self, Begin, Do, Show, Tick};
+use crate::doing::{OTHER, OWNER, PEER, READ_ONLY, Row, WRITABLE, grant, load, map, said, start};
 use gt_core::{Core, Handle, Request};
 use gt_entry::Entry;
+use gt_rows::page;
 use gt_types::{DomId, GrantRef, Triples};
 use std::alloc::Global;
 use std::process::Abort;
 use std::test::Fail;
 
-/// The version of the tables, the pairs of domains that may be copied from and to, and what is done.
+/// The version of the tables, the pairs of domains that may be copied from and to, what is done first, and what then.
 pub type Run = (
     u32,
     &'static [(DomId, DomId)],
-    &'static [(Doing<'static>, &'static str)],
+    &'static [Row],
+    &'static [Row],
 );
 
 // The calls on the owner's entry 0, if nothing else is said; the page is of frame 5 and for the peer.
-pub const GRANT: Request = Request::Grant {
-    gref: GrantRef(0),
-    entry: Entry::Page {
-        dom: PEER,
-        ro: false,
-        frame: 5,
-    },
-};
+pub const GRANT: Request = grant!(0, page!(PEER, false, 5));
 
-pub const GRANT_RO: Request = Request::Grant {
-    gref: GrantRef(0),
-    entry: Entry::Page {
-        dom: PEER,
-        ro: true,
-        frame: 5,
-    },
-};
+pub const GRANT_RO: Request = grant!(0, page!(PEER, true, 5));
 
 pub const REVOKE: Request = Request::Revoke { gref: GrantRef(0) };
 
@@ -48,17 +41,9 @@ pub const DEMOTE: Request = Request::Demote { gref: GrantRef(0) };
 
 pub const PROMOTE: Request = Request::Promote { gref: GrantRef(0) };
 
-pub const MAP_RO: Request = Request::Map {
-    dom: OWNER,
-    gref: GrantRef(0),
-    flags: READ_ONLY,
-};
+pub const MAP_RO: Request = map!(0, READ_ONLY);
 
-pub const MAP_RW: Request = Request::Map {
-    dom: OWNER,
-    gref: GrantRef(0),
-    flags: WRITABLE,
-};
+pub const MAP_RW: Request = map!(0, WRITABLE);
 
 // The first mapping of a domain has the first handle. A key serves again once its mapping was given up.
 pub const FIRST_HANDLE: Handle = Handle { serial: 0, key: 0 };
@@ -75,20 +60,37 @@ pub const UNMAP: Request = Request::Unmap {
     handle: FIRST_HANDLE,
 };
 
-// Another page in its place.
-pub const GRANT_ANOTHER: Request = Request::Grant {
-    gref: GrantRef(0),
-    entry: Entry::Page {
-        dom: PEER,
-        ro: false,
-        frame: 6,
-    },
+const UNMAP_SECOND: Request = Request::Unmap {
+    handle: SECOND_HANDLE,
 };
 
-// A revocation between the beginning and the unpin of an unmap.
-const REVOKE_BEFORE_THE_UNPIN: [(Doing, &str); 6] = [
+// Another page in its place.
+pub const GRANT_ANOTHER: Request = grant!(0, page!(PEER, false, 6));
+
+// What most runs begin with: a grant, or a grant and a map of it.
+pub const GRANTED: [Row; 1] = [(Do(OWNER, GRANT), "ok")];
+
+pub const GRANTED_RO: [Row; 1] = [(Do(OWNER, GRANT_RO), "ok")];
+
+const MAPPED_RO: [Row; 2] = [(Do(OWNER, GRANT), "ok"), (Do(PEER, MAP_RO), "ok 0.0")];
+
+const MAPPED_RW: [Row; 2] = [(Do(OWNER, GRANT), "ok"), (Do(PEER, MAP_RW), "ok 0.0")];
+
+// Three tries of a map are missed, for a demotion or a promotion since the look of each.
+const THREE_MISSED_TRIES: [Row; 9] = [
     (Do(OWNER, GRANT), "ok"),
-    (Do(PEER, MAP_RW), "ok 0.0"),
+    (Begin(PEER, MAP_RO), "open"),
+    (Tick(PEER, 2), "open"),
+    (Do(OWNER, DEMOTE), "ok"),
+    (Tick(PEER, 3), "open"),
+    (Do(OWNER, PROMOTE), "ok"),
+    (Tick(PEER, 3), "open"),
+    (Do(OWNER, DEMOTE), "ok"),
+    (Tick(PEER, 3), "open"),
+];
+
+// A revocation between the beginning and the unpin of an unmap.
+const REVOKE_BEFORE_THE_UNPIN: [Row; 4] = [
     (Begin(PEER, UNMAP), "open"),
     (Do(OWNER, REVOKE), "N19 100020010001"),
     (Tick(PEER, 1), "ok"),
@@ -96,8 +98,7 @@ const REVOKE_BEFORE_THE_UNPIN: [(Doing, &str); 6] = [
 ];
 
 // Another page is granted between the look and the pin of a map.
-const ANOTHER_GRANT_BEFORE_THE_PIN: [(Doing, &str); 8] = [
-    (Do(OWNER, GRANT), "ok"),
+const ANOTHER_GRANT_BEFORE_THE_PIN: [Row; 7] = [
     (Begin(PEER, MAP_RO), "open"),
     (Tick(PEER, 3), "open"),
     (Do(OWNER, REVOKE), "ok"),
@@ -111,7 +112,7 @@ const ANOTHER_GRANT_BEFORE_THE_PIN: [(Doing, &str); 8] = [
 ];
 
 // A map before the grant of a read-only page, and one after it.
-const READ_ONLY_PAGE: [(Doing, &str); 4] = [
+const READ_ONLY_PAGE: [Row; 4] = [
     (Do(PEER, MAP_RO), "N10 0"),
     (Do(OWNER, GRANT_RO), "ok"),
     (Do(PEER, MAP_RO), "ok 0.0"),
@@ -122,23 +123,13 @@ const READ_ONLY_PAGE: [(Doing, &str); 4] = [
 ];
 
 // That the entry is of another domain comes before that it is read-only.
-const ANOTHER_DOMAIN: [(Doing, &str); 3] = [
-    (Do(OWNER, GRANT_RO), "ok"),
+const ANOTHER_DOMAIN: [Row; 2] = [
     (Do(OTHER, MAP_RW), "N11 100020000005"),
     (Do(PEER, MAP_RW), "N13 100020000005"),
 ];
 
-// Each try of a map is missed, for a demotion or a promotion since its look.
-const FOUR_MISSED_TRIES: [(Doing, &str); 12] = [
-    (Do(OWNER, GRANT), "ok"),
-    (Begin(PEER, MAP_RO), "open"),
-    (Tick(PEER, 2), "open"),
-    (Do(OWNER, DEMOTE), "ok"),
-    (Tick(PEER, 3), "open"),
-    (Do(OWNER, PROMOTE), "ok"),
-    (Tick(PEER, 3), "open"),
-    (Do(OWNER, DEMOTE), "ok"),
-    (Tick(PEER, 3), "open"),
+// The fourth try is missed too.
+const FOUR_MISSED_TRIES: [Row; 3] = [
     (Do(OWNER, PROMOTE), "ok"),
     (Tick(PEER, 2), "N18 500020000001"),
     (
@@ -147,17 +138,8 @@ const FOUR_MISSED_TRIES: [(Doing, &str); 12] = [
     ),
 ];
 
-// Three are, and the fourth pins.
-const FOURTH_TRY: [(Doing, &str); 11] = [
-    (Do(OWNER, GRANT), "ok"),
-    (Begin(PEER, MAP_RO), "open"),
-    (Tick(PEER, 2), "open"),
-    (Do(OWNER, DEMOTE), "ok"),
-    (Tick(PEER, 3), "open"),
-    (Do(OWNER, PROMOTE), "ok"),
-    (Tick(PEER, 3), "open"),
-    (Do(OWNER, DEMOTE), "ok"),
-    (Tick(PEER, 3), "open"),
+// The fourth try pins.
+const FOURTH_TRY: [Row; 2] = [
     (Tick(PEER, 2), "ok 0.0"),
     (
         Show(0),
@@ -166,64 +148,19 @@ const FOURTH_TRY: [(Doing, &str); 11] = [
 ];
 
 // A frame, and references, past the last ones.
-const PAST_THE_LAST: [(Doing, &str); 5] = [
-    (
-        Do(
-            OWNER,
-            Request::Grant {
-                gref: GrantRef(0),
-                entry: Entry::Page {
-                    dom: PEER,
-                    ro: false,
-                    frame: 8,
-                },
-            },
-        ),
-        "ok",
-    ),
+const PAST_THE_LAST: [Row; 5] = [
+    (Do(OWNER, grant!(0, page!(PEER, false, 8))), "ok"),
     (Do(PEER, MAP_RO), "N16 100020000001"),
-    (
-        Do(
-            PEER,
-            Request::Map {
-                dom: OWNER,
-                gref: GrantRef(512),
-                flags: READ_ONLY,
-            },
-        ),
-        "N9 5",
-    ),
-    (
-        Do(
-            PEER,
-            Request::Map {
-                dom: OWNER,
-                gref: GrantRef(511),
-                flags: READ_ONLY,
-            },
-        ),
-        "N10 0",
-    ),
+    (Do(PEER, map!(512, READ_ONLY)), "N9 5"),
+    (Do(PEER, map!(511, READ_ONLY)), "N10 0"),
     (Show(512), "none"),
 ];
 
 // A demotion leaves a read pin, and a second one changes nothing.
-const DEMOTED_UNDER_A_PIN: [(Doing, &str); 7] = [
-    (Do(OWNER, GRANT), "ok"),
-    (Do(PEER, MAP_RO), "ok 0.0"),
+const DEMOTED_UNDER_A_PIN: [Row; 5] = [
     (Do(OWNER, DEMOTE), "ok"),
     (Do(OWNER, DEMOTE), "ok"),
-    (
-        Do(
-            PEER,
-            Request::Load {
-                handle: FIRST_HANDLE,
-                off: 0,
-                len: 1,
-            },
-        ),
-        "ok [0]",
-    ),
+    (Do(PEER, load!(FIRST_HANDLE, 0, 1)), "ok [0]"),
     (Do(PEER, MAP_RW), "N13 200020000015"),
     (
         Show(0),
@@ -232,74 +169,37 @@ const DEMOTED_UNDER_A_PIN: [(Doing, &str); 7] = [
 ];
 
 // A handle that was taken names no later mapping, though its key serves again.
-const TAKEN_HANDLE: [(Doing, &str); 9] = [
-    (Do(OWNER, GRANT), "ok"),
-    (Do(PEER, MAP_RO), "ok 0.0"),
+const TAKEN_HANDLE: [Row; 7] = [
     (Do(PEER, UNMAP), "ok"),
     (Do(PEER, MAP_RO), "ok 1.0"),
-    (
-        Do(
-            PEER,
-            Request::Load {
-                handle: FIRST_HANDLE,
-                off: 0,
-                len: 1,
-            },
-        ),
-        "N6",
-    ),
+    (Do(PEER, load!(FIRST_HANDLE, 0, 1)), "N6"),
     (Do(PEER, UNMAP), "N6"),
-    (
-        Do(
-            PEER,
-            Request::Load {
-                handle: SECOND_HANDLE,
-                off: 0,
-                len: 1,
-            },
-        ),
-        "ok [0]",
-    ),
-    (
-        Do(
-            PEER,
-            Request::Unmap {
-                handle: SECOND_HANDLE,
-            },
-        ),
-        "ok",
-    ),
-    (
-        Do(
-            PEER,
-            Request::Unmap {
-                handle: SECOND_HANDLE,
-            },
-        ),
-        "N6",
-    ),
+    (Do(PEER, load!(SECOND_HANDLE, 0, 1)), "ok [0]"),
+    (Do(PEER, UNMAP_SECOND), "ok"),
+    (Do(PEER, UNMAP_SECOND), "N6"),
 ];
+
 // Each run with the version of the tables; no bytes may be copied from one domain to another.
 const RUNS: [Run; 19] = [
-    (1, &[], &REVOKE_BEFORE_THE_UNPIN),
-    (1, &[], &ANOTHER_GRANT_BEFORE_THE_PIN),
-    (1, &[], &READ_ONLY_PAGE),
-    (1, &[], &ANOTHER_DOMAIN),
-    (1, &[], &FOUR_MISSED_TRIES),
-    (1, &[], &FOURTH_TRY),
-    (1, &[], &PAST_THE_LAST),
-    (1, &[], &DEMOTED_UNDER_A_PIN),
-    (1, &[], &TAKEN_HANDLE),
-    (1, &[], &SHARED_PAGE),
-    (1, &[], &ORDER_OF_ACCESSES),
-    (1, &[], &STORE_BY_A_TAKEN_HANDLE),
-    (1, &[], &STORE_WITH_ITS_STEP),
-    (1, &[], &VERSION_IN_A_MAP),
-    (2, &[], &SIZES),
-    (2, &[], &NOT_MAPPED),
-    (1, &[], &SUB_PAGE_BEHIND_AN_OLDER_HEADER),
-    (1, &[], &STEPS_ON_HEADERS),
-    (2, &[], &STEPS_OF_GRANTS),
+    (1, &[], &MAPPED_RW, &REVOKE_BEFORE_THE_UNPIN),
+    (1, &[], &GRANTED, &ANOTHER_GRANT_BEFORE_THE_PIN),
+    (1, &[], &[], &READ_ONLY_PAGE),
+    (1, &[], &GRANTED_RO, &ANOTHER_DOMAIN),
+    (1, &[], &THREE_MISSED_TRIES, &FOUR_MISSED_TRIES),
+    (1, &[], &THREE_MISSED_TRIES, &FOURTH_TRY),
+    (1, &[], &[], &PAST_THE_LAST),
+    (1, &[], &MAPPED_RO, &DEMOTED_UNDER_A_PIN),
+    (1, &[], &MAPPED_RO, &TAKEN_HANDLE),
+    (1, &[], &MAPPED_RW, &SHARED_PAGE),
+    (1, &[], &MAPPED_RO, &ORDER_OF_ACCESSES),
+    (1, &[], &MAPPED_RW, &STORE_BY_A_TAKEN_HANDLE),
+    (1, &[], &MAPPED_RW, &STORE_WITH_ITS_STEP),
+    (1, &[], &[], &VERSION_IN_A_MAP),
+    (2, &[], &[], &SIZES),
+    (2, &[], &[], &NOT_MAPPED),
+    (1, &[], &[], &SUB_PAGE_BEHIND_AN_OLDER_HEADER),
+    (1, &[], &[], &STEPS_ON_HEADERS),
+    (2, &[], &[], &STEPS_OF_GRANTS),
 ];
 
 /// A run: beside each thing done is what comes of it.
@@ -316,22 +216,22 @@ pub fn goes(
     Ok(())
 }
 
-#[test]
-fn runs_go_as_they_must(rt: HostRuntime) -> Result<(), Fail> {
-    let alloc = rt.alloc();
-    for (version, pairs, rows) in RUNS {
-        let mut core = start(alloc, version, pairs)?;
-        goes(&rt, &mut core, alloc, rows)?;
+// Each run goes on a machine of its own.
+fn all_go(rt: &impl Abort, alloc: Global, runs: &[Run]) -> Result<(), Fail> {
+    for (version, pairs, first, then) in runs {
+        let mut core = start(alloc, *version, pairs)?;
+        goes(rt, &mut core, alloc, first)?;
+        goes(rt, &mut core, alloc, then)?;
     }
     Ok(())
 }
 
 #[test]
+fn runs_go_as_they_must(rt: HostRuntime) -> Result<(), Fail> {
+    all_go(&rt, rt.alloc(), &RUNS)
+}
+
+#[test]
 fn copies_go_as_they_must(rt: HostRuntime) -> Result<(), Fail> {
-    let alloc = rt.alloc();
-    for (version, pairs, rows) in COPIES {
-        let mut core = start(alloc, version, pairs)?;
-        goes(&rt, &mut core, alloc, rows)?;
-    }
-    Ok(())
+    all_go(&rt, rt.alloc(), &COPIES)
 }

@@ -1,6 +1,7 @@
 //! The frames of a run, found by owner and number.
-use crate::places::{BYTES, config, spot, text};
+use crate::places::{BYTES, at, config, text};
 use gt_frames::{FrameName, Frames, Ground, Read, Spot, Writ};
+use gt_rows::spot;
 use gt_types::{DomId, Range};
 use std::alloc::{AllocError, Global};
 use std::test::Fail;
@@ -47,84 +48,36 @@ fn first_bytes(
 // frames of a domain, forth and back, one frame upwards and downwards over itself, and two frames of two domains, forth
 // and back.
 const COPIES: [(Spot, Spot, u16, bool, &str); 11] = [
+    (at!(1, 0, 0), at!(1, 1, 1), 4, true, "[0, 1, 2, 3, 4, 0]"),
+    (at!(1, 1, 1), at!(1, 0, 2), 2, true, "[1, 2, 1, 2, 0, 0]"),
+    (at!(1, 1, 1), at!(1, 1, 2), 4, true, "[0, 1, 1, 2, 3, 4]"),
+    (at!(1, 1, 2), at!(1, 1, 0), 4, true, "[1, 2, 3, 4, 3, 4]"),
+    (at!(1, 1, 0), at!(2, 1, 0), 4096, true, "[1, 2, 3, 4, 3, 4]"),
+    (at!(2, 1, 4), at!(1, 0, 0), 1, true, "[3, 2, 1, 2, 0, 0]"),
+    (at!(2, 0, 0), at!(2, 1, 0), 2, true, "[0, 0, 3, 4, 3, 4]"),
     (
-        spot!(1, 0, 0),
-        spot!(1, 1, 1),
-        4,
-        true,
-        "[0, 1, 2, 3, 4, 0]",
-    ),
-    (
-        spot!(1, 1, 1),
-        spot!(1, 0, 2),
-        2,
-        true,
-        "[1, 2, 1, 2, 0, 0]",
-    ),
-    (
-        spot!(1, 1, 1),
-        spot!(1, 1, 2),
-        4,
-        true,
-        "[0, 1, 1, 2, 3, 4]",
-    ),
-    (
-        spot!(1, 1, 2),
-        spot!(1, 1, 0),
-        4,
-        true,
-        "[1, 2, 3, 4, 3, 4]",
-    ),
-    (
-        spot!(1, 1, 0),
-        spot!(2, 1, 0),
-        4096,
-        true,
-        "[1, 2, 3, 4, 3, 4]",
-    ),
-    (
-        spot!(2, 1, 4),
-        spot!(1, 0, 0),
-        1,
-        true,
-        "[3, 2, 1, 2, 0, 0]",
-    ),
-    (
-        spot!(2, 0, 0),
-        spot!(2, 1, 0),
-        2,
-        true,
-        "[0, 0, 3, 4, 3, 4]",
-    ),
-    (
-        spot!(2, 1, 4096),
-        spot!(1, 0, 4096),
+        at!(2, 1, 4096),
+        at!(1, 0, 4096),
         0,
         true,
         "[3, 2, 1, 2, 0, 0]",
     ),
     (
-        spot!(2, 1, 4096),
-        spot!(1, 0, 0),
+        at!(2, 1, 4096),
+        at!(1, 0, 0),
         1,
         false,
         "[3, 2, 1, 2, 0, 0]",
     ),
-    (
-        spot!(2, 2, 0),
-        spot!(1, 0, 0),
-        1,
-        false,
-        "[3, 2, 1, 2, 0, 0]",
-    ),
-    (spot!(2, 1, 0), spot!(3, 0, 0), 1, false, "none"),
+    (at!(2, 2, 0), at!(1, 0, 0), 1, false, "[3, 2, 1, 2, 0, 0]"),
+    (at!(2, 1, 0), at!(3, 0, 0), 1, false, "none"),
 ];
 
 #[test]
 fn frames_are_copied_by_name(rt: HostRuntime) -> Result<(), Fail> {
     let alloc = rt.alloc();
     let mut frames = Frames::new(alloc, &config(alloc)?)?;
-    let begun = wrote(&mut frames, spot!(1, 0, 0), &BYTES);
+    let begun = wrote(&mut frames, at!(1, 0, 0), &BYTES);
     for (from, to, len, done, bytes) in COPIES {
         let answer = copied(&mut frames, from, to, len);
         let text = text(alloc, first_bytes(alloc, &frames, to.frame)?)?;

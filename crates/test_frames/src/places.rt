@@ -3,20 +3,22 @@ use gt_frames::Read;
 use gt_types::{Config, DomId, DomainConfig, Memory, TypeId};
 use std::alloc::{AllocError, Global};
 
+const DOMAIN: DomainConfig = DomainConfig {
+    id: DomId(1),
+    label: TypeId(0),
+    frames: 2,
+    table_frames: 1,
+    version: 1,
+};
+
 /// The domains 1 and 2, each of two frames.
 pub fn config(alloc: Global) -> Result<Config, Memory> {
-    let mut domains = Vec::new(alloc);
-    for id in [1, 2] {
-        domains.push(DomainConfig {
-            id: DomId(id),
-            label: TypeId(0),
-            frames: 2,
-            table_frames: 1,
-            version: 1,
-        })?;
-    }
+    let other = DomainConfig {
+        id: DomId(2),
+        ..DOMAIN
+    };
     Ok(Config {
-        domains,
+        domains: vec![in alloc; DOMAIN, other]?,
         first_gen: 0,
     })
 }
@@ -24,20 +26,14 @@ pub fn config(alloc: Global) -> Result<Config, Memory> {
 /// What is written at the beginning.
 pub const BYTES: [u8; 4] = [1, 2, 3, 4];
 
-// The place in this frame of this domain: owner, number and offset.
-macro_rules! spot {
+// The place in this frame of this domain: their numbers, and the offset.
+macro_rules! at {
     ($owner:expr, $number:expr, $off:expr) => {
-        Spot {
-            frame: FrameName {
-                owner: DomId($owner),
-                number: $number,
-            },
-            off: $off,
-        }
+        spot!(DomId($owner), $number, $off)
     };
 }
 
-pub(crate) use spot;
+pub(crate) use at;
 
 /// The bytes that were read, or that there is no such frame.
 pub fn text(alloc: Global, read: Option<Read>) -> Result<String, AllocError> {

@@ -1,6 +1,7 @@
 //! Frames under locks, in threads.
-use crate::places::{BYTES, config, spot, text};
+use crate::places::{BYTES, at, config, text};
 use gt_frames::{FrameName, Ground, Pool, Read, Spot, Visits, Writ};
+use gt_rows::spot;
 use gt_types::DomId;
 use std::alloc::{AllocError, Global};
 use std::process::Abort;
@@ -68,13 +69,13 @@ fn copied<R: Wait>(rt: &R, pool: &Pool, visits: &mut Visits, from: Spot, to: Spo
 // upwards and downwards over itself, two frames of a domain and of two domains, the lower pool number as source and as
 // destination, and frames that are not there.
 const COPIES: [(Spot, Spot, bool, &str); 7] = [
-    (spot!(1, 0, 0), spot!(1, 0, 1), true, "[1, 1, 2, 3, 4, 0]"),
-    (spot!(1, 0, 1), spot!(1, 0, 0), true, "[1, 2, 3, 4, 4, 0]"),
-    (spot!(1, 0, 0), spot!(1, 1, 2), true, "[0, 0, 1, 2, 3, 4]"),
-    (spot!(1, 1, 2), spot!(2, 1, 0), true, "[1, 2, 3, 4, 0, 0]"),
-    (spot!(2, 1, 1), spot!(1, 0, 0), true, "[2, 3, 4, 0, 4, 0]"),
-    (spot!(1, 0, 0), spot!(2, 2, 0), false, "none"),
-    (spot!(3, 0, 0), spot!(1, 0, 0), false, "[2, 3, 4, 0, 4, 0]"),
+    (at!(1, 0, 0), at!(1, 0, 1), true, "[1, 1, 2, 3, 4, 0]"),
+    (at!(1, 0, 1), at!(1, 0, 0), true, "[1, 2, 3, 4, 4, 0]"),
+    (at!(1, 0, 0), at!(1, 1, 2), true, "[0, 0, 1, 2, 3, 4]"),
+    (at!(1, 1, 2), at!(2, 1, 0), true, "[1, 2, 3, 4, 0, 0]"),
+    (at!(2, 1, 1), at!(1, 0, 0), true, "[2, 3, 4, 0, 4, 0]"),
+    (at!(1, 0, 0), at!(2, 2, 0), false, "none"),
+    (at!(3, 0, 0), at!(1, 0, 0), false, "[2, 3, 4, 0, 4, 0]"),
 ];
 
 // The visits of the two domains.
@@ -102,9 +103,9 @@ fn frames_are_copied_under_locks(rt: HostRuntime) -> Result<(), Fail> {
     Ok(())
 }
 
-const HERE: Spot = spot!(1, 0, 0);
+const HERE: Spot = at!(1, 0, 0);
 
-const THERE: Spot = spot!(2, 1, 0);
+const THERE: Spot = at!(2, 1, 0);
 
 // Copies a thousand times, and counts the copies that were made.
 fn copies<R: Wait>(rt: &R, pool: &Pool, visits: &mut Visits, from: Spot, to: Spot) -> usize {

@@ -13,20 +13,12 @@
 #[cfg(test)]
 macro_rules! fetch {
     ($dom:expr, $gref:expr, $off:expr, $frame:expr, $to:expr, $len:expr) => {
-        Asks::Copy(CopyArgs {
-            source: End {
-                ptr: $gref,
-                domid: DomId($dom),
-                offset: $off,
-            },
-            dest: End {
-                ptr: $frame,
-                domid: DomId(DOMID_SELF),
-                offset: $to,
-            },
-            len: $len,
-            flags: 1,
-        })
+        Asks::Copy(copy!(
+            end!($gref, DomId($dom), $off),
+            end!($frame, DomId(DOMID_SELF), $to),
+            $len,
+            1
+        ))
     };
 }
 

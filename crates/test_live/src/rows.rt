@@ -3,111 +3,50 @@
 use crate::playing::{Line, ONE, Row, Stage, THREE, TWO, play_row};
 use gt_calls::{CopyArgs, End};
 use gt_entry::Entry;
+use gt_rows::{copy, end, page, sub, via};
 use gt_running::Asks::{
     self, Bytes, Copy, Demote, GetVersion, Grant, Load, Map, Peek, Poke, Promote, Revoke, Setup,
     Size, Store, Unmap, Version, Withdraw,
 };
-use gt_running::{READ_ONLY, WRITABLE, all_running, rights, start};
+use gt_running::{READ_ONLY, WRITABLE};
 use gt_types::{DOMID_SELF, DomId, GrantRef};
 use std::test::Fail;
 
 // The writable page with frame 5, for domain 2.
-const PAGE: Entry = Entry::Page {
-    dom: DomId(2),
-    ro: false,
-    frame: 5,
-};
+const PAGE: Entry = page!(DomId(2), false, 5);
 
 // The same, read-only.
-const READ_ONLY_PAGE: Entry = Entry::Page {
-    dom: DomId(2),
-    ro: true,
-    frame: 5,
-};
+const READ_ONLY_PAGE: Entry = page!(DomId(2), true, 5);
 
 // The pages with frame 6 and frame 8, for domain 2. No domain has frame 8.
-const PAGE_6: Entry = Entry::Page {
-    dom: DomId(2),
-    ro: false,
-    frame: 6,
-};
+const PAGE_6: Entry = page!(DomId(2), false, 6);
 
-const PAGE_8: Entry = Entry::Page {
-    dom: DomId(2),
-    ro: false,
-    frame: 8,
-};
+const PAGE_8: Entry = page!(DomId(2), false, 8);
 
 // Parts of frame 5, for domain 2: its first byte, the whole, and 50 bytes from byte 100 on.
-const FIRST_BYTE: Entry = Entry::Sub {
-    dom: DomId(2),
-    ro: false,
-    frame: 5,
-    off: 0,
-    len: 1,
-};
+const FIRST_BYTE: Entry = sub!(DomId(2), 5, 0, 1);
 
-const WHOLE: Entry = Entry::Sub {
-    dom: DomId(2),
-    ro: false,
-    frame: 5,
-    off: 0,
-    len: 4096,
-};
+const WHOLE: Entry = sub!(DomId(2), 5, 0, 4096);
 
-const PART: Entry = Entry::Sub {
-    dom: DomId(2),
-    ro: false,
-    frame: 5,
-    off: 100,
-    len: 50,
-};
+const PART: Entry = sub!(DomId(2), 5, 100, 50);
 
 // Transitive entries: for domain 2 to an entry of domain 3 that nobody made, read-only or writable to one of domain 1
 // for domain 3, and for domain 2 to the first of domain 3.
-const VIA_7_OF_THREE: Entry = Entry::Via {
-    dom: DomId(2),
-    ro: false,
-    dom2: DomId(3),
-    gref: GrantRef(7),
-};
+const VIA_7_OF_THREE: Entry = via!(DomId(2), false, DomId(3), GrantRef(7));
 
-const READ_ONLY_VIA_4_OF_ONE: Entry = Entry::Via {
-    dom: DomId(3),
-    ro: true,
-    dom2: DomId(1),
-    gref: GrantRef(4),
-};
+const READ_ONLY_VIA_4_OF_ONE: Entry = via!(DomId(3), true, DomId(1), GrantRef(4));
 
-const VIA_4_OF_ONE: Entry = Entry::Via {
-    dom: DomId(3),
-    ro: false,
-    dom2: DomId(1),
-    gref: GrantRef(4),
-};
+const VIA_4_OF_ONE: Entry = via!(DomId(3), false, DomId(1), GrantRef(4));
 
-const VIA_0_OF_THREE: Entry = Entry::Via {
-    dom: DomId(2),
-    ro: false,
-    dom2: DomId(3),
-    gref: GrantRef(0),
-};
+const VIA_0_OF_THREE: Entry = via!(DomId(2), false, DomId(3), GrantRef(0));
 
 // Four bytes of a frame of the caller's own, one byte on.
-const OVERLAP: CopyArgs = CopyArgs {
-    source: End {
-        ptr: 0,
-        domid: DomId(DOMID_SELF),
-        offset: 0,
-    },
-    dest: End {
-        ptr: 0,
-        domid: DomId(DOMID_SELF),
-        offset: 1,
-    },
-    len: 4,
-    flags: 0,
-};
+const OVERLAP: CopyArgs = copy!(
+    end!(0, DomId(DOMID_SELF), 0),
+    end!(0, DomId(DOMID_SELF), 1),
+    4,
+    0
+);
 
 const A_MAPPING_IS_COUNTED_AND_GIVEN_UP: [Line; 13] = [
     (TWO, Map(1, 0, READ_ONLY), "N10 -1 entry 1 0 0"),

@@ -3,6 +3,7 @@ use crate::playing::{Line, ONE, Row, Stage, THREE, TWO, play_row};
 use crate::working::{Access, LEN, Part, UNUSED};
 use gt_calls::{CopyArgs, End};
 use gt_entry::Entry;
+use gt_rows::{copy, end, page};
 use gt_running::Asks::{
     self, Demote, GetVersion, Grant, Load, Map, Peek, Poke, Revoke, Store, Unmap,
 };
@@ -31,18 +32,7 @@ fn one_to_sixty_four_domains_start(rt: HostRuntime) {
     }
 }
 
-// The page with frame 5, for this domain.
-macro_rules! page {
-    ($dom:expr) => {
-        Entry::Page {
-            dom: DomId($dom),
-            ro: false,
-            frame: 5,
-        }
-    };
-}
-
-const GRANTED: Line = (ONE, Grant(0, page!(2)), "ok");
+const GRANTED: Line = (ONE, Grant(0, page!(DomId(2), false, 5)), "ok");
 
 const REVOKED: [Line; 1] = [(ONE, Revoke(0), "ok")];
 
@@ -103,8 +93,8 @@ macro_rules! accesses {
 
 // A page is granted to two domains, which map it.
 const MAPPED: [Line; 4] = [
-    (ONE, Grant(0, page!(2)), "ok"),
-    (ONE, Grant(1, page!(3)), "ok"),
+    (ONE, Grant(0, page!(DomId(2), false, 5)), "ok"),
+    (ONE, Grant(1, page!(DomId(3), false, 5)), "ok"),
     (TWO, Map(1, 0, WRITABLE), "ok"),
     (THREE, Map(1, 1, WRITABLE), "ok"),
 ];
@@ -118,9 +108,9 @@ const WRITES: [(Part, u32); 3] = [
 
 // Each domain grants a page to the next one.
 const IN_A_RING: [Line; 4] = [
-    (ONE, Grant(0, page!(2)), "ok"),
-    (TWO, Grant(0, page!(3)), "ok"),
-    (THREE, Grant(0, page!(1)), "ok"),
+    (ONE, Grant(0, page!(DomId(2), false, 5)), "ok"),
+    (TWO, Grant(0, page!(DomId(3), false, 5)), "ok"),
+    (THREE, Grant(0, page!(DomId(1), false, 5)), "ok"),
     (ONE, Poke(5, 0, &[7; 64]), "ok"),
 ];
 
@@ -290,7 +280,7 @@ fn runs_go_as_they_must(rt: HostRuntime) -> Result<(), Fail> {
 }
 
 const ACCESSES: [Line; 18] = [
-    (ONE, Grant(0, page!(2)), "ok"),
+    (ONE, Grant(0, page!(DomId(2), false, 5)), "ok"),
     (ONE, Poke(5, 0, &[1, 2, 3]), "ok"),
     (TWO, Map(1, 0, WRITABLE), "ok"),
     (TWO, Load(0, 3), "ok [1, 2, 3]"),

@@ -1,6 +1,7 @@
 //! What domains do at once, each in a thread of its own.
 use gt_calls::{CopyArgs, End};
 use gt_entry::{Control, Entry, Kind};
+use gt_rows::{copy, end};
 use gt_running::{Asks, READ_ONLY, Running, Said, WRITABLE};
 use gt_types::{Allows, DOMID_SELF, Denial, DomId, Facts, GrantRef, Memory, Rule};
 use std::alloc::{AllocError, Global};
@@ -128,11 +129,16 @@ fn stands(denial: Denial) -> bool {
     }
 }
 
-// Whether the call is Ok, or refused by one of these two rules with a word that bears the rule out.
+// Whether the refusal is by one of these two rules, with a word that bears the rule out.
+fn stands_by(denial: Denial, one: Rule, other: Rule) -> bool {
+    (denial.rule == one || denial.rule == other) && stands(denial)
+}
+
+// Whether the call is Ok, or so refused.
 fn is_fair(answer: Result<(), Denial>, one: Rule, other: Rule) -> bool {
     match answer {
         Ok(()) => true,
-        Err(denial) => (denial.rule == one || denial.rule == other) && stands(denial),
+        Err(denial) => stands_by(denial, one, other),
     }
 }
 
@@ -267,29 +273,36 @@ fn withdraw_once<P: Allows>(domain: &mut Running<'_, P>, kept: &mut Kept) -> boo
     }
 }
 
-// Whether these are the bytes of a whole page as its owner wrote it: no page is torn.
-fn is_whole(said: &Said) -> bool {
+// The byte that all of so many are that were read, if they are alike: so no write came in between.
+fn byte_of(said: &Said, len: u16) -> Option<u8> {
     let Said::Bytes(bytes) = said else {
-        return false;
+        return None;
     };
     let Some(first) = bytes.first() else {
-        return false;
+        return None;
     };
     'bytes: for byte in bytes.iter() {
         if byte != first {
-            return false;
+            return None;
         }
     }
-    bytes.len() == usize::from(PAGE_LEN) && (*first == 0x55 || *first == 0x66)
+    if bytes.len() == usize::from(len) {
+        Some(*first)
+    } else {
+        None
+    }
+}
+
+// Whether these are the bytes of a whole page as its owner wrote it: no page is torn.
+fn is_whole(said: &Said) -> bool {
+    matches!(byte_of(said, PAGE_LEN), Some(0x55 | 0x66))
 }
 
 // One round of a domain that copies a page which its owner may withdraw.
 fn take_once<R: Wait, P: Allows>(rt: &R, domain: &mut Running<'_, P>) -> bool {
     match domain.ask(rt, TAKE) {
         Said::Done => is_whole(&domain.ask(rt, Asks::Peek(3, 0, PAGE_LEN))),
-        Said::Denied(denial) => {
-            (denial.rule == Rule::N10 || denial.rule == Rule::N18) && stands(denial)
-        }
+        Said::Denied(denial) => stands_by(denial, Rule::N10, Rule::N18),
         _ => false,
     }
 }
@@ -310,32 +323,14 @@ fn forward_once<P: Allows>(
 fn follow_once<R: Wait, P: Allows>(rt: &R, domain: &mut Running<'_, P>, asks: Asks<'_>) -> bool {
     match domain.ask(rt, asks) {
         Said::Done => true,
-        Said::Denied(denial) => {
-            (denial.rule == Rule::N10 || denial.rule == Rule::N18) && stands(denial)
-        }
+        Said::Denied(denial) => stands_by(denial, Rule::N10, Rule::N18),
         _ => false,
     }
 }
 
-// Whether so many bytes were read, all alike: so no write came in between.
-fn is_even(said: &Said) -> bool {
-    let Said::Bytes(bytes) = said else {
-        return false;
-    };
-    let Some(first) = bytes.first() else {
-        return false;
-    };
-    'bytes: for byte in bytes.iter() {
-        if byte != first {
-            return false;
-        }
-    }
-    bytes.len() == usize::from(LEN)
-}
-
 fn access_once<R: Wait, P: Allows>(rt: &R, domain: &mut Running<'_, P>, access: Access) -> bool {
     let wrote = matches!(domain.ask(rt, access.write), Said::Done);
-    is_even(&domain.ask(rt, access.read)) && wrote
+    byte_of(&domain.ask(rt, access.read), LEN).is_some() && wrote
 }
 
 // One round of a domain, and whether it was answered as the rules allow.

@@ -3,6 +3,7 @@ ghost use Rattle.std.specs.Prelude.{◌≡◌, ◌≢◌, ◌+◌, ◌<◌, [], 
 ghost use Rattle.gt_words.specs.Views.{last_of, last_seen, record_seen};
 ghost use Rattle.gt_words.specs.Rule.{layout_of};
 ghost use Rattle.test_words.specs.Pinned.{IsPinned};
+ghost use Rattle.test_words.specs.Rows.{IsRowOf, Owns, OwnsStill};
 ghost use Rattle.gt_words.specs.Conditions.{KeepsPins, IsSeatOf, IsSameSeat, HasLooked, HasDomain, IsEntryOf};
 ghost use Rattle.gt_words.specs.Conditions.{position_at};
 
@@ -13,6 +14,7 @@ use gt_types::{
 };
 use gt_words::{Pin, Seat, Words};
 use std::alloc::{AllocError, Global};
+use std::process::Abort;
 
 /// What an owner keeps of one of its entries.
 #[derive(Drop)]
@@ -20,6 +22,12 @@ pub(crate) struct Row {
     pub entry: Entry,
     pub generation: u32,
 }
+
+/// What it keeps at the beginning.
+pub(crate) const UNUSED: Row = Row {
+    entry: Entry::Invalid,
+    generation: 0,
+};
 
 /// A control word and the entry that was read since.
 #[derive(Drop)]
@@ -85,12 +93,9 @@ pub(crate) fn publish(
     row: &mut Row,
     entry: Entry,
 ) -> Result<(), u64>
-    requires seat { IsSeatOf words.now seat.old }
-    requires reference { gref.0 < TABLE_ENTRIES }
-    requires row { last_of gref.0 seat.old.view ≡ record { generation = row.old.generation; entry = row.old.entry } }
+    requires owner { Owns words.now seat.old gref row.old }
     requires given { entry ≢ Entry.Invalid }
-    ensures seat { IsSameSeat seat.old seat.new }
-    ensures row { last_of gref.0 seat.new.view ≡ record { generation = row.new.generation; entry = row.new.entry } }
+    ensures owner { OwnsStill seat.old seat.new gref row.new }
 {
     if !row.entry.is_invalid() || row.generation >= LAST_GENERATION {
         return Err(0);
@@ -111,11 +116,8 @@ pub(crate) fn revoke(
     gref: GrantRef,
     row: &mut Row,
 ) -> Result<(), u64>
-    requires seat { IsSeatOf words.now seat.old }
-    requires reference { gref.0 < TABLE_ENTRIES }
-    requires row { last_of gref.0 seat.old.view ≡ record { generation = row.old.generation; entry = row.old.entry } }
-    ensures seat { IsSameSeat seat.old seat.new }
-    ensures row { last_of gref.0 seat.new.view ≡ record { generation = row.new.generation; entry = row.new.entry } }
+    requires owner { Owns words.now seat.old gref row.old }
+    ensures owner { OwnsStill seat.old seat.new gref row.new }
 {
     if row.entry.is_invalid() || row.generation > LAST_GENERATION {
         return Ok(());
@@ -133,12 +135,9 @@ pub(crate) fn withdraw(
     gref: GrantRef,
     row: &mut Row,
 ) -> Result<(), u64>
-    requires seat { IsSeatOf words.now seat.old }
-    requires reference { gref.0 < TABLE_ENTRIES }
+    requires owner { Owns words.now seat.old gref row.old }
     requires entry { HasDomain words.now.layout seat.old.dom }
-    requires row { last_of gref.0 seat.old.view ≡ record { generation = row.old.generation; entry = row.old.entry } }
-    ensures seat { IsSameSeat seat.old seat.new }
-    ensures row { last_of gref.0 seat.new.view ≡ record { generation = row.new.generation; entry = row.new.entry } }
+    ensures owner { OwnsStill seat.old seat.new gref row.new }
 {
     if row.entry.is_invalid() {
         return Ok(());
@@ -158,12 +157,9 @@ pub(crate) fn turn(
     row: &mut Row,
     ro: bool,
 ) -> Result<bool, u64>
-    requires seat { IsSeatOf words.now seat.old }
-    requires reference { gref.0 < TABLE_ENTRIES }
+    requires owner { Owns words.now seat.old gref row.old }
     requires entry { HasDomain words.now.layout seat.old.dom }
-    requires row { last_of gref.0 seat.old.view ≡ record { generation = row.old.generation; entry = row.old.entry } }
-    ensures seat { IsSameSeat seat.old seat.new }
-    ensures row { last_of gref.0 seat.new.view ≡ record { generation = row.new.generation; entry = row.new.entry } }
+    ensures owner { OwnsStill seat.old seat.new gref row.new }
 {
     let owner = seat.dom();
     let word = words.load_control(seat, owner, gref);
@@ -192,19 +188,18 @@ pub(crate) fn revoke_pinned(
     words: &Words,
     owner: &mut Seat,
     other: &mut Seat,
-    dom: DomId,
     gref: GrantRef,
     row: &mut Row,
     dir: Dir,
 ) -> Option<Result<(), u64>>
     requires owner { IsSeatOf words.now owner.old }
     requires other { IsSeatOf words.now other.old }
-    requires entry { IsEntryOf words.now dom gref }
-    requires row { last_of gref.0 owner.old.view ≡ record { generation = row.old.generation; entry = row.old.entry } }
-    ensures owner { IsSameSeat owner.old owner.new }
+    requires entry { IsEntryOf words.now owner.old.dom gref }
+    requires row { IsRowOf row.old gref owner.old.view }
+    ensures owner { OwnsStill owner.old owner.new gref row.new }
     ensures other { IsSameSeat other.old other.new }
-    ensures row { last_of gref.0 owner.new.view ≡ record { generation = row.new.generation; entry = row.new.entry } }
 {
+    let dom = owner.dom();
     let sight = look(words, other, dom, gref);
     let Some(Ok(pin)) = try_pin(words, other, dom, gref, &sight, dir) else {
         return None;
@@ -225,10 +220,9 @@ fn withdraw_and_grant(
 ) -> (u64, Result<(), u64>)
     requires owner { IsSeatOf words.now owner.old }
     requires entry { IsEntryOf words.now owner.old.dom gref }
-    requires row { last_of gref.0 owner.old.view ≡ record { generation = row.old.generation; entry = row.old.entry } }
+    requires row { IsRowOf row.old gref owner.old.view }
     requires given { entry ≢ Entry.Invalid }
-    ensures owner { IsSameSeat owner.old owner.new }
-    ensures row { last_of gref.0 owner.new.view ≡ record { generation = row.new.generation; entry = row.new.entry } }
+    ensures owner { OwnsStill owner.old owner.new gref row.new }
 {
     let dom = owner.dom();
     let _ = withdraw(words, owner, gref, row);
@@ -251,11 +245,10 @@ pub(crate) fn withdraw_pinned(
     requires owner { IsSeatOf words.now owner.old }
     requires other { IsSeatOf words.now other.old }
     requires entry { IsEntryOf words.now owner.old.dom gref }
-    requires row { last_of gref.0 owner.old.view ≡ record { generation = row.old.generation; entry = row.old.entry } }
+    requires row { IsRowOf row.old gref owner.old.view }
     requires given { entry ≢ Entry.Invalid }
-    ensures owner { IsSameSeat owner.old owner.new }
+    ensures owner { OwnsStill owner.old owner.new gref row.new }
     ensures other { IsSameSeat other.old other.new }
-    ensures row { last_of gref.0 owner.new.view ≡ record { generation = row.new.generation; entry = row.new.entry } }
 {
     let dom = owner.dom();
     let sight = look(words, other, dom, gref);
@@ -328,11 +321,8 @@ pub(crate) fn toggle(
     mut row: Row,
     times: u32,
 ) -> (Seat, Row)
-    requires seat { IsSeatOf words.now seat }
-    requires reference { gref.0 < TABLE_ENTRIES }
-    requires row { last_of gref.0 seat.view ≡ record { generation = row.generation; entry = row.entry } }
-    ensures seat { IsSeatOf words.now result.0 }
-    ensures row { last_of gref.0 result.0.view ≡ record { generation = result.1.generation; entry = result.1.entry } }
+    requires owner { Owns words.now seat gref row }
+    ensures owner { Owns words.now result.0 gref result.1 }
 {
     for _ in 0..times {
         let _ = publish(words, &mut seat, gref, &mut row, page(5));
@@ -364,7 +354,7 @@ pub(crate) fn page(frame: u64) -> Entry
     }
 }
 
-pub(crate) fn domain(id: u16) -> DomainConfig
+fn domain(id: u16) -> DomainConfig
     ensures { (result.id ≡ record { 0 = id }) × (result.version ≡ 1) }
 {
     DomainConfig {
@@ -377,7 +367,7 @@ pub(crate) fn domain(id: u16) -> DomainConfig
 }
 
 // Domains 1 and 2, each with a table of one frame in version 1.
-pub(crate) fn two_domains(alloc: Global) -> Result<Config, AllocError>
+fn two_domains(alloc: Global) -> Result<Config, AllocError>
     ensures ids { IfOk result (λ c. (layout_of c).ids ≡ record { 0 = 1 } ∷ record { 0 = 2 } ∷ []) }
     ensures first { IfOk result (λ c. c.first_gen ≡ 0) }
 {
@@ -391,17 +381,36 @@ pub(crate) fn two_domains(alloc: Global) -> Result<Config, AllocError>
 }
 
 // The words of domains 1 and 2, and their seats.
-pub(crate) fn start(alloc: Global, config: &Config) -> Result<(Words, Seat, Seat), StartFault>
-    requires ids { (layout_of config.now).ids ≡ record { 0 = 1 } ∷ record { 0 = 2 } ∷ [] }
-    requires first { config.now.first_gen ≡ 0 }
+pub(crate) fn start(alloc: Global) -> Result<(Words, Seat, Seat), StartFault>
     ensures domain { IfOk result (λ r. HasDomain r.0.layout (record { 0 = 1 })) }
     ensures second { IfOk result (λ r. HasDomain r.0.layout (record { 0 = 2 })) }
     ensures owner { IfOk result (λ r. IsSeatOf r.0 r.1
         × (last_of 0 r.1.view ≡ record { generation = 0; entry = Entry.Invalid })) }
     ensures other { IfOk result (λ r. IsSeatOf r.0 r.2) }
 {
-    let (words, mut seats) = Words::new(alloc, config)?;
+    let Ok(config) = two_domains(alloc) else {
+        return Err(StartFault::Memory);
+    };
+    let (words, mut seats) = Words::new(alloc, &config)?;
     let other = seats.remove(1);
     let owner = seats.remove(0);
     Ok((words, owner, other))
+}
+
+// The same, and domain 1 has granted a page to domain 2 by its first entry.
+pub(crate) fn start_with_page(
+    rt: &impl Abort,
+    alloc: Global,
+) -> Result<(Words, Seat, Seat, Row), StartFault>
+    ensures domain { IfOk result (λ r. HasDomain r.0.layout (record { 0 = 1 })) }
+    ensures own { IfOk result (λ r. r.1.dom ≡ record { 0 = 1 }) }
+    ensures owner { IfOk result (λ r. IsSeatOf r.0 r.1
+        × (last_of 0 r.1.view ≡ record { generation = r.3.generation; entry = r.3.entry })) }
+    ensures other { IfOk result (λ r. IsSeatOf r.0 r.2) }
+{
+    let (words, mut owner, other) = start(alloc)?;
+    assert_eq!(rt; owner.dom(), DomId(1));
+    let mut row = UNUSED;
+    let _ = publish(&words, &mut owner, GrantRef(0), &mut row, page(5));
+    Ok((words, owner, other, row))
 }

@@ -1,10 +1,11 @@
 //! Worked runs of two domains, each written as one text. Words are in base 16, but inside an answer in base 10.
 use crate::calls::{
-    Row, churn, look, page, pin_twice, publish, revoke, revoke_pinned, start, toggle, try_pin,
-    turn, two_domains, withdraw_pinned,
+    UNUSED, churn, look, page, pin_twice, publish, revoke, revoke_pinned, start, start_with_page,
+    toggle, try_pin, turn, withdraw_pinned,
 };
 use gt_entry::{Control, Entry};
 use gt_types::{Dir, DomId, GrantRef};
+use std::process::Abort;
 use std::test::Fail;
 use std::thread::join;
 
@@ -14,20 +15,18 @@ const OTHER: DomId = DomId(2);
 
 const ENTRY: GrantRef = GrantRef(0);
 
-const UNUSED: Row = Row {
-    entry: Entry::Invalid,
-    generation: 0,
-};
+// Compares what came of a run with what must.
+fn says(rt: &impl Abort, text: &String, wanted: &str) -> Result<(), Fail> {
+    assert_eq!(rt; text.as_str(), wanted);
+    Ok(())
+}
 
 // The word looked at, the invalid word after the revocation, and the word that the late pin found.
 const ANEW: &str = "100020000001 100000000000 Some(Err(35184908959745))";
 
 #[test]
 fn pins_no_entry_that_was_granted_anew(rt: HostRuntime) -> Result<(), Fail> {
-    let config = two_domains(rt.alloc())?;
-    let (words, mut owner, mut other) = start(rt.alloc(), &config)?;
-    let mut row = UNUSED;
-    let _ = publish(&words, &mut owner, ENTRY, &mut row, page(5));
+    let (words, mut owner, mut other, mut row) = start_with_page(&rt, rt.alloc())?;
     let sight = look(&words, &mut other, OWNER, ENTRY);
     let _ = revoke(&words, &mut owner, ENTRY, &mut row);
     let idle = words.load_control(&mut owner, OWNER, ENTRY);
@@ -35,8 +34,7 @@ fn pins_no_entry_that_was_granted_anew(rt: HostRuntime) -> Result<(), Fail> {
     let late = try_pin(&words, &mut other, OWNER, ENTRY, &sight, Dir::Read);
     let found = late.map(|r| r.map(|pin| pin.word));
     let text = format!(in rt.alloc(); "{:x} {idle:x} {found:?}", sight.word)?;
-    assert_eq!(rt; text.as_str(), ANEW);
-    Ok(())
+    says(&rt, &text, ANEW)
 }
 
 // What a revocation found under a read pin and under a write pin, and the word with none.
@@ -44,33 +42,13 @@ const PINNED: &str = "Some(Err(17592722915345)) Some(Err(17592722980865)) 100020
 
 #[test]
 fn refuses_to_revoke_a_pinned_entry(rt: HostRuntime) -> Result<(), Fail> {
-    let config = two_domains(rt.alloc())?;
-    let (words, mut owner, mut other) = start(rt.alloc(), &config)?;
-    let mut row = UNUSED;
-    let _ = publish(&words, &mut owner, ENTRY, &mut row, page(5));
-    let read = revoke_pinned(
-        &words,
-        &mut owner,
-        &mut other,
-        OWNER,
-        ENTRY,
-        &mut row,
-        Dir::Read,
-    );
-    let write = revoke_pinned(
-        &words,
-        &mut owner,
-        &mut other,
-        OWNER,
-        ENTRY,
-        &mut row,
-        Dir::Write,
-    );
+    let (words, mut owner, mut other, mut row) = start_with_page(&rt, rt.alloc())?;
+    let read = revoke_pinned(&words, &mut owner, &mut other, ENTRY, &mut row, Dir::Read);
+    let write = revoke_pinned(&words, &mut owner, &mut other, ENTRY, &mut row, Dir::Write);
     let idle = words.load_control(&mut owner, OWNER, ENTRY);
     let last = revoke(&words, &mut owner, ENTRY, &mut row);
     let text = format!(in rt.alloc(); "{read:?} {write:?} {idle:x} {last:?}")?;
-    assert_eq!(rt; text.as_str(), PINNED);
-    Ok(())
+    says(&rt, &text, PINNED)
 }
 
 // The word of a withdrawn entry with a write pin, and what grants before and after the pin was given back answered;
@@ -79,25 +57,17 @@ const WITHDRAWN: &str = "Some((17592186109952, Err(17592186109952), Ok(()))) 200
 
 #[test]
 fn grants_no_entry_over_pins(rt: HostRuntime) -> Result<(), Fail> {
-    let config = two_domains(rt.alloc())?;
-    let (words, mut owner, mut other) = start(rt.alloc(), &config)?;
-    assert_eq!(rt; owner.dom(), OWNER);
-    let mut row = UNUSED;
-    let _ = publish(&words, &mut owner, ENTRY, &mut row, page(5));
+    let (words, mut owner, mut other, mut row) = start_with_page(&rt, rt.alloc())?;
     let done = withdraw_pinned(&words, &mut owner, &mut other, ENTRY, &mut row, page(6));
     let word = words.load_control(&mut owner, OWNER, ENTRY);
     let text = format!(in rt.alloc(); "{done:?} {word:x}")?;
-    assert_eq!(rt; text.as_str(), WITHDRAWN);
-    Ok(())
+    says(&rt, &text, WITHDRAWN)
 }
 
 // What the owner saw with two pins, with one of them left, and with none.
 #[test]
 fn counts_two_pins_of_one_entry(rt: HostRuntime) -> Result<(), Fail> {
-    let config = two_domains(rt.alloc())?;
-    let (words, mut owner, mut other) = start(rt.alloc(), &config)?;
-    let mut row = UNUSED;
-    let _ = publish(&words, &mut owner, ENTRY, &mut row, page(5));
+    let (words, mut owner, mut other, _row) = start_with_page(&rt, rt.alloc())?;
     let seen = pin_twice(&words, &mut owner, &mut other, OWNER, ENTRY);
     assert_eq!(rt;
         seen,
@@ -112,8 +82,7 @@ const HEADERS: &str =
 
 #[test]
 fn finds_each_domain_by_its_number(rt: HostRuntime) -> Result<(), Fail> {
-    let config = two_domains(rt.alloc())?;
-    let (words, mut owner, mut other) = start(rt.alloc(), &config)?;
+    let (words, mut owner, mut other) = start(rt.alloc())?;
     let before = words.load_header(&mut other, OWNER);
     let own_before = words.load_header(&mut other, OTHER);
     words.set_version(&mut owner, 2);
@@ -128,8 +97,7 @@ fn finds_each_domain_by_its_number(rt: HostRuntime) -> Result<(), Fail> {
     let text = format!(in rt.alloc();
         "{before} {own_before} {one} {two} {three} {four} {five} {six} {mine:?} {theirs:?}"
     )?;
-    assert_eq!(rt; text.as_str(), HEADERS);
-    Ok(())
+    says(&rt, &text, HEADERS)
 }
 
 // Whether each turn was made, and the word that the other domain saw after it.
@@ -137,11 +105,7 @@ const TURNED: &str = "Ok(true) 200020000005 Ok(true) 300020000001 Ok(false) Ok((
 
 #[test]
 fn turns_an_entry(rt: HostRuntime) -> Result<(), Fail> {
-    let config = two_domains(rt.alloc())?;
-    let (words, mut owner, mut other) = start(rt.alloc(), &config)?;
-    assert_eq!(rt; owner.dom(), OWNER);
-    let mut row = UNUSED;
-    let _ = publish(&words, &mut owner, ENTRY, &mut row, page(5));
+    let (words, mut owner, mut other, mut row) = start_with_page(&rt, rt.alloc())?;
     let demoted = turn(&words, &mut owner, ENTRY, &mut row, true);
     let read_only = look(&words, &mut other, OWNER, ENTRY).word;
     let promoted = turn(&words, &mut owner, ENTRY, &mut row, false);
@@ -151,15 +115,13 @@ fn turns_an_entry(rt: HostRuntime) -> Result<(), Fail> {
     let text = format!(in rt.alloc();
         "{demoted:?} {read_only:x} {promoted:?} {writable:x} {again:?} {last:?}"
     )?;
-    assert_eq!(rt; text.as_str(), TURNED);
-    Ok(())
+    says(&rt, &text, TURNED)
 }
 
 // A thread that grants and revokes beside one that pins leaves the invalid word without pins.
 #[test]
 fn grants_beside_pins(rt: HostRuntime) -> Result<(), Fail> {
-    let config = two_domains(rt.alloc())?;
-    let (words, owner, other) = start(rt.alloc(), &config)?;
+    let (words, owner, other) = start(rt.alloc())?;
     let (shared, row) = (&words, UNUSED);
     let ((mut owner, mut row), ()) = join(
         &rt,

@@ -22,10 +22,12 @@ use Rattle.gt_core.proofs.Words.{Asked, Demote, Grant, Promote, Revoke, Withdraw
 use Rattle.gt_core.proofs.Words.{writes_at, IsSpelled, StepsSoFar, at_entry, first_at, FitsAsked, PhaseStands}
 use Rattle.gt_core.proofs.Words.{phase_refusal, body_at, table_at, misses, IsLegalHistory}
 use Rattle.gt_core.proofs.{Steps.Observers.unstored, Steps.Observers.answered-stays, Steps.Observers.kept-table}
-use Rattle.gt_core.proofs.{Keeping.SlotsAgree, Keeping.same-number, Keeping.counts-fit, Rows.get-changed}
-use Rattle.gt_core.proofs.{Rows.length-changed, Mappings.mappings-same, Keeping.slots-kept, Keeping.Facts}
-use Rattle.gt_core.proofs.{Keeping.facts_at, Keeping.Fits, Keeping.facts-fit, Keeping.each-stays, Keeping.all-stand}
-use Rattle.gt_core.proofs.{Keeping.own-changed, Steps.Observers.exchanged, Steps.Observers.exchanged-entry}
+use Rattle.gt_core.proofs.{AgreementKept.SlotsAgree, AgreementKept.same-number, AgreementKept.counts-fit}
+use Rattle.gt_core.proofs.{Rows.get-changed}
+use Rattle.gt_core.proofs.{Rows.length-changed, Mappings.mappings-same, AgreementKept.slots-kept, AgreementKept.Facts}
+use Rattle.gt_core.proofs.{AgreementKept.facts_at, AgreementKept.Fits, AgreementKept.facts-fit}
+use Rattle.gt_core.proofs.{AgreementKept.each-stays, AgreementKept.all-stand}
+use Rattle.gt_core.proofs.{AgreementKept.own-changed, Steps.Observers.exchanged, Steps.Observers.exchanged-entry}
 use Rattle.gt_core.proofs.{Steps.Observers.exchanged-raises, Steps.Observers.exchanged-live, Phases.none-of}
 use Rattle.gt_core.proofs.{Phases.IsHere, Phases.makes-same, Phases.by-leg, Phases.by-giving, Phases.Judged}
 use Rattle.gt_core.proofs.{Phases.Leads, Legs.late-last, Legs.late-more, Legs.control-parts, Steps.See.word-shows}

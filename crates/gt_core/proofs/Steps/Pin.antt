@@ -23,12 +23,13 @@ use Rattle.gt_core.proofs.Words.{Route, Direct, Through, Leg, AtHeader, Pinning,
 use Rattle.gt_core.proofs.Words.{generation_at, known_at, reads_at, word_at, writes_at, LegNow, MayUse, NoneStands}
 use Rattle.gt_core.proofs.Words.{StepsSoFar, leg_at, refusal_in, rule_at_pin, rule_at_via, rule_before_pin, EndsCopy}
 use Rattle.gt_core.proofs.Words.{LegHasLooked, PhaseStands, numbered, misses, IsLegalHistory}
-use Rattle.gt_core.proofs.{Steps.Observers.answered-stays, Steps.Observers.gather-append, Keeping.KeepsEntries}
-use Rattle.gt_core.proofs.{Keeping.same-body, Keeping.becomes-changed, Keeping.slots-stand, Keeping.keeps-stands}
-use Rattle.gt_core.proofs.{Keeping.same-number, Mappings.mappings-added, Mappings.mappings-same}
+use Rattle.gt_core.proofs.{Steps.Observers.answered-stays, Steps.Observers.gather-append, AgreementKept.KeepsEntries}
+use Rattle.gt_core.proofs.{AgreementKept.same-body, AgreementKept.becomes-changed, AgreementKept.slots-stand}
+use Rattle.gt_core.proofs.{AgreementKept.keeps-stands}
+use Rattle.gt_core.proofs.{AgreementKept.same-number, Mappings.mappings-added, Mappings.mappings-same}
 use Rattle.gt_core.proofs.{Steps.Observers.new_pin, Steps.Observers.pinned-live, Steps.Observers.Grows}
 use Rattle.gt_core.proofs.{Steps.Observers.grown-count, Steps.Observers.at-place, Steps.Observers.pins}
-use Rattle.gt_core.proofs.{Steps.Observers.pins_at, Keeping.counts-fit, Phases.none-of, Phases.IsHere}
+use Rattle.gt_core.proofs.{Steps.Observers.pins_at, AgreementKept.counts-fit, Phases.none-of, Phases.IsHere}
 use Rattle.gt_core.proofs.{Phases.makes-same, Phases.by-giving, Phases.of-run, Phases.words-of, Phases.Leads}
 use Rattle.gt_core.proofs.{Legs.alone, Legs.control-parts, Legs.IsAsTried, Legs.as-tried, Legs.still-judged}
 use Rattle.gt_core.proofs.{Legs.IsLegOf, Legs.ComesTo, Legs.miss-comes, Aims.pair_of, Aims.leg-here}

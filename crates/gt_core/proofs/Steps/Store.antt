@@ -13,9 +13,12 @@ use Rattle.gt_core.proofs.Words.{Step, Phase, Ending, Last, Storing, StoringSeco
 use Rattle.gt_core.proofs.Words.{SetupTable, known_at, StepsSoFar, PhaseStands, phase_refusal, entry_at}
 use Rattle.gt_core.proofs.{Steps.Observers.unstored, Steps.Observers.KeepsKnown, Steps.Observers.kept-live}
 use Rattle.gt_core.proofs.{Steps.Observers.other-table, Steps.Observers.kept-table, Steps.Observers.stepped}
-use Rattle.gt_core.proofs.{Keeping.SlotsAgree, Keeping.actor-agrees, Keeping.kept-stands, Keeping.mappings-stay}
-use Rattle.gt_core.proofs.{Keeping.same-number, Keeping.Moves, Keeping.slots-kept, Keeping.each-stays}
-use Rattle.gt_core.proofs.{Keeping.becomes-changed, Keeping.own-changed, Keeping.slots-stand, Phases.none-of}
+use Rattle.gt_core.proofs.{AgreementKept.SlotsAgree, AgreementKept.actor-agrees, AgreementKept.kept-stands}
+use Rattle.gt_core.proofs.{AgreementKept.mappings-stay}
+use Rattle.gt_core.proofs.{AgreementKept.same-number, AgreementKept.Moves, AgreementKept.slots-kept}
+use Rattle.gt_core.proofs.{AgreementKept.each-stays}
+use Rattle.gt_core.proofs.{AgreementKept.becomes-changed, AgreementKept.own-changed, AgreementKept.slots-stand}
+use Rattle.gt_core.proofs.{Phases.none-of}
 use Rattle.gt_core.proofs.{Phases.makes-same, Phases.by-leg, Phases.by-giving, Steps.Exchange.grant-invalid}
 
 -- the item of a header that is stored

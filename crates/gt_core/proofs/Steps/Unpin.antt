@@ -13,8 +13,9 @@ use Rattle.gt_core.proofs.Words.{MappingsAgree, numbered, inl, inr, ◌⊎◌, o
 use Rattle.gt_core.proofs.Words.{Done, Makes, Step, Verdict, Ending, Pins, Asked, Copy, CopyArgs, StepsSoFar, EndsCopy}
 use Rattle.gt_core.proofs.{Steps.Observers.answered-stays, Steps.Observers.cond-same, Steps.Observers.without-kept}
 use Rattle.gt_core.proofs.{Steps.Observers.IsKeyed, Steps.Observers.mapping-keyed, Steps.Observers.leg-keyed}
-use Rattle.gt_core.proofs.{Keeping.KeepsEntries, Keeping.same-body, Keeping.Becomes, Keeping.becomes-changed}
-use Rattle.gt_core.proofs.{Keeping.slots-stand, Keeping.keeps-stands, Mappings.less, Mappings.less_of}
+use Rattle.gt_core.proofs.{AgreementKept.KeepsEntries, AgreementKept.same-body, AgreementKept.Becomes}
+use Rattle.gt_core.proofs.{AgreementKept.becomes-changed}
+use Rattle.gt_core.proofs.{AgreementKept.slots-stand, AgreementKept.keeps-stands, Mappings.less, Mappings.less_of}
 use Rattle.gt_core.proofs.{Mappings.mappings-taken, Mappings.mappings-same, Rows.state-changed, Steps.Observers.pins_at}
 use Rattle.gt_core.proofs.{Steps.Pin.pins-fit, Steps.Observers.all-without, Steps.Observers.unpinned-live}
 use Rattle.gt_core.proofs.{Steps.Observers.unpins, Phases.by-giving, Phases.Placed}

@@ -2,12 +2,12 @@
 ghost use Rattle.std.specs.Prelude.{◌≡◌, ◌+◌, ◌≤◌, length, IfOk, IfErr};
 ghost use Rattle.gt_types.specs.declared.Dir.TheVariants as dirs;
 ghost use Rattle.gt_types.specs.declared.Use.TheVariants as uses;
-ghost use Rattle.gt_words.specs.Conditions.{IsSameSeat, IsSeatOf};
+ghost use Rattle.gt_words.specs.Conditions.{IsSeatOf};
 ghost use Rattle.gt_access.specs.Accesses.{IsReadOf, writing_at};
 ghost use Rattle.gt_access.specs.Routes.{MayAccessBy, ReachesBy};
 ghost use Rattle.gt_calls.specs.declared.request.Request.TheVariants as requests;
 ghost use Rattle.gt_live.specs.Accesses.{IsOfAccess, IsReadBy, IsWrittenBy};
-ghost use Rattle.gt_live.specs.Domains.{Accesses, BelongsTo, KeepsPinned, not_made};
+ghost use Rattle.gt_live.specs.Domains.{AccessesQuietly, BelongsTo, StaysIn, not_made};
 ghost use Rattle.gt_live.specs.Visiting.{HasVisited, WasRead, WasWritten};
 
 use super::{Domain, refusal_of};
@@ -15,7 +15,7 @@ use crate::monitor::Monitor;
 use gt_access::{Refused, Run, read_by, write_by};
 use gt_calls::{Handle, Route, judge_load, judge_own_access, judge_store};
 use gt_frames::{FrameName, Read, Visits, Written};
-use gt_types::{Allows, Denial, Facts, Range, Rule};
+use gt_types::{Allows, Denial, FRAME_SIZE, Facts, Range, Rule};
 use gt_words::Seat;
 use std::alloc::Global;
 use std::sync::Wait;
@@ -27,6 +27,21 @@ pub(super) fn not_made(refused: Refused) -> Denial
     match refused {
         Refused::Gone => Denial::new(Rule::N16, Facts::None),
         Refused::Memory => Denial::new(Rule::N26, Facts::None),
+    }
+}
+
+// The run that the accesses of a monitor's domains belong to.
+pub(super) fn run_of<P: Allows>(monitor: &Monitor<P>) -> Run<'_, P>
+    ensures words { result.words.now ≡ monitor.now.words }
+    ensures config { result.config.now ≡ monitor.now.config }
+    ensures rights { result.rights.now ≡ monitor.now.rights }
+    ensures pool { result.pool.now ≡ monitor.now.pool }
+{
+    Run {
+        words: &monitor.words,
+        config: &monitor.config,
+        rights: &monitor.rights,
+        pool: &monitor.pool,
     }
 }
 
@@ -46,7 +61,7 @@ fn read_through<R: Wait, P: Allows>(
     requires seat { IsSeatOf monitor.now.words seat.now }
     requires reached { ReachesBy monitor.now.words.layout seat.now dirs.Read uses.Map name off len route.now }
     requires may { MayAccessBy monitor.now.config.domains.items (P.may monitor.now.rights) seat.now.dom route.now }
-    requires range { off + len ≤ 4096 }
+    requires range { off + len ≤ FRAME_SIZE }
     ensures read { IfOk result (λ r. IsReadOf r name off len) }
     ensures refused { IfErr result IsOfAccess }
     ensures visited { HasVisited WasRead result visits.old visits.new }
@@ -54,12 +69,7 @@ fn read_through<R: Wait, P: Allows>(
     let Ok(room) = Vec::with_capacity(alloc, usize::from(len)) else {
         return Err(not_made(Refused::Memory));
     };
-    let run = Run {
-        words: &monitor.words,
-        config: &monitor.config,
-        rights: &monitor.rights,
-        pool: &monitor.pool,
-    };
+    let run = run_of(monitor);
     match read_by(
         rt,
         &run,
@@ -91,17 +101,12 @@ fn write_through<'a, R: Wait, P: Allows>(
     requires reached { ReachesBy monitor.now.words.layout seat.now dirs.Write uses.Map
         name off (length bytes.now) route.now }
     requires may { MayAccessBy monitor.now.config.domains.items (P.may monitor.now.rights) seat.now.dom route.now }
-    requires range { off + length bytes.now ≤ 4096 }
+    requires range { off + length bytes.now ≤ FRAME_SIZE }
     ensures written { IfOk result (λ r. r ≡ writing_at name off bytes.entry.now seat.now.dom) }
     ensures refused { IfErr result IsOfAccess }
     ensures visited { HasVisited WasWritten result visits.old visits.new }
 {
-    let run = Run {
-        words: &monitor.words,
-        config: &monitor.config,
-        rights: &monitor.rights,
-        pool: &monitor.pool,
-    };
+    let run = run_of(monitor);
     match write_by(rt, &run, seat, visits, route, name, off, bytes) {
         Ok(written) => Ok(written),
         Err(refused) => Err(not_made(refused)),
@@ -122,12 +127,9 @@ impl Domain {
         len: u16,
     ) -> Result<Read, Denial>
         requires mine { BelongsTo P.may monitor.now self.old }
-        ensures mine { BelongsTo P.may monitor.now self.new }
-        ensures seat { IsSameSeat self.old.seat self.new.seat }
-        ensures answered { Accesses P.may monitor.now self.old (requests.Load handle off len) IsReadBy result self.new }
-        ensures kept { KeepsPinned self.old self.new }
-        ensures silent { self.new.trail ≡ self.old.trail }
-        ensures visited { HasVisited WasRead result self.old.visits self.new.visits }
+        ensures stays { StaysIn P.may monitor.now self.old self.new }
+        ensures answers { AccessesQuietly P.may monitor.now self.old
+            (requests.Load handle off len) IsReadBy WasRead result self.new }
     {
         if let Some(verdict) = judge_load(&self.mappings, handle, off, len) {
             return Err(refusal_of(verdict));
@@ -155,12 +157,9 @@ impl Domain {
         len: u16,
     ) -> Result<Read, Denial>
         requires mine { BelongsTo P.may monitor.now self.old }
-        ensures mine { BelongsTo P.may monitor.now self.new }
-        ensures seat { IsSameSeat self.old.seat self.new.seat }
-        ensures answered { Accesses P.may monitor.now self.old (requests.Peek frame off len) IsReadBy result self.new }
-        ensures kept { KeepsPinned self.old self.new }
-        ensures silent { self.new.trail ≡ self.old.trail }
-        ensures visited { HasVisited WasRead result self.old.visits self.new.visits }
+        ensures stays { StaysIn P.may monitor.now self.old self.new }
+        ensures answers { AccessesQuietly P.may monitor.now self.old
+            (requests.Peek frame off len) IsReadBy WasRead result self.new }
     {
         let caller = self.seat.dom();
         let config = &monitor.config;
@@ -198,13 +197,10 @@ impl Domain {
         bytes: &'a [u8],
     ) -> Result<Written<'a>, Denial>
         requires mine { BelongsTo P.may monitor.now self.old }
-        ensures mine { BelongsTo P.may monitor.now self.new }
-        ensures seat { IsSameSeat self.old.seat self.new.seat }
-        ensures answered { Accesses P.may monitor.now self.old
-            (requests.Store handle off bytes.entry) (IsWrittenBy self.old.seat.dom bytes.entry.now) result self.new }
-        ensures kept { KeepsPinned self.old self.new }
-        ensures silent { self.new.trail ≡ self.old.trail }
-        ensures visited { HasVisited WasWritten result self.old.visits self.new.visits }
+        ensures stays { StaysIn P.may monitor.now self.old self.new }
+        ensures answers { AccessesQuietly P.may monitor.now self.old
+            (requests.Store handle off bytes.entry) (IsWrittenBy self.old.seat.dom bytes.entry.now)
+            WasWritten result self.new }
     {
         if let Some(verdict) = judge_store(&self.mappings, handle, off, bytes.len()) {
             return Err(refusal_of(verdict));
@@ -232,13 +228,10 @@ impl Domain {
         bytes: &'a [u8],
     ) -> Result<Written<'a>, Denial>
         requires mine { BelongsTo P.may monitor.now self.old }
-        ensures mine { BelongsTo P.may monitor.now self.new }
-        ensures seat { IsSameSeat self.old.seat self.new.seat }
-        ensures answered { Accesses P.may monitor.now self.old
-            (requests.Poke frame off bytes.entry) (IsWrittenBy self.old.seat.dom bytes.entry.now) result self.new }
-        ensures kept { KeepsPinned self.old self.new }
-        ensures silent { self.new.trail ≡ self.old.trail }
-        ensures visited { HasVisited WasWritten result self.old.visits self.new.visits }
+        ensures stays { StaysIn P.may monitor.now self.old self.new }
+        ensures answers { AccessesQuietly P.may monitor.now self.old
+            (requests.Poke frame off bytes.entry) (IsWrittenBy self.old.seat.dom bytes.entry.now)
+            WasWritten result self.new }
     {
         let caller = self.seat.dom();
         let config = &monitor.config;

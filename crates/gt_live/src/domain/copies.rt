@@ -20,17 +20,15 @@ ghost use Rattle.gt_live.specs.Halves.{ComesHalfway, EndsHalfway, IsHalfway, don
 ghost use Rattle.gt_live.specs.Underway.{AreOfRun, GivesBack, HasTaken};
 ghost use Rattle.gt_live.specs.Visiting.{HasVisited, WasCopied};
 
-use super::bytes::not_made;
-use super::{Domain, refusal_of, tell_done, tell_refusal};
+use super::bytes::{not_made, run_of};
+use super::{Domain, known_with, refusal_of, tell_done, tell_refusal};
 use crate::monitor::Monitor;
 use crate::routes::{drive_copy, give_back};
-use gt_access::{Run, copy_by};
+use gt_access::copy_by;
 use gt_audit::{Hypercall, Record, Reply};
-use gt_calls::{
-    Asked, Call, CopyArgs, Known, Phase, Pins, Route, Spot, Verdict, judge_copy, place_of,
-};
+use gt_calls::{Asked, Call, CopyArgs, Phase, Pins, Route, Spot, Verdict, judge_copy, place_of};
 use gt_frames::{Copied, Visits};
-use gt_types::{Allows, Denial, DomId};
+use gt_types::{Allows, Denial, DomId, FRAME_SIZE};
 use gt_words::Seat;
 use std::sync::Wait;
 
@@ -51,18 +49,13 @@ fn copy_through<R: Wait, P: Allows>(
     requires dest { ReachesBy monitor.now.words.layout seat.now dirs.Write uses.Copy
         to.frame to.off len routes.now.dest }
     requires may { MayCopyBy monitor.now.config.domains.items (P.may monitor.now.rights) seat.now.dom routes.now }
-    requires source_range { from.off + len ≤ 4096 }
-    requires dest_range { to.off + len ≤ 4096 }
+    requires source_range { from.off + len ≤ FRAME_SIZE }
+    requires dest_range { to.off + len ≤ FRAME_SIZE }
     ensures copied { IfOk result (λ r. r ≡ copying_at from to len seat.now.dom) }
     ensures refused { IfErr result IsOfAccess }
     ensures visited { HasVisited WasCopied result visits.old visits.new }
 {
-    let run = Run {
-        words: &monitor.words,
-        config: &monitor.config,
-        rights: &monitor.rights,
-        pool: &monitor.pool,
-    };
+    let run = run_of(monitor);
     match copy_by(rt, &run, seat, visits, routes, from, to, len) {
         Ok(copied) => Ok(copied),
         Err(refused) => Err(not_made(refused)),
@@ -147,13 +140,7 @@ impl Domain {
         ensures stops { StopsSo (known_on P.may monitor.now self.old) monitor.now.words.layout
             self.old.seat.dom copy.now (filled result pins.new) self.old.seat.view self.new.seat.view }
     {
-        let known = Known {
-            config: &monitor.config,
-            rights: &monitor.rights,
-            own: &self.own,
-            header: self.seat.header(),
-            mappings: &self.mappings,
-        };
+        let known = known_with(monitor, &self.seat, &self.own, &self.mappings);
         let caller = self.seat.dom();
         drive_copy(&monitor.words, &known, &mut self.seat, caller, copy, pins)
     }

@@ -9,7 +9,7 @@ use Rattle.bench_words.proofs.loads.grant_each.Goals as goal
 pub loop-preserved : goal.loop-preserved
 loop-preserved c = let b = c.args.words.now in let inv = c.loop.invariant in
     let popped = All-pop (λ (s : SeatOf). IsSeatOf b s) c.loop.seats.items c.pop.new.self.items (Some c.in-Some.seat) c.in-Some.ensures.items inv.seats in record {
-      owner = still_seat b _ _ inv.owner c.publish.ensures.seat;
+      owner = still_seat b _ _ inv.owner c.publish.ensures.owner.0;
       unused = λ r from. c.publish.ensures.others r (omega (arith, c.requires.stride.0)) ∙ inv.unused r (omega (arith, from));
       seats = popped.0;
       mappers = All-same (λ (m : Mapper). CanMap b m.seat m.target) _ _ c.in_ok-push.ensures.items (All-push (λ (m : Mapper). CanMap b m.seat m.target) _ _ inv.mappers (record {

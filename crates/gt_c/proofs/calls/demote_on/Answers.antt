@@ -15,5 +15,5 @@ returns c =
       result = c.demote.result;
       encodes = c.of-answer.ensures ∙ ap encoded c.done.ensures;
       stays = c.demote.ensures.stays;
-      holds = (c.demote.ensures.answered, c.demote.ensures.kept, c.demote.ensures.silent);
+      holds = c.demote.ensures.answers;
     })

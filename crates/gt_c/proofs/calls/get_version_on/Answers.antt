@@ -17,5 +17,5 @@ returns c =
       result = c.get_version.result;
       encodes = c.of-answer.ensures ∙ ap encoded c.version_said.ensures;
       stays = c.get_version.ensures.stays;
-      holds = (c.get_version.ensures.answered, c.get_version.ensures.kept, c.get_version.ensures.told);
+      holds = c.get_version.ensures.answers;
     })

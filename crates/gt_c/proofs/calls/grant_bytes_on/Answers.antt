@@ -18,6 +18,6 @@ returns c =
         result = c.grant_bytes.result;
         encodes = c.of-answer.ensures ∙ ap encoded c.done.ensures;
         stays = c.grant_bytes.ensures.stays;
-        holds = (c.grant_bytes.ensures.answered, c.grant_bytes.ensures.kept, c.grant_bytes.ensures.silent);
+        holds = c.grant_bytes.ensures.answers;
       },
     )

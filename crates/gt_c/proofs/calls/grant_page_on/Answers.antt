@@ -1,6 +1,6 @@
 use Rattle.std.proofs.Common.{ap, subst, ◌∙◌}
 use Rattle.gt_entry.specs.declared.entry.Entry.{Entry}
-use Rattle.gt_live.specs.Domains.{Answered, verdict_of}
+use Rattle.gt_live.specs.Domains.{AnswersQuietly, verdict_of}
 use Rattle.gt_seat.specs.Encoding.{encoded}
 use Rattle.gt_calls.specs.declared.request.Request.TheVariants as requests
 use Rattle.gt_c.specs.Asking.{page}
@@ -18,5 +18,5 @@ returns c =
       result = c.grant.result;
       encodes = c.of-answer.ensures ∙ ap encoded c.done.ensures;
       stays = c.grant.ensures.stays;
-      holds = (subst (λ (y : Entry). Answered may c.deref_mut.result.now.guest.monitor c.deref_mut.result.now.guest.domain (requests.Grant (ref_at c.args.gref) y) (verdict_of c.grant.result) c.grant.new.self.domain) c.page.ensures c.grant.ensures.answered, c.grant.ensures.kept, c.grant.ensures.silent);
+      holds = subst (λ (y : Entry). AnswersQuietly may c.deref_mut.result.now.guest.monitor c.deref_mut.result.now.guest.domain (requests.Grant (ref_at c.args.gref) y) (verdict_of c.grant.result) c.grant.new.self.domain) c.page.ensures c.grant.ensures.answers;
     })

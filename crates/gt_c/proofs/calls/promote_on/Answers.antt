@@ -15,5 +15,5 @@ returns c =
       result = c.promote.result;
       encodes = c.of-answer.ensures ∙ ap encoded c.done.ensures;
       stays = c.promote.ensures.stays;
-      holds = (c.promote.ensures.answered, c.promote.ensures.kept, c.promote.ensures.silent);
+      holds = c.promote.ensures.answers;
     })

@@ -17,5 +17,5 @@ returns c =
       result = c.query_size.result;
       encodes = c.of-answer.ensures ∙ ap encoded c.size_said.ensures;
       stays = c.query_size.ensures.stays;
-      holds = (c.query_size.ensures.answered, c.query_size.ensures.kept, c.query_size.ensures.told);
+      holds = c.query_size.ensures.answers;
     })

@@ -15,5 +15,5 @@ returns c =
       result = c.revoke.result;
       encodes = c.of-answer.ensures ∙ ap encoded c.done.ensures;
       stays = c.revoke.ensures.stays;
-      holds = (c.revoke.ensures.answered, c.revoke.ensures.kept, c.revoke.ensures.silent);
+      holds = c.revoke.ensures.answers;
     })

@@ -17,5 +17,5 @@ returns c =
       result = c.set_version.result;
       encodes = c.of-answer.ensures ∙ ap encoded c.done.ensures;
       stays = c.set_version.ensures.stays;
-      holds = (c.set_version.ensures.answered, c.set_version.ensures.kept, c.set_version.ensures.told);
+      holds = c.set_version.ensures.answers;
     })

@@ -17,5 +17,5 @@ returns c =
       result = c.setup_table.result;
       encodes = c.of-answer.ensures ∙ ap encoded c.frames_said.ensures;
       stays = c.setup_table.ensures.stays;
-      holds = (c.setup_table.ensures.answered, c.setup_table.ensures.kept, c.setup_table.ensures.told);
+      holds = c.setup_table.ensures.answers;
     })

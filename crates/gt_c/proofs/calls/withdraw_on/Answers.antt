@@ -15,5 +15,5 @@ returns c =
       result = c.withdraw.result;
       encodes = c.of-answer.ensures ∙ ap encoded c.done.ensures;
       stays = c.withdraw.ensures.stays;
-      holds = (c.withdraw.ensures.answered, c.withdraw.ensures.kept, c.withdraw.ensures.silent);
+      holds = c.withdraw.ensures.answers;
     })

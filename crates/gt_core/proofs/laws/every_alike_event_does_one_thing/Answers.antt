@@ -1,4 +1,4 @@
-use Rattle.gt_core.proofs.Together.{does-alike, alike-grows}
+use Rattle.gt_core.proofs.AlikeRuns.{does-alike, alike-grows}
 use Rattle.gt_core.proofs.laws.every_alike_event_does_one_thing.Goals as goal
 
 pub returns : goal.returns

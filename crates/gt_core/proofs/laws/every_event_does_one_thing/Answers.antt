@@ -1,4 +1,4 @@
-use Rattle.gt_core.proofs.{Words.sym, Words.◌∙◌, Together.same-element, Together.does}
+use Rattle.gt_core.proofs.{Words.sym, Words.◌∙◌, AlikeRuns.same-element, AlikeRuns.does}
 use Rattle.gt_core.proofs.laws.every_event_does_one_thing.Goals as goal
 
 pub returns : goal.returns

@@ -1,4 +1,4 @@
-use Rattle.gt_core.proofs.{Words.◌<◌, Words.length, Words.arith, Settling.rest-more}
+use Rattle.gt_core.proofs.{Words.◌<◌, Words.length, Words.arith, CallsOver.rest-more}
 use Rattle.gt_core.proofs.machine.start_domains.Goals as goal
 
 pub loop-domain-preserved : goal.loop-domain-preserved

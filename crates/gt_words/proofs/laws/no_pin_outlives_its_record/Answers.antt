@@ -1,4 +1,4 @@
-use Rattle.gt_words.proofs.Ended.{none_outlives}
+use Rattle.gt_words.proofs.PinsGone.{none_outlives}
 use Rattle.gt_words.proofs.laws.no_pin_outlives_its_record.Goals as goal
 
 pub returns : goal.returns

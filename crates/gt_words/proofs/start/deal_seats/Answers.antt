@@ -7,7 +7,7 @@ use Rattle.gt_words.specs.Conditions.{SeatOf}
 use Rattle.gt_words.specs.Places.{IsNewPlace}
 use Rattle.gt_words.specs.Rule.{layout_of}
 use Rattle.gt_words.specs.declared.view.View.{View}
-use Rattle.gt_words.proofs.Dealt.{dealer_stays, dealt_is_new}
+use Rattle.gt_words.proofs.SeatsDealt.{dealer_stays, dealt_is_new}
 use Rattle.gt_words.proofs.Lists.{one_behind, one_in_front}
 use Rattle.gt_words.proofs.Opens.{deals}
 use Rattle.gt_words.proofs.start.deal_seats.Goals as goal

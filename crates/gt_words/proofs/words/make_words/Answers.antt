@@ -8,7 +8,7 @@ use Rattle.gt_words.specs.Conditions.{SeatOf}
 use Rattle.gt_words.specs.Rule.{Layout, layout_of}
 use Rattle.gt_words.specs.declared.word_table.TheConstants.{DOMAIN_WORDS}
 use Rattle.gt_words.specs.declared.view.View.{View}
-use Rattle.gt_words.proofs.Dealt.{first_is_new}
+use Rattle.gt_words.proofs.SeatsDealt.{first_is_new}
 use Rattle.gt_words.proofs.Opens.{opens, headers_ok}
 use Rattle.gt_words.proofs.words.make_words.Goals as goal
 

@@ -1,7 +1,7 @@
 use Rattle.gt_core.proofs.Words.{◌≡◌, ℕ, length, Option, Some, None, refl, sym, ap, ◌∙◌, subst, set, same_Some}
 use Rattle.gt_core.proofs.Words.{slice_get_read, slice_get, IsTrue, bytes_at, FrameSet, frame_at, has_range, Open, Step}
 use Rattle.gt_core.proofs.Words.{BytesAnswer, State, IsLoading, asked_in, IsReadable, with_underway, Closed, vec_len}
-use Rattle.gt_core.proofs.{Placed.ids-set, Settling.loaded, Settling.closed-plain}
+use Rattle.gt_core.proofs.{Placed.ids-set, CallsOver.loaded, CallsOver.closed-plain}
 use Rattle.gt_core.proofs.kept.Machine.close.Goals as goal
 
 pub read_bytes-bytes-requires : goal.read_bytes-bytes-requires

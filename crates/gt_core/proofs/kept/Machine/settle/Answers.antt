@@ -2,7 +2,7 @@ use Rattle.gt_core.proofs.{Words.◌≡◌, Words.length, Words.Some, Words.None
 use Rattle.gt_core.proofs.{Words.subst, Words.set, Words.same_Some, Words.slice_get_read, Words.HandleMap, Words.Held}
 use Rattle.gt_core.proofs.{Words.Action, Words.Done, Words.Verdict, Words.Mapped, Words.Option, Words.Open, Words.State}
 use Rattle.gt_core.proofs.{Words.Adds, Words.with_underway, Words.with_mapping, Words.Settled, Words.IsMapping}
-use Rattle.gt_core.proofs.{Words.IsRoomFor, Words.asked_in, Placed.ids-set, Settling.ended-plain}
+use Rattle.gt_core.proofs.{Words.IsRoomFor, Words.asked_in, Placed.ids-set, CallsOver.ended-plain}
 use Rattle.gt_core.proofs.kept.Machine.settle.Goals as goal
 
 pub returns-in-Mapped-clause-settles : goal.returns-in-Mapped-clause-settles

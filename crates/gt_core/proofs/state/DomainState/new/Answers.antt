@@ -1,6 +1,6 @@
 use Rattle.gt_core.proofs.{Words.HandleMap, Words.Held, Words.◌≡◌, Words.◌∙◌, Words.ℕ, Words.None, Words.Invalid}
 use Rattle.gt_core.proofs.{Words.replicate, Words.refl, Words.subst, Words.sym, Words.ap, Words.Header, Words.Own}
-use Rattle.gt_core.proofs.{Words.PinCounts, Words.State, Words.first_state, Words.ENTRIES, Settling.at-rest}
+use Rattle.gt_core.proofs.{Words.PinCounts, Words.State, Words.first_state, Words.ENTRIES, CallsOver.at-rest}
 use Rattle.gt_core.proofs.state.DomainState.new.Goals as goal
 
 pub returns : goal.returns

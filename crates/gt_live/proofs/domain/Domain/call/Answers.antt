@@ -7,7 +7,7 @@ use Rattle.gt_live.specs.Ending.{IsAnswerTo, IsOfMapping, WaitsForNobody}
 use Rattle.gt_live.specs.Walks.{Called}
 use Rattle.gt_live.proofs.Knowing.{at-once-answer, once-tells}
 use Rattle.gt_live.proofs.Making.{same_seat-self}
-use Rattle.gt_live.proofs.Once.{answered-once}
+use Rattle.gt_live.proofs.AnsweredAtOnce.{answered-once}
 use Rattle.gt_live.proofs.domain.Domain.call.Goals as goal
 
 pub returns-in-Done : goal.returns-in-Done
@@ -17,13 +17,14 @@ returns-in-Done g c =
     let once = answered-once (knowledge m.config (g.P.Allows.may m.rights) d) d.seat.dom c.args.request verdict c.requires.waits.0 s.0 in
     let tells = once-tells m.words.layout d.seat.view r verdict once in
     record {
-      mine = c.requires.mine;
-      seat = same_seat-self d.seat;
-      answered = record { steps = []; view = refl; walked = tt; moments = tt; answered = s.1; carried = tells };
+      stays = (c.requires.mine, same_seat-self d.seat);
+      answers = (
+        record { steps = []; view = refl; walked = tt; moments = tt; answered = s.1; carried = tells },
+        (record { slots = refl; given = refl }, λ t r. refl),
+        refl,
+        refl,
+      );
       answer = at-once-answer r verdict once;
-      kept = (record { slots = refl; given = refl }, λ t r. refl);
-      silent = refl;
-      untouched = refl;
     }
 
 pub run-requires-clause-opened : goal.run-requires-clause-opened
@@ -41,11 +42,12 @@ returns-in-Open g c =
     let m = c.args.monitor.now in let d = c.args.self.now in let s = c.in-Open.ensures in let e = c.run.ensures in
     let v = c.run.result in let end = c.run.new.self.seat.view in
     record {
-      mine = e.mine;
-      seat = e.seat;
-      answered = subst (λ (way : Continuation). Called m.words.layout way v d.seat.view end) (sym s.5) e.called;
+      stays = (e.mine, e.seat);
+      answers = (
+        subst (λ (way : Continuation). Called m.words.layout way v d.seat.view end) (sym s.5) e.called,
+        e.kept,
+        e.silent,
+        e.untouched,
+      );
       answer = subst (λ (r : Asked). IsAnswerTo r v) s.3 e.answer;
-      kept = e.kept;
-      silent = e.silent;
-      untouched = e.untouched;
     }

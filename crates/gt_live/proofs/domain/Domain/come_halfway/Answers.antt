@@ -9,7 +9,7 @@ use Rattle.gt_live.specs.Copies.{halfway_with}
 use Rattle.gt_live.specs.Halves.{ComesHalfway}
 use Rattle.gt_live.proofs.Accessing.{refused-begun}
 use Rattle.gt_live.proofs.Copied.{access-dest, access-dest-range, access-may, access-source, access-source-range}
-use Rattle.gt_live.proofs.Kept.{looked}
+use Rattle.gt_live.proofs.DomainKept.{looked}
 use Rattle.gt_live.proofs.Making.{still_seat}
 use Rattle.gt_live.proofs.domain.Domain.come_halfway.Goals as goal
 

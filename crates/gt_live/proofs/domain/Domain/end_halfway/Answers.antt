@@ -6,7 +6,7 @@ use Rattle.gt_live.specs.Underway.{AreOfRun, HasTaken}
 use Rattle.gt_live.proofs.GivingBack.{gives-routes}
 use Rattle.gt_calls.specs.declared.held.Held.{Held}
 use Rattle.gt_handles.specs.Handles.{HandleMap}
-use Rattle.gt_live.proofs.Kept.{looked}
+use Rattle.gt_live.proofs.DomainKept.{looked}
 use Rattle.gt_live.proofs.Making.{same_seat-then, still_seat}
 use Rattle.gt_live.proofs.Taking.{all-back}
 use Rattle.gt_live.proofs.domain.Domain.end_halfway.Goals as goal

@@ -1,4 +1,4 @@
-use Rattle.gt_live.proofs.Kept.{without-pins}
+use Rattle.gt_live.proofs.DomainKept.{without-pins}
 use Rattle.gt_live.proofs.Moments.{released-moments}
 use Rattle.gt_live.proofs.domain.Domain.finish.Goals as goal
 

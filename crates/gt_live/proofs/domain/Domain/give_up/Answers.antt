@@ -20,10 +20,10 @@ use Rattle.gt_calls.specs.declared.request.Holder.TheVariants.{Mapping as ByHand
 use Rattle.gt_calls.specs.declared.request.Request.TheVariants as requests
 use Rattle.gt_live.specs.Domains.{knowledge}
 use Rattle.gt_live.proofs.Accessing.{mapped-way, none-left, refused-called, refuses}
-use Rattle.gt_live.proofs.Kept.{some-pins, unmapped}
+use Rattle.gt_live.proofs.DomainKept.{some-pins, unmapped}
 use Rattle.gt_live.proofs.Making.{same_seat-self, still_seat}
 use Rattle.gt_live.proofs.Maps.{one-step}
-use Rattle.gt_live.proofs.Once.{mapping-refused}
+use Rattle.gt_live.proofs.AnsweredAtOnce.{mapping-refused}
 use Rattle.gt_live.proofs.domain.Domain.give_up.Goals as goal
 
 -- what was taken out under this handle

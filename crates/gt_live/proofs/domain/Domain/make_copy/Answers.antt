@@ -15,7 +15,7 @@ use Rattle.gt_live.specs.Accesses.{IsCopiedBy}
 use Rattle.gt_live.proofs.Accessing.{refused-access}
 use Rattle.gt_live.proofs.Copied.{access-dest, access-dest-range, access-may, access-source, access-source-range}
 use Rattle.gt_live.proofs.Copied.{made-whole}
-use Rattle.gt_live.proofs.Kept.{looked}
+use Rattle.gt_live.proofs.DomainKept.{looked}
 use Rattle.gt_live.proofs.Making.{same_seat-then, still_seat}
 use Rattle.gt_live.proofs.Taking.{all-back}
 use Rattle.gt_live.proofs.domain.Domain.make_copy.Goals as goal

@@ -15,10 +15,10 @@ use Rattle.gt_live.specs.Driving.{IsSame}
 use Rattle.gt_live.specs.Maps.{pin_verdict}
 use Rattle.gt_live.specs.Walks.{Called}
 use Rattle.gt_live.proofs.Accessing.{none-left, refused-called, refuses}
-use Rattle.gt_live.proofs.Kept.{looked, mapped}
+use Rattle.gt_live.proofs.DomainKept.{looked, mapped}
 use Rattle.gt_live.proofs.Knowing.{roomier-inserted}
 use Rattle.gt_live.proofs.Making.{same-self, same_seat-self, still_seat}
-use Rattle.gt_live.proofs.Once.{mapping-refused}
+use Rattle.gt_live.proofs.AnsweredAtOnce.{mapping-refused}
 use Rattle.gt_live.proofs.domain.Domain.make_mapping.Goals as goal
 
 on-ok : {A E : Type 0} (r : Result A E) (B : Type 0) → is_err r ≡ false → OnOk r B → B

@@ -12,7 +12,7 @@ use Rattle.gt_calls.specs.declared.request.Request.TheVariants as requests
 use Rattle.gt_live.specs.declared.domain.Domain.{Domain}
 use Rattle.gt_live.specs.declared.monitor.Monitor.{Monitor}
 use Rattle.gt_live.specs.Domains.{MapAnswered, AllowRelation, mapping_reply}
-use Rattle.gt_live.proofs.Kept.{retold}
+use Rattle.gt_live.proofs.DomainKept.{retold}
 use Rattle.gt_live.proofs.domain.Domain.map.Goals as goal
 
 pub returns-clause-mine : goal.returns-clause-mine

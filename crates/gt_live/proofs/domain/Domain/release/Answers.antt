@@ -6,7 +6,7 @@ use Rattle.gt_words.specs.Controls.{generation_of}
 use Rattle.gt_words.specs.Rule.{position_in}
 use Rattle.gt_words.specs.declared.words.Pin.{Pin}
 use Rattle.gt_live.specs.declared.domain.Domain.{Domain}
-use Rattle.gt_live.proofs.Kept.{some-pins, unmapped}
+use Rattle.gt_live.proofs.DomainKept.{some-pins, unmapped}
 use Rattle.gt_live.proofs.Making.{same_seat-self, same_seat-then, still_seat}
 use Rattle.gt_live.proofs.domain.Domain.release.Goals as goal
 

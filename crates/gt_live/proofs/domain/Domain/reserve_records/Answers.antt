@@ -1,5 +1,5 @@
 use Rattle.std.proofs.Common.{refl}
-use Rattle.gt_live.proofs.Kept.{retold}
+use Rattle.gt_live.proofs.DomainKept.{retold}
 use Rattle.gt_live.proofs.domain.Domain.reserve_records.Goals as goal
 
 pub returns-clause-mine : goal.returns-clause-mine

@@ -10,7 +10,7 @@ use Rattle.gt_live.specs.declared.driving.Effect.{Effect}
 use Rattle.gt_live.specs.Domains.{knowledge}
 use Rattle.gt_live.specs.Driving.{ChangesBy, IsSame, Leaves}
 use Rattle.gt_live.specs.Rows.{row_changed}
-use Rattle.gt_live.proofs.Kept.{changed, looked}
+use Rattle.gt_live.proofs.DomainKept.{changed, looked}
 use Rattle.gt_live.proofs.Knowing.{unchanged}
 use Rattle.gt_live.proofs.Making.{still_seat}
 use Rattle.gt_live.proofs.domain.Domain.run.Goals as goal

@@ -11,7 +11,10 @@ use Rattle.gt_handles.specs.Handles.{value_of}
 use Rattle.gt_live.specs.Accesses.{IsWrittenBy, frame_named}
 use Rattle.gt_live.specs.Domains.{knowledge}
 use Rattle.gt_live.proofs.Accessing.{mapped-way, none-left, one-access, refused-access, reaches-mapped, writes-by}
-use Rattle.gt_live.proofs.Kept.{retold}
+use Rattle.gt_live.proofs.DomainKept.{retold}
+use Rattle.gt_live.proofs.Making.{same_seat-self}
+use Rattle.gt_live.proofs.Visiting.{none_visited}
+use Rattle.gt_live.specs.Visiting.{WasWritten}
 use Rattle.gt_live.proofs.domain.Domain.store.Goals as goal
 
 pub write_through-requires-clause-reached : goal.write_through-requires-clause-reached
@@ -27,21 +30,32 @@ write_through-requires-clause-may g c =
     let there : value_of d.mappings c.args.handle ≡ Some held = sym c.get.ensures.value ∙ ap option_copied c.unwrap-held.ensures in
     (c.requires.mine.mapped c.args.handle held there).allowed
 
-pub returns-clause-answered : goal.returns-clause-answered
-returns-clause-answered g c =
+pub returns-clause-answers : goal.returns-clause-answers
+returns-clause-answers g c =
     let m = c.args.monitor.now in let d = c.args.self.now in let may = g.P.Allows.may m.rights in let held = c.unwrap-held.result.now in
     let there : value_of d.mappings c.args.handle ≡ Some held = sym c.get.ensures.value ∙ ap option_copied c.unwrap-held.ensures in
     let k = knowledge m.config may d in
-    let way = mapped-way k d.seat.dom (requests.Store c.args.handle c.args.off c.args.bytes) c.args.handle held (λ (p : Held). steps.Write p.dom (frame_of p.entry) c.args.off (length c.args.bytes.now)) (sym c.judge_store.ensures ∙ none-left c.judge_store.result c.in_default.not-Some) there refl in
-    one-access m.words.layout _ (steps.Write held.dom (frame_of held.entry) c.args.off (length c.args.bytes.now)) (IsWrittenBy d.seat.dom c.args.bytes.now) c.write_through.result d.seat.view tt way (subst (λ (n : ℕ). IfOk c.write_through.result (λ (r : Writing). r ≡ writing_at (frame_named held.dom n) c.args.off c.args.bytes.now d.seat.dom)) c.frame.ensures c.write_through.ensures.written) c.write_through.ensures.refused
+    let way = mapped-way k d.seat.dom (requests.Store c.args.handle c.args.off c.args.bytes) c.args.handle held (λ (p : Held). steps.Write p.dom (frame_of p.entry) c.args.off (length c.args.bytes.now)) (sym c.judge_store.ensures ∙ none-left c.judge_store.result c.in_default.not-Some) there refl in (
+      one-access m.words.layout _ (steps.Write held.dom (frame_of held.entry) c.args.off (length c.args.bytes.now)) (IsWrittenBy d.seat.dom c.args.bytes.now) c.write_through.result d.seat.view tt way (subst (λ (n : ℕ). IfOk c.write_through.result (λ (r : Writing). r ≡ writing_at (frame_named held.dom n) c.args.off c.args.bytes.now d.seat.dom)) c.frame.ensures c.write_through.ensures.written) c.write_through.ensures.refused,
+      (record { slots = refl; given = refl }, λ t r. refl),
+      refl,
+      c.write_through.ensures.visited,
+    )
 
-pub returns-in-Some-clause-answered : goal.returns-in-Some-clause-answered
-returns-in-Some-clause-answered g c =
-    let m = c.args.monitor.now in let d = c.args.self.now in
-    refused-access m.words.layout (knowledge m.config (g.P.Allows.may m.rights) d) d.seat.dom (requests.Store c.args.handle c.args.off c.args.bytes) (IsWrittenBy d.seat.dom c.args.bytes.now)
-    c.in-Some.verdict c.refusal_of.result d.seat.view tt (sym c.judge_store.ensures ∙ c.in-Some.is) c.refusal_of.ensures
+pub returns-in-Some-clause-answers : goal.returns-in-Some-clause-answers
+returns-in-Some-clause-answers g c =
+    let m = c.args.monitor.now in let d = c.args.self.now in (
+      refused-access m.words.layout (knowledge m.config (g.P.Allows.may m.rights) d) d.seat.dom (requests.Store c.args.handle c.args.off c.args.bytes) (IsWrittenBy d.seat.dom c.args.bytes.now)
+          c.in-Some.verdict c.refusal_of.result d.seat.view tt (sym c.judge_store.ensures ∙ c.in-Some.is) c.refusal_of.ensures,
+      (record { slots = refl; given = refl }, λ t r. refl),
+      refl,
+      none_visited WasWritten c.refusal_of.result d.visits d.visits refl,
+    )
 
-pub returns-clause-mine : goal.returns-clause-mine
-returns-clause-mine g c =
+pub returns-clause-stays : goal.returns-clause-stays
+returns-clause-stays g c =
     let m = c.args.monitor.now in let d = c.args.self.now in
-    retold m.words m.config (g.P.Allows.may m.rights) d (record d { visits = c.write_through.new.visits }) c.requires.mine refl refl refl
+    (retold m.words m.config (g.P.Allows.may m.rights) d (record d { visits = c.write_through.new.visits }) c.requires.mine refl refl refl, same_seat-self d.seat)
+
+pub returns-in-Some-clause-stays : goal.returns-in-Some-clause-stays
+returns-in-Some-clause-stays g c = (c.requires.mine, same_seat-self c.args.self.now.seat)

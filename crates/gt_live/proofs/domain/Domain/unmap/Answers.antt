@@ -6,7 +6,7 @@ use Rattle.gt_audit.specs.declared.record.Hypercall.{Hypercall}
 use Rattle.gt_audit.specs.declared.record.Hypercall.TheVariants as hypercalls
 use Rattle.gt_audit.specs.declared.record.Reply.{Reply}
 use Rattle.gt_live.specs.Domains.{subject_of, told_of, verdict_of}
-use Rattle.gt_live.proofs.Kept.{retold}
+use Rattle.gt_live.proofs.DomainKept.{retold}
 use Rattle.gt_live.proofs.domain.Domain.unmap.Goals as goal
 
 pub returns-clause-mine : goal.returns-clause-mine

@@ -1,7 +1,8 @@
 use Rattle.std.proofs.Common.{◌<◌, arith, ℕ, true}
 use Rattle.gt_words.proofs.word_table.WordTable.demote.Goals as goal
-use Rattle.gt_words.proofs.Owed.{demote_owes}
-use Rattle.gt_words.proofs.Told.{demotes, exchange_missed, exchange_taken, finds_another, turnable, word_generation}
+use Rattle.gt_words.proofs.StepDuties.{demote_owes}
+use Rattle.gt_words.proofs.StepFacts.{demotes, exchange_missed, exchange_taken, finds_another, turnable}
+use Rattle.gt_words.proofs.StepFacts.{word_generation}
 use Rattle.gt_types.specs.declared.limits.TheConstants.{LAST_GENERATION}
 use Rattle.gt_words.specs.Conditions.{IsWordOf}
 use Rattle.gt_words.specs.Controls.{generation_of}

@@ -7,8 +7,8 @@ use Rattle.gt_entry.specs.Words.{control_of}
 use Rattle.gt_entry.specs.declared.control.Control.{Control}
 use Rattle.gt_entry.specs.declared.entry.Entry.{Entry}
 use Rattle.gt_entry.specs.declared.entry.Entry.TheVariants.{Invalid}
-use Rattle.gt_words.proofs.Owed.{grant_owes}
-use Rattle.gt_words.proofs.Told.{exchange_missed, exchange_taken, finds_pins, publishes}
+use Rattle.gt_words.proofs.StepDuties.{grant_owes}
+use Rattle.gt_words.proofs.StepFacts.{exchange_missed, exchange_taken, finds_pins, publishes}
 use Rattle.gt_words.specs.Conditions.{IsIdleOf}
 use Rattle.gt_words.specs.Rule.{layout_of}
 use Rattle.gt_words.specs.Steps.{changed_word}

@@ -1,6 +1,6 @@
 use Rattle.gt_words.proofs.word_table.WordTable.load_body.Goals as goal
-use Rattle.gt_words.proofs.Owed.{read_owes}
-use Rattle.gt_words.proofs.Told.{reads_body}
+use Rattle.gt_words.proofs.StepDuties.{read_owes}
+use Rattle.gt_words.proofs.StepFacts.{reads_body}
 use Rattle.gt_words.specs.Rule.{layout_of}
 
 pub load_word-requires-clause-allowed : goal.load_word-requires-clause-allowed

@@ -1,6 +1,6 @@
 use Rattle.gt_words.proofs.word_table.WordTable.load_control.Goals as goal
-use Rattle.gt_words.proofs.Owed.{look_owes}
-use Rattle.gt_words.proofs.Told.{looks, looks_at_own}
+use Rattle.gt_words.proofs.StepDuties.{look_owes}
+use Rattle.gt_words.proofs.StepFacts.{looks, looks_at_own}
 use Rattle.gt_words.specs.Rule.{layout_of}
 
 pub load_word-requires-clause-allowed : goal.load_word-requires-clause-allowed

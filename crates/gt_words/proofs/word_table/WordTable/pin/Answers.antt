@@ -1,7 +1,7 @@
 use Rattle.std.proofs.Common.{ℕ, ◌+◌, ap, subst}
 use Rattle.gt_words.proofs.word_table.WordTable.pin.Goals as goal
-use Rattle.gt_words.proofs.Owed.{pin_owes}
-use Rattle.gt_words.proofs.Told.{counts_pins, exchange_missed, exchange_taken, misses_pin, pins_entry}
+use Rattle.gt_words.proofs.StepDuties.{pin_owes}
+use Rattle.gt_words.proofs.StepFacts.{counts_pins, exchange_missed, exchange_taken, misses_pin, pins_entry}
 use Rattle.gt_words.specs.Answers.{StepsOnControl}
 use Rattle.gt_words.specs.Rule.{layout_of}
 use Rattle.gt_words.specs.Views.{last_seen, record_seen}

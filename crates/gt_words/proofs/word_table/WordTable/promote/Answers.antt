@@ -1,8 +1,8 @@
 use Rattle.std.proofs.Common.{◌<◌, arith, ℕ, false}
 use Rattle.gt_words.proofs.word_table.WordTable.promote.Goals as goal
-use Rattle.gt_words.proofs.Owed.{promote_owes}
-use Rattle.gt_words.proofs.Told.{exchange_missed, exchange_taken, finds_another, takes_change, turnable}
-use Rattle.gt_words.proofs.Told.{word_generation}
+use Rattle.gt_words.proofs.StepDuties.{promote_owes}
+use Rattle.gt_words.proofs.StepFacts.{exchange_missed, exchange_taken, finds_another, takes_change, turnable}
+use Rattle.gt_words.proofs.StepFacts.{word_generation}
 use Rattle.gt_types.specs.declared.limits.TheConstants.{LAST_GENERATION}
 use Rattle.gt_words.specs.Conditions.{IsWordOf}
 use Rattle.gt_words.specs.Controls.{generation_of}

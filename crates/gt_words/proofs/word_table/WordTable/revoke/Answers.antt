@@ -4,8 +4,8 @@ use Rattle.gt_entry.specs.Spelling.{idle_word_of}
 use Rattle.gt_entry.specs.Words.{control_of}
 use Rattle.gt_entry.specs.declared.control.Control.{Control}
 use Rattle.gt_entry.specs.declared.entry.Entry.TheVariants.{Invalid}
-use Rattle.gt_words.proofs.Owed.{revoke_owes}
-use Rattle.gt_words.proofs.Told.{exchange_missed, exchange_taken, finds_pins, revokes}
+use Rattle.gt_words.proofs.StepDuties.{revoke_owes}
+use Rattle.gt_words.proofs.StepFacts.{exchange_missed, exchange_taken, finds_pins, revokes}
 use Rattle.gt_words.specs.Controls.{invalid_word}
 use Rattle.gt_words.specs.Rule.{layout_of}
 use Rattle.gt_entry.specs.declared.change.Change.TheVariants as change

@@ -1,6 +1,6 @@
 use Rattle.gt_words.proofs.word_table.WordTable.store_body.Goals as goal
-use Rattle.gt_words.proofs.Owed.{store_owes}
-use Rattle.gt_words.proofs.Told.{stores_body}
+use Rattle.gt_words.proofs.StepDuties.{store_owes}
+use Rattle.gt_words.proofs.StepFacts.{stores_body}
 use Rattle.gt_words.specs.Rule.{layout_of}
 
 pub store_word-requires-clause-allowed : goal.store_word-requires-clause-allowed

@@ -1,7 +1,7 @@
 use Rattle.std.proofs.Common.{ℕ, arith}
 use Rattle.gt_words.proofs.word_table.WordTable.unpin.Goals as goal
-use Rattle.gt_words.proofs.Owed.{unpin_owes}
-use Rattle.gt_words.proofs.Told.{unpins}
+use Rattle.gt_words.proofs.StepDuties.{unpin_owes}
+use Rattle.gt_words.proofs.StepFacts.{unpins}
 use Rattle.gt_words.specs.Rule.{layout_of}
 
 pub subtract_from_word-requires-clause-allowed : goal.subtract_from_word-requires-clause-allowed

@@ -1,0 +1,91 @@
+//! The text of a run that was refused memory beside the whole text.
+
+use std::str::Lines;
+
+// What a call is answered that finds no memory.
+const REFUSED: &str = "N26 -1";
+
+/// What a text lacks of the whole one, or has in its place.
+#[derive(Clone, Copy)]
+pub struct Shortage {
+    /// The line of the script whose call was answered N26, the last one if there are several.
+    pub denied: Option<usize>,
+    /// How many lines of records are missing.
+    pub missing: u64,
+    /// How many records it tells as lost.
+    pub lost: u64,
+    /// Whether it ends before the last answer.
+    pub is_short: bool,
+}
+
+impl Shortage {
+    /// Whether it is the whole text.
+    pub fn is_nothing(&self) -> bool {
+        self.denied.is_none() && self.missing == 0 && self.lost == 0 && !self.is_short
+    }
+
+    /// Whether each call has its answer, and each record is there or told as lost.
+    pub fn is_told(&self) -> bool {
+        !self.is_short && self.missing == self.lost
+    }
+}
+
+// The same line, or the line of the same call that found no memory.
+fn is_alike(line: &str, said: &str) -> bool {
+    if line == said {
+        return true;
+    }
+    match said.strip_suffix(REFUSED) {
+        Some(before) => before.ends_with(" ") && line.starts_with(before),
+        None => false,
+    }
+}
+
+// Passes over the lines of the whole text up to the one that was said, and answers how many these are: records. None if
+// that line comes nowhere, or only after the line of an answer.
+fn passed_over<'a>(rest: &mut Lines<'a>, said: &str) -> Option<u64> {
+    let mut missing = 0u64;
+    while let Some(line) = rest.next() {
+        if is_alike(line, said) {
+            return Some(missing);
+        }
+        if !line.starts_with("audit ") {
+            return None;
+        }
+        missing = missing.saturating_add(1);
+    }
+    None
+}
+
+/// What a text lacks of the whole one: answers at its end, records anywhere. None if it has anything else than the
+/// lines of the whole one, in their order, each of them whole.
+pub fn lacks(whole: &str, text: &str) -> Option<Shortage> {
+    let mut found = Shortage {
+        denied: None,
+        missing: 0,
+        lost: 0,
+        is_short: false,
+    };
+    if !text.is_empty() && !text.ends_with("\n") {
+        return None;
+    }
+    let mut rest = whole.lines();
+    for said in text.lines() {
+        if let Some(count) = said.strip_prefix("lost ") {
+            found.lost = count.parse().ok()?;
+            continue;
+        }
+        found.missing = found.missing.saturating_add(passed_over(&mut rest, said)?);
+        if said.ends_with(REFUSED) && !said.starts_with("audit ") {
+            found.denied = said.split_once(" ")?.0.parse().ok();
+        }
+    }
+    for line in rest {
+        if line.starts_with("audit ") {
+            found.missing = found.missing.saturating_add(1);
+        } else {
+            found.is_short = true;
+        }
+    }
+    Some(found)
+}

@@ -1,0 +1,306 @@
+//! Runs that are refused threads and memory, each in turn.
+use crate::likeness::{Shortage, lacks};
+use crate::running::run_text;
+use crate::scarce::{End, GAP, Place, Scarce, run_scarce};
+use gt_audit::SharedLog;
+use gt_flood::Flood;
+use gt_run::Flags;
+use std::alloc::{AllocError, Global};
+use std::fmt::Write;
+use std::sync::{Mutex, Wait};
+use std::thread::Threads;
+
+// No worked script prints more.
+const ROOM: usize = 65_536;
+
+// What is left grows by so many bytes at first, and then by pages. A domain's thread has no heap while the flood
+// stands, so each of its blocks takes pages of its own.
+const STEP: usize = 16;
+
+const FINE: usize = 32_768;
+
+const PAGE: usize = 4_096;
+
+const TRIES: usize = 4_096;
+
+// A stack takes a little less: 8 MiB and its guard. So much is kept for each until it is wanted, since a flood that
+// was closed may leave no piece of that size.
+const STACK: usize = 9 << 20;
+
+// A script, and what it prints with its records.
+#[derive(Clone, Copy)]
+struct Job<'a> {
+    script: &'a str,
+    whole: &'a str,
+}
+
+// What was refused in runs whose memory ran out.
+#[derive(Drop)]
+struct Seen {
+    thread: bool,
+    memory: bool,
+    lost: bool,
+    calls: String,
+}
+
+impl Seen {
+    fn nothing(alloc: Global) -> Seen {
+        Seen {
+            thread: false,
+            memory: false,
+            lost: false,
+            calls: String::new(alloc),
+        }
+    }
+
+    // Adds what a run came to that ended so.
+    fn add(&mut self, script: &str, end: End, lacked: Shortage) -> Result<(), AllocError> {
+        self.memory = self.memory || end == End::Memory;
+        self.lost = self.lost || lacked.lost > 0;
+        let Some(number) = lacked.denied else {
+            return Ok(());
+        };
+        let line = script.lines().nth(number.saturating_sub(1)).unwrap_or("");
+        let call = line.split_whitespace().nth(2).unwrap_or("another");
+        if !self.calls.contains(call) {
+            self.calls.push(' ')?;
+            self.calls.push_str(call)?;
+        }
+        Ok(())
+    }
+
+    fn said(&self, alloc: Global, place: &str) -> Result<String, AllocError> {
+        let thread = if self.thread { " thread" } else { "" };
+        let memory = if self.memory { " memory" } else { "" };
+        let lost = if self.lost { " lost" } else { "" };
+        let calls = self.calls.as_str();
+        format!(in alloc; "{place}:{thread}{memory}{lost}{calls}\n")
+    }
+}
+
+// What a run lacks of the whole text, if it ended as it may: well, or for want of memory.
+fn judged(job: Job<'_>, end: End, text: &[u8]) -> Option<Shortage> {
+    let lacked = lacks(job.whole, str::from_utf8(text).ok()?)?;
+    match end {
+        End::Done if lacked.is_told() => Some(lacked),
+        End::Memory => Some(lacked),
+        _ => None,
+    }
+}
+
+// Each thread is refused in turn. So many are there before a run that did not end with that fault, or that ran a list.
+fn untold_thread<R: Threads + Wait + Sync>(
+    rt: &R,
+    alloc: Global,
+    flood: &Mutex<Flood>,
+    script: &str,
+) -> anyhow::Result<Option<usize>> {
+    let mut text = Vec::with_capacity(alloc, ROOM)?;
+    let count = count_of(script, "domain ");
+    let mut stacks: Vec<Vec<u8>> = Vec::new(alloc);
+    for _ in 0..count {
+        stacks.push(Vec::with_capacity(alloc, STACK)?)?;
+    }
+    for held in 0..count {
+        let gate = Scarce::new(rt, alloc, flood, Place::Start, GAP)?;
+        let log = SharedLog::new(alloc)?;
+        let end = run_scarce(rt, alloc, script, &log, &gate, &mut text);
+        gate.open();
+        let is_quiet = text.is_empty() && gate.callers() == 0 && log.count() == 0;
+        if end != End::Thread || !is_quiet {
+            return Ok(Some(held));
+        }
+        drop(stacks.pop());
+        keep_stacks(rt, alloc, held.saturating_add(1))?;
+    }
+    Ok(None)
+}
+
+fn count_of(script: &str, start: &str) -> usize {
+    script
+        .lines()
+        .filter(|line| line.starts_with(start))
+        .count()
+}
+
+// Lets so many threads run and end. The C library keeps their stacks, and so many more threads get one of those where
+// there is no room for others.
+fn keep_stacks<R: Threads + Wait + Sync>(
+    rt: &R,
+    alloc: Global,
+    count: usize,
+) -> anyhow::Result<()> {
+    let mut script = String::new(alloc);
+    writeln!(script, "triple a_t a_t query")?;
+    for before in 0..count {
+        writeln!(script, "domain {} u:r:a_t 1 1 1", before.saturating_add(1))?;
+    }
+    writeln!(script, "tell 1 x")?;
+    let gate = Flags::new(rt, alloc)?;
+    run_text(rt, alloc, script.as_str(), None, &gate)?;
+    Ok(())
+}
+
+// Memory runs out before a script is read. So much was left to a run that went otherwise than it must: it ends with
+// that fault and writes nothing, or it ends well.
+fn untold_at_start<R: Threads + Wait + Sync>(
+    rt: &R,
+    alloc: Global,
+    flood: &Mutex<Flood>,
+    job: Job<'_>,
+    seen: &mut Seen,
+) -> anyhow::Result<Option<usize>> {
+    let mut gate = Scarce::new(rt, alloc, flood, Place::Start, 0)?;
+    let log = SharedLog::new(alloc)?;
+    let mut text = Vec::with_capacity(alloc, ROOM)?;
+    let mut left = 0usize;
+    for _ in 0..TRIES {
+        gate.leave(left);
+        let end = run_scarce(rt, alloc, job.script, &log, &gate, &mut text);
+        if gate.callers() > 0 {
+            gate.open();
+            let is_whole = end == End::Done && text.as_slice() == job.whole.as_bytes();
+            return Ok(if is_whole { None } else { Some(left) });
+        }
+        match end {
+            End::Memory if text.is_empty() => seen.memory = true,
+            End::Thread if text.is_empty() => seen.thread = true,
+            _ => break,
+        }
+        left = left.saturating_add(if left < FINE { STEP } else { PAGE });
+    }
+    gate.open();
+    Ok(Some(left))
+}
+
+// Memory runs out at a place where lists run already. So much was left to a run that went otherwise than it must.
+fn untold_from<R: Threads + Wait + Sync>(
+    rt: &R,
+    alloc: Global,
+    flood: &Mutex<Flood>,
+    job: Job<'_>,
+    place: Place,
+    seen: &mut Seen,
+) -> anyhow::Result<Option<usize>> {
+    let mut left = 0usize;
+    for _ in 0..TRIES {
+        let gate = Scarce::new(rt, alloc, flood, place, left)?;
+        let log = SharedLog::new(alloc)?;
+        let mut text = Vec::with_capacity(alloc, ROOM)?;
+        let end = run_scarce(rt, alloc, job.script, &log, &gate, &mut text);
+        gate.open();
+        match judged(job, end, text.as_slice()) {
+            None => return Ok(Some(left)),
+            Some(lacked) if end == End::Done && lacked.is_nothing() => return Ok(None),
+            Some(lacked) => seen.add(job.script, end, lacked)?,
+        }
+        left = left.saturating_add(if place == Place::Write { STEP } else { PAGE });
+    }
+    Ok(Some(left))
+}
+
+// What was seen, unless a run went otherwise than it must.
+fn place_said(
+    alloc: Global,
+    place: &str,
+    seen: &Seen,
+    untold: Option<usize>,
+) -> Result<String, AllocError> {
+    match untold {
+        None => seen.said(alloc, place),
+        Some(left) => format!(in alloc; "{place}: with {left} bytes it goes otherwise\n"),
+    }
+}
+
+// The same for each second flag, the second one first.
+fn between_flags<R: Threads + Wait + Sync>(
+    rt: &R,
+    alloc: Global,
+    flood: &Mutex<Flood>,
+    job: Job<'_>,
+) -> anyhow::Result<String> {
+    let mut seen = Seen::nothing(alloc);
+    let mut flag = 1usize;
+    for _ in 0..count_of(job.script, "tell ") / 2 {
+        let untold = untold_from(rt, alloc, flood, job, Place::Flag(flag), &mut seen)?;
+        if untold.is_some() {
+            let place = format!(in alloc; "from flag {flag} on")?;
+            return Ok(place_said(alloc, place.as_str(), &seen, untold)?);
+        }
+        flag = flag.saturating_add(2);
+    }
+    Ok(seen.said(alloc, "while lists run")?)
+}
+
+// What came of threads that are refused.
+fn threads_said<R: Threads + Wait + Sync>(
+    rt: &R,
+    alloc: Global,
+    flood: &Mutex<Flood>,
+    script: &str,
+) -> anyhow::Result<String> {
+    Ok(match untold_thread(rt, alloc, flood, script)? {
+        None => {
+            String::from_str(
+                alloc,
+                "each thread that is refused is told, and no list runs\n",
+            )?
+        }
+        Some(held) => format!(in alloc; "with {held} threads it goes otherwise\n")?,
+    })
+}
+
+fn start_said<R: Threads + Wait + Sync>(
+    rt: &R,
+    alloc: Global,
+    flood: &Mutex<Flood>,
+    job: Job<'_>,
+) -> anyhow::Result<String> {
+    let mut seen = Seen::nothing(alloc);
+    let untold = untold_at_start(rt, alloc, flood, job, &mut seen)?;
+    Ok(place_said(alloc, "before lists run", &seen, untold)?)
+}
+
+fn write_said<R: Threads + Wait + Sync>(
+    rt: &R,
+    alloc: Global,
+    flood: &Mutex<Flood>,
+    job: Job<'_>,
+) -> anyhow::Result<String> {
+    let mut seen = Seen::nothing(alloc);
+    let untold = untold_from(rt, alloc, flood, job, Place::Write, &mut seen)?;
+    Ok(place_said(alloc, "while it writes", &seen, untold)?)
+}
+
+// What a script prints with its records.
+fn whole_said<R: Threads + Wait + Sync>(
+    rt: &R,
+    alloc: Global,
+    script: &str,
+) -> anyhow::Result<String> {
+    let gate = Flags::new(rt, alloc)?;
+    let log = SharedLog::new(alloc)?;
+    run_text(rt, alloc, script, Some(&log), &gate)?.said(alloc)
+}
+
+/// What a script prints with its records, and what is refused where threads and memory run out, at each place and with
+/// more left each time, until it prints all of it. Each domain comes to the gate before it makes a call. The flags are
+/// raised one after the other, and between the second one and the third, the fourth and the fifth and so on a domain
+/// makes a call while no other does anything.
+pub fn refusing_said<R: Threads + Wait + Sync>(
+    rt: &R,
+    alloc: Global,
+    script: &str,
+) -> anyhow::Result<String> {
+    let flood = Mutex::new(Flood::new(alloc)?);
+    let threads = threads_said(rt, alloc, &flood, script)?;
+    let whole = whole_said(rt, alloc, script)?;
+    let job = Job {
+        script,
+        whole: whole.as_str(),
+    };
+    let start = start_said(rt, alloc, &flood, job)?;
+    let lists = between_flags(rt, alloc, &flood, job)?;
+    let write = write_said(rt, alloc, &flood, job)?;
+    Ok(format!(in alloc; "{whole}{threads}{start}{lists}{write}")?)
+}

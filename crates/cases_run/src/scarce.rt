@@ -1,0 +1,171 @@
+//! Memory that runs out on the way of a run.
+use gt_audit::SharedLog;
+use gt_flood::Flood;
+use gt_host::PlayFault;
+use gt_run::{Flags, Gate, RunFault, run};
+use gt_types::Memory;
+use std::alloc::Global;
+use std::io::{self, Write};
+use std::sync::atomic::{AtomicBool, AtomicU64, Ordering};
+use std::sync::{Mutex, Wait};
+use std::thread::Threads;
+
+/// So many bytes are held back, or let through, before lists run: a monitor of three domains starts with less.
+pub const GAP: usize = 4_000_000;
+
+// So many later on.
+const SMALL_GAP: usize = 262_144;
+
+/// Where memory runs out.
+#[derive(Clone, Copy, PartialEq, Eq)]
+pub enum Place {
+    /// Before the script is read, until a domain comes to the gate.
+    Start,
+    /// Where a domain raises this flag, until one raises another.
+    Flag(usize),
+    /// Where the first line is written.
+    Write,
+}
+
+/// How a run ended.
+#[derive(Clone, Copy, PartialEq, Eq)]
+pub enum End {
+    Done,
+    Thread,
+    Memory,
+    Other,
+}
+
+/// A gate that leaves a run only so many bytes from a place on.
+#[derive(Drop)]
+pub struct Scarce<'r, R: Wait> {
+    rt: &'r R,
+    flags: Flags<'r, R>,
+    flood: &'r Mutex<Flood>,
+    place: Place,
+    left: usize,
+    is_closed: AtomicBool,
+    callers: AtomicU64,
+}
+
+impl<'r, R: Wait> Scarce<'r, R> {
+    pub fn new(
+        rt: &'r R,
+        alloc: Global,
+        flood: &'r Mutex<Flood>,
+        place: Place,
+        left: usize,
+    ) -> Result<Self, Memory> {
+        Ok(Scarce {
+            rt,
+            flags: Flags::new(rt, alloc)?,
+            flood,
+            place,
+            left,
+            is_closed: AtomicBool::new(false),
+            callers: AtomicU64::new(0),
+        })
+    }
+
+    /// The next run finds so many bytes.
+    pub fn leave(&mut self, left: usize) {
+        self.left = left;
+    }
+
+    /// How often a domain came to the gate.
+    pub fn callers(&self) -> u64 {
+        self.callers.load(Ordering::SeqCst)
+    }
+
+    /// From here on there is memory.
+    pub fn open(&self) {
+        if self.is_closed.swap(false, Ordering::SeqCst) {
+            self.flood.lock(self.rt).open();
+        }
+    }
+
+    // From here on there are only so many bytes.
+    fn close(&self) {
+        let is_closed = self.is_closed.swap(true, Ordering::SeqCst);
+        let gap = if self.place == Place::Start {
+            GAP
+        } else {
+            SMALL_GAP
+        };
+        let mut flood = self.flood.lock(self.rt);
+        if is_closed && flood.let_through(self.left) {
+            return;
+        }
+        if flood.close(gap).is_ok() {
+            let _ = flood.let_through(self.left);
+        }
+    }
+
+    fn comes_to(&self, place: Place) {
+        if self.place == place {
+            self.close();
+        }
+    }
+}
+
+impl<'r, R: Wait> Gate for Scarce<'r, R> {
+    fn tell(&self, flag: usize) {
+        self.callers.fetch_add(1, Ordering::SeqCst);
+        if self.place == Place::Flag(flag) {
+            self.close();
+        } else if self.place != Place::Write {
+            self.open();
+        }
+        self.flags.tell(flag);
+    }
+
+    fn pass(&self, flag: usize) -> bool {
+        self.callers.fetch_add(1, Ordering::SeqCst);
+        if self.place == Place::Start {
+            self.open();
+        }
+        self.flags.pass(flag)
+    }
+}
+
+// Keeps what is written in room that is there.
+#[derive(Drop)]
+struct Room<'t, 'g, 'r, R: Wait> {
+    taken: &'t mut Vec<u8>,
+    gate: &'g Scarce<'r, R>,
+}
+
+impl<'t, 'g, 'r, R: Wait> Write for Room<'t, 'g, 'r, R> {
+    fn write(&mut self, buf: &[u8]) -> io::Result<usize> {
+        if self.taken.is_empty() {
+            self.gate.comes_to(Place::Write);
+        }
+        self.taken.extend_from_slice(buf)?;
+        Ok(buf.len())
+    }
+
+    fn flush(&mut self) -> io::Result<()> {
+        Ok(())
+    }
+}
+
+/// Runs a script at the gate, into a text that has room. How it ended is answered without memory.
+pub fn run_scarce<R: Threads + Wait + Sync>(
+    rt: &R,
+    alloc: Global,
+    script: &str,
+    log: &SharedLog,
+    gate: &Scarce<'_, R>,
+    text: &mut Vec<u8>,
+) -> End {
+    let mut reader = script.as_bytes();
+    text.clear();
+    let mut writer = Room { taken: text, gate };
+    gate.comes_to(Place::Start);
+    match run(rt, alloc, &mut reader, &mut writer, Some(log), gate) {
+        Ok(()) => End::Done,
+        Err(RunFault::Thread) => End::Thread,
+        Err(RunFault::Play(PlayFault::Memory)) => End::Memory,
+        Err(_) => End::Other,
+    }
+}

@@ -1,0 +1,67 @@
+//! Starts cores and monitors that are refused memory.
+//!
+//! A flood takes all memory, and a start finds so many bytes of it: none at first, then more and more, until it is done.
+//! With less each start must answer that memory was refused. What is left grows by 16 bytes as long as it is small, and
+//! again from the last of the larger steps on that was refused; between them are the long lists of words. A line for
+//! each start says whether all went so.
+#![tactic(auto)]
+
+mod starting;
+mod sweeping;
+
+use gt_running::numbered;
+use starting::Kind;
+use std::alloc::Global;
+use sweeping::Starts;
+
+// What starts, and with how many domains.
+#[derive(Clone, Copy)]
+struct Row {
+    name: &'static str,
+    kind: Kind,
+    domains: u16,
+}
+
+const ROWS: [Row; 4] = [
+    Row {
+        name: "a core of one domain",
+        kind: Kind::Core,
+        domains: 1,
+    },
+    Row {
+        name: "a core of three domains",
+        kind: Kind::Core,
+        domains: 3,
+    },
+    Row {
+        name: "a monitor of one domain",
+        kind: Kind::Monitor,
+        domains: 1,
+    },
+    Row {
+        name: "a monitor of three domains",
+        kind: Kind::Monitor,
+        domains: 3,
+    },
+];
+
+fn said(alloc: Global, row: Row) -> anyhow::Result<&'static str> {
+    let domains = numbered(alloc, row.domains, 1)?;
+    let mut starts = Starts::new(alloc, row.kind, domains.as_slice())?;
+    let is_told = starts.is_told();
+    starts.open();
+    Ok(if is_told? {
+        "each request for memory that is refused is told"
+    } else {
+        "it ends otherwise"
+    })
+}
+
+fn main(rt: HostRuntime) -> anyhow::Result<()> {
+    let alloc = rt.alloc();
+    for row in ROWS {
+        let said = said(alloc, row)?;
+        println!(rt; "{}: {said}", row.name)?;
+    }
+    Ok(())
+}

@@ -1,0 +1,64 @@
+//! Where the names of a text are declared.
+use crate::places::{bytes_of, column_of, line_tokens};
+use gt_streams::text_of;
+use std::alloc::{AllocError, Global};
+
+/// A name that is declared, as a type or as an attribute, and where.
+#[derive(Clone, Copy)]
+pub(crate) struct Declared<'a> {
+    pub name: &'a str,
+    pub is_type: bool,
+    pub line: u32,
+    pub column: u32,
+}
+
+// Whether the name after this word is a type or an attribute; none if it declares nothing.
+fn declares(word: &[u8]) -> Option<bool> {
+    if word == b"type".as_slice() {
+        return Some(true);
+    }
+    if word == b"attribute".as_slice() {
+        return Some(false);
+    }
+    None
+}
+
+// Adds the names that a line declares, after what the word before it declares, and answers what its last word does.
+fn push_declared<'a>(
+    alloc: Global,
+    names: &mut Vec<Declared<'a>>,
+    text: &'a str,
+    line: u32,
+    before: Option<bool>,
+) -> Result<Option<bool>, AllocError> {
+    let mut before = before;
+    let tokens = line_tokens(alloc, text.as_bytes(), 1)?;
+    for token in &tokens.tokens {
+        let word = bytes_of(text.as_bytes(), *token);
+        if let (Some(is_type), Ok(name)) = (before, text_of(word)) {
+            names.push(Declared {
+                name,
+                is_type,
+                line,
+                column: column_of(token.start),
+            })?;
+        }
+        before = declares(word);
+    }
+    Ok(before)
+}
+
+/// The names after `type` and `attribute`, in the order of the text. The text may have faults.
+pub(crate) fn declared_in<'a>(
+    alloc: Global,
+    text: &'a str,
+) -> Result<Vec<Declared<'a>>, AllocError> {
+    let mut names = Vec::new(alloc);
+    let mut number: u32 = 1;
+    let mut before = None;
+    for line in text.lines() {
+        before = push_declared(alloc, &mut names, line, number, before)?;
+        number = number.saturating_add(1);
+    }
+    Ok(names)
+}

@@ -1,0 +1,6 @@
+use Rattle.gt_program.proofs.Obeyed.{worked}
+use Rattle.gt_program.specs.Obeying.{RunsDomains}
+use Rattle.gt_program.proofs.commands.run_asked.Goals as goal
+
+pub returns : goal.returns
+returns g c = worked (RunsDomains c.args.format c.args.audit) _ _ _ c.run_on.result _ c.run_on.ensures c.report.ensures

@@ -1,0 +1,328 @@
+//! Each command, done with the text that it names.
+ghost use Rattle.std.specs.Prelude.{◌≡◌, IfSome, is_some};
+ghost use Rattle.std.specs.Option.{option_map};
+ghost use Rattle.gt_advice.specs.Why.{source_asked, target_asked};
+ghost use Rattle.gt_explore.specs.Exploring.{word_asked};
+ghost use Rattle.gt_streams.specs.Streams.{OfInput};
+ghost use Rattle.gt_program.specs.Obeying.{known_text, shown_name, AnswersDump, AnswersQuestion, Checks, Does, Lists};
+ghost use Rattle.gt_program.specs.Obeying.{Performs, Plays, RunsDomains, Seeks, Works};
+
+use crate::failure::Failure;
+use crate::formats::{check_as, entries_as, list_as};
+use crate::obeying::{report, shown_name};
+use crate::reasons::Reasons;
+use crate::texts::{Texts, read_fault};
+use crate::told::{RunSettings, play_told, run_told};
+use gt_advice::Question;
+use gt_advising::why;
+use gt_audit::SharedLog;
+use gt_commands::Format;
+use gt_dump::Asked;
+use gt_explore::{Asked as Searched, explore};
+use gt_run::Flags;
+use std::alloc::Global;
+use std::io::{Read, Write};
+use std::sync::Wait;
+use std::thread::Threads;
+
+/// What is done with a text.
+#[derive(Clone, Copy)]
+pub enum Work<'w> {
+    /// The script is run on the core, with its audit lines or without.
+    Play {
+        audit: bool,
+        format: Format,
+    },
+    /// The texts are told that the script may give.
+    Explore {
+        asked: Searched<'w>,
+    },
+    /// What the policy allows is listed.
+    List {
+        format: Format,
+    },
+    /// What is wrong or useless in the policy, or in the script, is told. The lines begin with the name.
+    Check {
+        script: bool,
+        file: &'w str,
+        json: bool,
+    },
+    /// The question about the policy is answered. The lines begin with the name.
+    Why {
+        file: &'w str,
+        question: Question<'w>,
+    },
+    /// The entries of the dump are told.
+    Entries {
+        asked: Asked,
+        format: Format,
+    },
+}
+
+// Does this with the text of a reader, and answers whether the answer is a good one.
+fn perform<R: Read, W: Write>(
+    alloc: Global,
+    work: Work,
+    reader: &mut R,
+    out: &mut W,
+    reasons: &mut Reasons,
+) -> Result<bool, Failure>
+    ensures { OfInput (R.remaining reader.old) (λ input.
+        Performs work.entry input (W.contents out.old) (W.contents out.new) result) }
+{
+    match work {
+        Work::Play { audit, format } => match play_told(
+            alloc, format, audit, reader, out, reasons,
+        ) {
+            Ok(()) => Ok(true),
+            Err(fault) => Err(Failure::Play(fault)),
+        },
+        Work::Explore { asked } => match explore(alloc, &asked, reader, out) {
+            Ok(is_any) => Ok(is_any),
+            Err(fault) => Err(Failure::Explore(fault)),
+        },
+        Work::List { format } => match list_as(alloc, format, reader, out) {
+            Ok(()) => Ok(true),
+            Err(fault) => Err(Failure::List(fault)),
+        },
+        Work::Check { script, file, json } => match check_as(
+            alloc, script, file, json, reader, out,
+        ) {
+            Ok(clean) => Ok(clean),
+            Err(fault) => Err(Failure::List(fault)),
+        },
+        Work::Why { file, question } => match why(alloc, file, &question, reader, out) {
+            Ok(allowed) => Ok(allowed),
+            Err(fault) => Err(Failure::Why(fault)),
+        },
+        Work::Entries { asked, format } => match entries_as(alloc, format, asked, reader, out) {
+            Ok(()) => Ok(true),
+            Err(fault) => Err(Failure::Dump(fault)),
+        },
+    }
+}
+
+/// What a command works with: what may wait and start threads, memory, the texts, and the standard error.
+#[derive(Drop)]
+pub(crate) struct Context<'c, R, T, E> {
+    pub rt: &'c R,
+    pub alloc: Global,
+    pub texts: &'c T,
+    pub err: &'c E,
+}
+
+// Does what was asked for, with the text of the file that is named, or of the standard input.
+fn perform_on<R, T: Texts, W: Write, E>(
+    context: &Context<R, T, E>,
+    work: Work,
+    name: Option<&str>,
+    out: &mut W,
+    reasons: &mut Reasons,
+) -> Result<bool, Failure>
+    ensures { IfSome (known_text (T.file context.now.texts.now) (T.input context.now.texts.now)
+        (option_map (λ f. f.now) name.entry))
+        (λ input. Does (Performs work.entry) input (W.contents out.old) (W.contents out.new) result) }
+{
+    let alloc = context.alloc;
+    let Some(name) = name else {
+        return perform(alloc, work, &mut context.texts.input(), out, reasons);
+    };
+    match context.texts.open(name) {
+        Ok(mut file) => perform(alloc, work, &mut file, out, reasons),
+        Err(error) => {
+            reasons.add_unread(&error);
+            Err(Failure::File(read_fault(&error)))
+        }
+    }
+}
+
+// The log, if calls are to go into it.
+fn log_for<'l>(audit: bool, log: &'l SharedLog) -> Option<&'l SharedLog>
+    ensures { is_some result ≡ audit }
+{
+    if audit { Some(log) } else { None }
+}
+
+// Runs the script of a reader, its domains in threads.
+#[tactic(auto, using(crate::proofs::Obeyed::unread_run))]
+fn run_script<R: Threads + Wait + Sync, T, E, I: Read, W: Write>(
+    context: &Context<R, T, E>,
+    format: Format,
+    audit: bool,
+    reader: &mut I,
+    out: &mut W,
+    reasons: &mut Reasons,
+) -> Result<bool, Failure>
+    ensures { OfInput (I.remaining reader.old) (λ input.
+        RunsDomains format audit input (W.contents out.old) (W.contents out.new) result) }
+{
+    let Ok(gate) = Flags::new(context.rt, context.alloc) else {
+        return Err(Failure::Memory);
+    };
+    let Ok(log) = SharedLog::new(context.alloc) else {
+        return Err(Failure::Memory);
+    };
+    let settings = RunSettings {
+        rt: context.rt,
+        alloc: context.alloc,
+        format,
+        log: log_for(audit, &log),
+        gate: &gate,
+    };
+    match run_told(&settings, reader, out, reasons) {
+        Ok(()) => Ok(true),
+        Err(fault) => Err(Failure::Run(fault)),
+    }
+}
+
+// Runs the script of the file that is named, or of the standard input.
+fn run_on<R: Threads + Wait + Sync, T: Texts, W: Write, E>(
+    context: &Context<R, T, E>,
+    format: Format,
+    audit: bool,
+    name: Option<&str>,
+    out: &mut W,
+    reasons: &mut Reasons,
+) -> Result<bool, Failure>
+    ensures { IfSome (known_text (T.file context.now.texts.now) (T.input context.now.texts.now)
+        (option_map (λ f. f.now) name.entry))
+        (λ input. Does (RunsDomains format audit) input (W.contents out.old) (W.contents out.new) result) }
+{
+    let Some(name) = name else {
+        let mut input = context.texts.input();
+        return run_script(context, format, audit, &mut input, out, reasons);
+    };
+    match context.texts.open(name) {
+        Ok(mut file) => run_script(context, format, audit, &mut file, out, reasons),
+        Err(error) => {
+            reasons.add_unread(&error);
+            Err(Failure::File(read_fault(&error)))
+        }
+    }
+}
+
+/// Plays a script.
+pub(crate) fn play_asked<R, T: Texts, W: Write, E: Eprint>(
+    context: &Context<R, T, E>,
+    format: Format,
+    audit: bool,
+    file: Option<&str>,
+    out: &mut W,
+    reasons: &mut Reasons,
+) -> u8
+    ensures { Works (Plays format audit)
+        (known_text (T.file context.now.texts.now) (T.input context.now.texts.now)
+        (option_map (λ f. f.now) file.entry)) (W.contents out.old) (W.contents out.new) result }
+{
+    let work = Work::Play { audit, format };
+    report(context.err, perform_on(context, work, file, out, reasons))
+}
+
+/// Runs a script.
+pub(crate) fn run_asked<R: Threads + Wait + Sync, T: Texts, W: Write, E: Eprint>(
+    context: &Context<R, T, E>,
+    format: Format,
+    audit: bool,
+    file: Option<&str>,
+    out: &mut W,
+    reasons: &mut Reasons,
+) -> u8
+    ensures { Works (RunsDomains format audit)
+        (known_text (T.file context.now.texts.now) (T.input context.now.texts.now)
+        (option_map (λ f. f.now) file.entry)) (W.contents out.old) (W.contents out.new) result }
+{
+    report(
+        context.err,
+        run_on(context, format, audit, file, out, reasons),
+    )
+}
+
+/// Explores a script.
+pub(crate) fn explore_asked<R, T: Texts, W: Write, E: Eprint>(
+    context: &Context<R, T, E>,
+    asked: Searched,
+    file: Option<&str>,
+    out: &mut W,
+    reasons: &mut Reasons,
+) -> u8
+    ensures { Works (Seeks (word_asked asked.entry) asked.entry.witness asked.entry.states)
+        (known_text (T.file context.now.texts.now) (T.input context.now.texts.now)
+        (option_map (λ f. f.now) file.entry)) (W.contents out.old) (W.contents out.new) result }
+{
+    let work = Work::Explore { asked };
+    report(context.err, perform_on(context, work, file, out, reasons))
+}
+
+/// Lists a policy.
+pub(crate) fn list_asked<R, T: Texts, W: Write, E: Eprint>(
+    context: &Context<R, T, E>,
+    format: Format,
+    file: Option<&str>,
+    out: &mut W,
+    reasons: &mut Reasons,
+) -> u8
+    ensures { Works (Lists format)
+        (known_text (T.file context.now.texts.now) (T.input context.now.texts.now)
+        (option_map (λ f. f.now) file.entry)) (W.contents out.old) (W.contents out.new) result }
+{
+    let work = Work::List { format };
+    report(context.err, perform_on(context, work, file, out, reasons))
+}
+
+/// Checks a policy, or a script.
+pub(crate) fn check_asked<R, T: Texts, W: Write, E: Eprint>(
+    context: &Context<R, T, E>,
+    format: Format,
+    script: bool,
+    file: Option<&str>,
+    out: &mut W,
+    reasons: &mut Reasons,
+) -> u8
+    ensures { Works (Checks script)
+        (known_text (T.file context.now.texts.now) (T.input context.now.texts.now)
+        (option_map (λ f. f.now) file.entry)) (W.contents out.old) (W.contents out.new) result }
+{
+    let work = Work::Check {
+        script,
+        file: shown_name(file),
+        json: matches!(format, Format::Json),
+    };
+    report(context.err, perform_on(context, work, file, out, reasons))
+}
+
+/// Answers a question about a policy.
+pub(crate) fn explain_asked<R, T: Texts, W: Write, E: Eprint>(
+    context: &Context<R, T, E>,
+    question: Question,
+    file: Option<&str>,
+    out: &mut W,
+    reasons: &mut Reasons,
+) -> u8
+    ensures { Works (AnswersQuestion (shown_name (option_map (λ f. f.now) file.entry)) (source_asked question.entry)
+        (target_asked question.entry) question.entry.perm.now)
+        (known_text (T.file context.now.texts.now) (T.input context.now.texts.now)
+        (option_map (λ f. f.now) file.entry)) (W.contents out.old) (W.contents out.new) result }
+{
+    let work = Work::Why {
+        file: shown_name(file),
+        question,
+    };
+    report(context.err, perform_on(context, work, file, out, reasons))
+}
+
+/// Tells the entries of a dump.
+pub(crate) fn entries_asked<R, T: Texts, W: Write, E: Eprint>(
+    context: &Context<R, T, E>,
+    asked: Asked,
+    format: Format,
+    file: Option<&str>,
+    out: &mut W,
+    reasons: &mut Reasons,
+) -> u8
+    ensures { Works (AnswersDump asked.version asked.hex asked.all (option_map (λ d. d.0) asked.script) format)
+        (known_text (T.file context.now.texts.now) (T.input context.now.texts.now)
+        (option_map (λ f. f.now) file.entry)) (W.contents out.old) (W.contents out.new) result }
+{
+    let work = Work::Entries { asked, format };
+    report(context.err, perform_on(context, work, file, out, reasons))
+}
