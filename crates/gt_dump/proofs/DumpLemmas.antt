@@ -8,11 +8,11 @@ use Rattle.gt_streams.specs.declared.fault.ReadFault.TheVariants as reads
 use Rattle.gt_dump.specs.declared.asked.Asked.{Asked}
 use Rattle.gt_dump.specs.declared.fault.DumpFault.{DumpFault}
 use Rattle.gt_dump.specs.declared.fault.DumpFault.TheVariants.{Memory, Read, Write, Limit, Syntax}
-use Rattle.gt_dump.specs.Dumps.{Dumped, IsNoDump, SaysDump, TellsEntries, TellsEntry, Told, entry_at}
+use Rattle.gt_dump.specs.Dumps.{Dumped, IsNoDump, SaysDump, TellsEntries, TellsEntry, Told, entry_bytes_at}
 use Rattle.gt_dump.specs.Faults.{dump_read_fault}
 
 -- the text of one more entry
-pub tells_next : (asked : Asked) (dump : List ℕ) (ref : ℕ) (bytes before after : List ℕ) → TellsEntries asked dump ref before → bytes ≡ entry_at asked.version dump ref
+pub tells_next : (asked : Asked) (dump : List ℕ) (ref : ℕ) (bytes before after : List ℕ) → TellsEntries asked dump ref before → bytes ≡ entry_bytes_at asked.version dump ref
     → (line : List ℕ) × TellsEntry asked ref bytes line × (after ≡ before ++ line) → TellsEntries asked dump (suc ref) after
 tells_next asked dump ref bytes before after told is (line, tells, grown) =
     (before, line, grown, told, subst (λ (b : List ℕ). TellsEntry asked ref b line) is tells)

@@ -43,8 +43,8 @@ abbrev pub TellsEntry : Asked → ℕ → List ℕ → List ℕ → Type 0
 TellsEntry asked ref bytes text = MatchBool (is_left_out asked bytes) (text ≡ []) (IsEntryLine asked ref bytes text)
 
 -- the bytes of the entry at this reference: fewer if the dump ends in it (grant_table.h)
-abbrev pub entry_at : ℕ → List ℕ → ℕ → List ℕ
-entry_at version dump ref = take (entry_size version) (drop (ref * entry_size version) dump)
+abbrev pub entry_bytes_at : ℕ → List ℕ → ℕ → List ℕ
+entry_bytes_at version dump ref = take (entry_size version) (drop (ref * entry_size version) dump)
 
 -- how many entries the dump has, the last one cut off or not
 abbrev pub count_of : ℕ → List ℕ → ℕ
@@ -55,7 +55,7 @@ abbrev pub TellsEntries : Asked → List ℕ → ℕ → List ℕ → Type 0
 TellsEntries asked dump zero text = text ≡ []
 TellsEntries asked dump (suc ref) text =
     (before line : List ℕ) × (text ≡ before ++ line) × TellsEntries asked dump ref before
-    × TellsEntry asked ref (entry_at asked.version dump ref) line
+    × TellsEntry asked ref (entry_bytes_at asked.version dump ref) line
 
 -- the text of a whole dump
 abbrev pub TellsDump : Asked → List ℕ → List ℕ → Type 0

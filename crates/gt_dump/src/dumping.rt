@@ -2,7 +2,7 @@
 ghost use Rattle.std.specs.Prelude.{◌≡◌, ◌≤◌, ◌++◌, ◌*◌, ◌+◌, ℕ, List, [], OnOk, length, take};
 ghost use Rattle.gt_streams.specs.Streams.{OfInput, ConsumesAtMost};
 ghost use Rattle.gt_streams.specs.declared.streams.TheConstants.{READ_LIMIT};
-ghost use Rattle.gt_dump.specs.Dumps.{Dumped, TellsDump, Told, count_of, entry_at, most_bytes};
+ghost use Rattle.gt_dump.specs.Dumps.{Dumped, TellsDump, Told, count_of, entry_bytes_at, most_bytes};
 
 use crate::asked::Asked;
 use crate::fault::DumpFault;
@@ -19,7 +19,7 @@ const MOST_BYTES: usize = 65_536;
 fn entry_at<'d>(version: u8, dump: &'d [u8], gref: usize) -> &'d [u8]
     requires few { length dump.now ≤ most_bytes }
     requires within { gref ≤ most_bytes }
-    ensures { result.now ≡ entry_at version dump.entry.now gref }
+    ensures { result.now ≡ entry_bytes_at version dump.entry.now gref }
 {
     let size = entry_size(version);
     let begin = dump.len().min(gref * size);

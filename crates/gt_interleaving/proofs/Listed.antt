@@ -38,7 +38,7 @@ use Rattle.gt_order.proofs.Order.{runs-have-legal-orders}
 use Rattle.gt_order.proofs.Writes.{lost-made, writes-made}
 use Rattle.gt_order.specs.Calling.{IsOutcomeOf, IsStoring, StaysOf, WasMade}
 use Rattle.gt_order.specs.Leaving.{MayUnmapAll}
-use Rattle.gt_order.specs.Runs.{AreCalls, CallMade, FitsTypes, IsAtRest, IsRun, IsSeatRun, KeepsNoPin}
+use Rattle.gt_order.specs.Runs.{AreCalls, CallMade, FitsTypes, IsAtRest, IsMonitorRun, IsSeatRun, KeepsNoPin}
 use Rattle.gt_order.specs.Runs.{CallOutcome, SeatRun, domain_after}
 use Rattle.gt_order.specs.Runs.CallOutcome.{Told, Kept, Starved, Wrote}
 use Rattle.gt_lines.specs.declared.calls.ScriptCall.{ScriptCall}
@@ -307,7 +307,7 @@ module _ {P : Type 0} (may : P → AllowRelation) (m : Monitor P) where
 
     text-legal : (shown : Shows m.words.layout s) → AreOfALegalOrder may m shown.history lists
     text-legal shown =
-        let run : IsRun m.words m.config (may m.rights) s seats =
+        let run : IsMonitorRun m.words m.config (may m.rights) s seats =
         record { limits = m.limits; layout = m.same_run; shown = shown; each = λ i inside. (runs-so i inside (nat_lt i (length m.config.domains.items)) refl).0 } in
         let order = runs-have-legal-orders m.words m.config (may m.rights) s seats run in
         record { items = order.0; seats = seats; legal = order.1; each = λ i inside. (runs-so i inside (nat_lt i (length m.config.domains.items)) refl).1 }

@@ -46,8 +46,8 @@ via_of (dom ∷ mode ∷ to ∷ gref ∷ []) = do
 via_of _ = None
 
 -- the entry that a grant publishes, by its kind
-unfoldable pub granted : List ℕ → List (List ℕ) → Option Entry
-granted kind args = if bytes_eq kind (codes "page") then page_of args
+unfoldable pub entry_of_kind : List ℕ → List (List ℕ) → Option Entry
+entry_of_kind kind args = if bytes_eq kind (codes "page") then page_of args
     else (if bytes_eq kind (codes "sub") then sub_of args
     else (if bytes_eq kind (codes "via") then via_of args else None))
 
@@ -55,17 +55,17 @@ granted kind args = if bytes_eq kind (codes "page") then page_of args
 unfoldable pub grant_of : List (List ℕ) → Option ScriptCall
 grant_of (gref ∷ kind ∷ args) = do
   r ← reference_word gref
-  e ← granted kind args
+  e ← entry_of_kind kind args
   Some (calls.Grant r e)
 grant_of _ = None
 
 -- what follows `bytes`: REF HEX
-unfoldable pub bytes_of : List (List ℕ) → Option ScriptCall
-bytes_of (gref ∷ digits ∷ []) = do
+unfoldable pub grant_bytes_of : List (List ℕ) → Option ScriptCall
+grant_bytes_of (gref ∷ digits ∷ []) = do
   r ← reference_word gref
   h ← text_where hex_word digits
   Some (calls.GrantBytes r h)
-bytes_of _ = None
+grant_bytes_of _ = None
 
 -- what follows `map`: LABEL DOM REF FLAGS
 unfoldable pub map_of : List (List ℕ) → Option ScriptCall
@@ -122,8 +122,8 @@ poke_of _ = None
 
 -- an end of a copy: `gref` DOM REF OFF, or `frame` DOM FRAME OFF; its number is the reference, or the frame's
 -- (grant_table.h)
-unfoldable pub end_of : List ℕ → List ℕ → List ℕ → List ℕ → Option End
-end_of kind dom place off = if bytes_eq kind (codes "gref") then (do
+unfoldable pub copy_end_of : List ℕ → List ℕ → List ℕ → List ℕ → Option End
+copy_end_of kind dom place off = if bytes_eq kind (codes "gref") then (do
   d ← domain_word dom
   r ← reference_word place
   o ← u16_word off
@@ -141,8 +141,8 @@ grant_flag kind flag = if bytes_eq kind (codes "gref") then flag else 0
 -- same of the destination (grant_table.h)
 unfoldable pub copy_of : List (List ℕ) → Option ScriptCall
 copy_of (from_kind ∷ from_dom ∷ from ∷ from_off ∷ to_kind ∷ to_dom ∷ to ∷ to_off ∷ len ∷ []) = do
-  s ← end_of from_kind from_dom from from_off
-  d ← end_of to_kind to_dom to to_off
+  s ← copy_end_of from_kind from_dom from from_off
+  d ← copy_end_of to_kind to_dom to to_off
   n ← u16_word len
   Some (calls.Copy (record { source = s; dest = d; len = n; flags = grant_flag from_kind 1 + grant_flag to_kind 2 }))
 copy_of _ = None
@@ -165,7 +165,7 @@ only_domain _ = None
 -- a call on a table, by its word
 unfoldable pub table_of : List ℕ → List (List ℕ) → Option ScriptCall
 table_of word args = if bytes_eq word (codes "grant") then grant_of args
-    else (if bytes_eq word (codes "bytes") then bytes_of args
+    else (if bytes_eq word (codes "bytes") then grant_bytes_of args
     else (if bytes_eq word (codes "revoke") then option_map calls.Revoke (only_reference args)
     else (if bytes_eq word (codes "withdraw") then option_map calls.Withdraw (only_reference args)
     else (if bytes_eq word (codes "demote") then option_map calls.Demote (only_reference args)
@@ -186,9 +186,9 @@ access_of word args = if bytes_eq word (codes "map") then map_of args
     else (if bytes_eq word (codes "copy") then copy_of args else None))))))
 
 -- a call word and its arguments
-unfoldable pub call_of : List (List ℕ) → Option ScriptCall
-call_of [] = None
-call_of (word ∷ args) = option_or (table_of word args) (access_of word args)
+unfoldable pub call_line_of : List (List ℕ) → Option ScriptCall
+call_line_of [] = None
+call_line_of (word ∷ args) = option_or (table_of word args) (access_of word args)
 
 -- what follows `tick` and its domain: N
 unfoldable pub tick_of : List (List ℕ) → Option ScriptAction
@@ -199,7 +199,7 @@ tick_of _ = None
 
 -- what a body line's first word says together with the words after its domain
 unfoldable pub action_of : List ℕ → List (List ℕ) → Option ScriptAction
-action_of word args = if bytes_eq word (codes "do") then option_map actions.Do (call_of args)
-    else (if bytes_eq word (codes "begin") then option_map actions.Begin (call_of args)
+action_of word args = if bytes_eq word (codes "do") then option_map actions.Do (call_line_of args)
+    else (if bytes_eq word (codes "begin") then option_map actions.Begin (call_line_of args)
     else (if bytes_eq word (codes "tick") then tick_of args
     else (if bytes_eq word (codes "show") then option_map actions.Show (only_reference args) else None)))

@@ -29,19 +29,19 @@ wear_of (first ∷ []) = generation_word first
 wear_of _ = None
 
 -- what follows `domain`: ID USER:ROLE:TYPE FRAMES TABLEFRAMES VERSION
-unfoldable pub domain_of : List (List ℕ) → Option DomainLine
-domain_of (id ∷ label ∷ frames ∷ table_frames ∷ version ∷ []) = do
+unfoldable pub domain_line_of : List (List ℕ) → Option DomainLine
+domain_line_of (id ∷ label ∷ frames ∷ table_frames ∷ version ∷ []) = do
   i ← decimal_number id
   t ← type_word label
   f ← decimal_number frames
   n ← decimal_number table_frames
   v ← decimal_number version
   Some (record { id = i; type_name = t; frames = f; table_frames = n; version = v })
-domain_of _ = None
+domain_line_of _ = None
 
 -- what a line of the body asks, by its word and what follows its domain
-unfoldable pub asked_of : List ℕ → List (List ℕ) → Option BodyLine
-asked_of word args = if is_signal_word word then option_map bodies.Signal (signal_of word args)
+unfoldable pub body_line_of : List ℕ → List (List ℕ) → Option BodyLine
+body_line_of word args = if is_signal_word word then option_map bodies.Signal (signal_of word args)
     else option_map bodies.Action (action_of word args)
 
 -- a line of the body: its word, then ID and what follows
@@ -49,7 +49,7 @@ unfoldable pub body_of : List ℕ → List (List ℕ) → Option Line
 body_of word [] = None
 body_of word (id ∷ args) = do
   n ← decimal_number id
-  a ← asked_of word args
+  a ← body_line_of word args
   Some (lines.Body n a)
 
 -- a line of a script by its first word
@@ -57,5 +57,5 @@ abbrev pub line_of : List (List ℕ) → Option Line
 line_of [] = None
 line_of (word ∷ args) = if bytes_eq word (codes "triple") then option_map lines.Triple (triple_of args)
     else (if bytes_eq word (codes "wear") then option_map lines.Wear (wear_of args)
-    else (if bytes_eq word (codes "domain") then option_map lines.Domain (domain_of args)
+    else (if bytes_eq word (codes "domain") then option_map lines.Domain (domain_line_of args)
     else body_of word args))

@@ -1,8 +1,8 @@
 //! The calls that a script can ask for.
 ghost use Rattle.std.specs.Prelude.{◌≡◌, ◌≤◌, map};
-ghost use Rattle.gt_lines.specs.Calls.{page_of, sub_of, via_of, granted, grant_of, map_of, unmap_of, load_of};
-ghost use Rattle.gt_lines.specs.Calls.{store_of, peek_of, poke_of, end_of, grant_flag, copy_of, bytes_of};
-ghost use Rattle.gt_lines.specs.Calls.{only_reference, only_number, only_domain, table_of, access_of, call_of};
+ghost use Rattle.gt_lines.specs.Calls.{page_of, sub_of, via_of, entry_of_kind, grant_of, map_of, unmap_of, load_of};
+ghost use Rattle.gt_lines.specs.Calls.{store_of, peek_of, poke_of, copy_end_of, grant_flag, copy_of, grant_bytes_of};
+ghost use Rattle.gt_lines.specs.Calls.{only_reference, only_number, only_domain, table_of, access_of, call_line_of};
 ghost use Rattle.gt_lines.specs.Calls.{tick_of, action_of};
 
 use crate::fields::{
@@ -167,7 +167,7 @@ fn read_via(args: &[&[u8]]) -> Option<Entry>
 
 #[tactic(auto, unfolding(crate::specs::Calls::granted))]
 fn read_entry(kind: &[u8], args: &[&[u8]]) -> Option<Entry>
-    ensures { result ≡ granted kind.now (map (λ word. word.now) args.now) }
+    ensures { result ≡ entry_of_kind kind.now (map (λ word. word.now) args.now) }
 {
     match kind {
         b"page" => read_page(args),
@@ -192,7 +192,7 @@ fn read_grant<'a>(args: &[&'a [u8]]) -> Option<ScriptCall<'a>>
 
 #[tactic(auto, unfolding(crate::specs::Calls::bytes_of))]
 fn read_bytes<'a>(args: &[&'a [u8]]) -> Option<ScriptCall<'a>>
-    ensures { result ≡ bytes_of (map (λ word. word.now) args.now) }
+    ensures { result ≡ grant_bytes_of (map (λ word. word.now) args.now) }
 {
     match args {
         [gref, digits] => Some(ScriptCall::GrantBytes {
@@ -288,7 +288,7 @@ fn read_poke<'a>(args: &[&'a [u8]]) -> Option<ScriptCall<'a>>
 
 #[tactic(auto, unfolding(crate::specs::Calls::end_of))]
 fn read_end(kind: &[u8], dom: &[u8], place: &[u8], off: &[u8]) -> Option<End>
-    ensures { result ≡ end_of kind.now dom.now place.now off.now }
+    ensures { result ≡ copy_end_of kind.now dom.now place.now off.now }
 {
     match kind {
         b"gref" => Some(End {
@@ -444,7 +444,7 @@ fn read_access_call<'a>(word: &[u8], args: &[&'a [u8]]) -> Option<ScriptCall<'a>
 
 #[tactic(auto, unfolding(crate::specs::Calls::call_of))]
 fn read_call<'a>(words: &[&'a [u8]]) -> Option<ScriptCall<'a>>
-    ensures { result ≡ call_of (map (λ word. word.now) words.now) }
+    ensures { result ≡ call_line_of (map (λ word. word.now) words.now) }
 {
     let (word, args) = words.split_first()?;
     match read_table_call(word, args) {

@@ -1,6 +1,6 @@
 //! What the words of a line say.
 ghost use Rattle.std.specs.Prelude.{◌≡◌, map};
-ghost use Rattle.gt_lines.specs.Lines.{triple_of, wear_of, domain_of, asked_of, body_of, line_of};
+ghost use Rattle.gt_lines.specs.Lines.{triple_of, wear_of, domain_line_of, body_line_of, body_of, line_of};
 
 use crate::calls::{ScriptAction, read_action};
 use crate::fields::{generation, is, label_type, name};
@@ -73,7 +73,7 @@ fn read_wear(args: &[&[u8]]) -> Option<u32>
 
 #[tactic(auto, unfolding(crate::specs::Lines::domain_of))]
 fn read_domain<'a>(args: &[&'a [u8]]) -> Option<DomainLine<'a>>
-    ensures { result ≡ domain_of (map (λ word. word.now) args.now) }
+    ensures { result ≡ domain_line_of (map (λ word. word.now) args.now) }
 {
     match args {
         [id, label, frames, table_frames, version] => Some(DomainLine {
@@ -89,7 +89,7 @@ fn read_domain<'a>(args: &[&'a [u8]]) -> Option<DomainLine<'a>>
 
 #[tactic(auto, unfolding(crate::specs::Lines::asked_of))]
 fn read_asked<'a>(word: &[u8], args: &[&'a [u8]]) -> Option<BodyLine<'a>>
-    ensures { result ≡ asked_of word.now (map (λ word. word.now) args.now) }
+    ensures { result ≡ body_line_of word.now (map (λ word. word.now) args.now) }
 {
     if is_signal_word(word) {
         Some(BodyLine::Signal(read_signal(word, args)?))

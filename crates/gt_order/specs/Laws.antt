@@ -8,7 +8,7 @@ use Rattle.gt_order.specs.Prelude.{known_at, open_call, seen_by, values, IsRight
 use Rattle.gt_order.specs.Prelude.{AllowRelation, seen_in_step}
 use Rattle.gt_order.specs.Agreeing.{Agree, IsThe, IsWithin, StoresChange, dom_at}
 use Rattle.gt_order.specs.Ordering.{IsLegalOrder}
-use Rattle.gt_order.specs.Runs.{IsRun, SeatRun}
+use Rattle.gt_order.specs.Runs.{IsMonitorRun, SeatRun}
 
 -- where items and history agree, the core's step sees what the words' step shows, if that says what is there
 abbrev pub CoreSeesTheWords : Type 0
@@ -34,4 +34,4 @@ StepsKeepAgreement =
 abbrev pub RunsHaveLegalOrders : Type 0
 RunsHaveLegalOrders =
     (b : Board) (c : Config) (may : AllowRelation) (s : State (Unit {0}) View) (seats : ℕ → SeatRun)
-    (run : IsRun b c may s seats) → (g : Items) × IsLegalOrder c may b.layout run.shown.history seats g
+    (run : IsMonitorRun b c may s seats) → (g : Items) × IsLegalOrder c may b.layout run.shown.history seats g

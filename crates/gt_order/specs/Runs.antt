@@ -116,7 +116,7 @@ pub record IsSeatRun (b : Board) (c : Config) (may : AllowRelation) (i : ℕ) (r
 
 -- A run of the monitor whose domains all stand between two calls: words and views show a state, each domain came with
 -- the monitor, made its calls one after another, and has the view that it has there
-pub record IsRun (b : Board) (c : Config) (may : AllowRelation) (s : State (Unit {0}) View) (seats : ℕ → SeatRun)
+pub record IsMonitorRun (b : Board) (c : Config) (may : AllowRelation) (s : State (Unit {0}) View) (seats : ℕ → SeatRun)
     : Type 0 where
   pub limits : IsWithinLimits c
   pub layout : b.layout ≡ layout_of c

@@ -13,7 +13,7 @@ use Rattle.gt_policy.specs.declared.fault.TokenFaultKind.TheVariants.{Twice, Lim
 use Rattle.gt_policy.specs.declared.statements.Statement.{Statement}
 use Rattle.gt_policy.specs.declared.statements.Statement.TheVariants.{DeclareType, DeclareAttribute, GiveAttributes}
 use Rattle.gt_policy.specs.declared.statements.Statement.TheVariants.{Allow}
-use Rattle.gt_policy.specs.Names.{Names, no_names, symbol_at, is_declared, with_type, with_attribute, with_allow}
+use Rattle.gt_policy.specs.Names.{Names, no_names, symbol_at, is_declared, with_declared_type, with_attribute, with_allow}
 use Rattle.gt_policy.specs.Grammar.{◌>>=◌}
 use Rattle.gt_policy.specs.Spelling.{types_in, attributes_in, declared_in, allows_in, AreDistinct, AreClean}
 use Rattle.gt_policy.specs.Spelling.{declared_names}
@@ -125,13 +125,13 @@ tests_passed true u f g x y e = absurd (cc)
 tests_passed false true f g x y e = (refl, refl, ok_part x y e)
 tests_passed false false f g x y e = absurd (cc)
 
-type_added : (seen : Names) (w : List ℕ) → known seen w ≡ false → length seen.types < 256 → with_type seen w 0 ≡ Ok (plus_type seen w)
-unfolding with_type
+type_added : (seen : Names) (w : List ℕ) → known seen w ≡ false → length seen.types < 256 → with_declared_type seen w 0 ≡ Ok (plus_type seen w)
+unfolding with_declared_type
 type_added seen w new few =
     tests_pass (is_declared seen w) (nat_lt (length seen.types) 256) (record { line = 0; kind = Twice w }) (record { line = 0; kind = Limit }) (plus_type seen w) (declared_known seen w ∙ new) (grind (arith, nat_tests))
 
-added_type : (seen next : Names) (w : List ℕ) → with_type seen w 0 ≡ Ok next → (known seen w ≡ false) × (length seen.types < 256) × (plus_type seen w ≡ next)
-unfolding with_type
+added_type : (seen next : Names) (w : List ℕ) → with_declared_type seen w 0 ≡ Ok next → (known seen w ≡ false) × (length seen.types < 256) × (plus_type seen w ≡ next)
+unfolding with_declared_type
 added_type seen next w e =
     let p = tests_passed (is_declared seen w) (nat_lt (length seen.types) 256) (record { line = 0; kind = Twice w }) (record { line = 0; kind = Limit }) (plus_type seen w) next e in
     let few : nat_lt (length seen.types) 256 ≡ true = p.1 in
@@ -207,7 +207,7 @@ added_room [] seen end e ft fa fn = (
   same_names (seen.types ++ []) seen.types (seen.attributes ++ []) seen.attributes (seen.allows + 0) seen.allows (append-nil seen.types) (append-nil seen.attributes) (let e : seen.allows + 0 ≡ seen.allows = omega arith in e) ∙ ok_part seen end e,
 )
 added_room (DeclareType w ms ∷ ss) seen end e ft fa fn =
-    let b = bind_ok (with_type seen w 0) (λ n. all_added n ss) end e in
+    let b = bind_ok (with_declared_type seen w 0) (λ n. all_added n ss) end e in
     let p = added_type seen b.0 w b.1 in
     let here : all_added (plus_type seen w) ss ≡ Ok end = ap (λ (q : Names). all_added q ss) p.2 ∙ b.2 in
     let longer = length-push seen.types w in

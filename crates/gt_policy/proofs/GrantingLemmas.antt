@@ -34,7 +34,7 @@ use Rattle.gt_policy.specs.Names.{Names, symbol_at, symbol_of}
 use Rattle.gt_types.specs.Names.{permission_of, is_permission}
 use Rattle.gt_policy.specs.Grammar.{◌>>=◌}
 use Rattle.gt_policy.specs.Resolving.{known, any_symbol, type_in, type_symbol, attribute_in, attribute_symbol}
-use Rattle.gt_policy.specs.Resolving.{element_of, elements_of, given_by, allowed_by, with_statement, resolved_draft}
+use Rattle.gt_policy.specs.Resolving.{element_of, elements_of, given_by, with_allowance, with_statement, resolved_draft}
 use Rattle.gt_policy.specs.Resolving.{granted}
 use Rattle.gt_policy.specs.Resolving.{has_grant, nothing_given}
 use Rattle.gt_policy.specs.Allowing.{was_given, stands_for, is_with, is_without, holds_type, is_itself, says_itself}
@@ -164,9 +164,9 @@ give_none names w i is (m ∷ ms) d end id e =
 abbrev pub rule_of : List DraftElement → List DraftElement → Perms → DraftRule
 rule_of s t p = record { source = s; target = t; perms = p }
 
-pub allow_read : (names : Names) (d end : Draft) (a : Allowance) → allowed_by names d a ≡ Ok end
+pub allow_read : (names : Names) (d end : Draft) (a : Allowance) → with_allowance names d a ≡ Ok end
     → (s : List DraftElement) × (t : List DraftElement) × (elements_of names [] a.source ≡ Ok s) × (elements_of names [] a.target ≡ Ok t) × (end.given ≡ d.given) × (end.rules ≡ d.rules ++ rule_of s t (granted a.classes a.perms) ∷ [])
-unfolding allowed_by
+unfolding with_allowance
 allow_read names d end a e =
     let made : List DraftElement → List DraftElement → Draft = λ s t. record { given = d.given; rules = d.rules ++ rule_of s t (granted a.classes a.perms) ∷ [] } in
     let b1 = bind_ok (elements_of names [] a.source) (λ s. elements_of names [] a.target >>= λ t. ok_of (made s t)) end e in

@@ -14,7 +14,7 @@ use Rattle.gt_policy.specs.declared.statements.Allowance.{Allowance}
 use Rattle.gt_policy.specs.declared.statements.Statement.{Statement}
 use Rattle.gt_policy.specs.declared.statements.Statement.TheVariants.{DeclareType, DeclareAttribute, GiveAttributes}
 use Rattle.gt_policy.specs.declared.statements.Statement.TheVariants.{Allow}
-use Rattle.gt_policy.specs.Names.{Names, with_type, with_attribute, with_allow}
+use Rattle.gt_policy.specs.Names.{Names, with_declared_type, with_attribute, with_allow}
 use Rattle.gt_policy.specs.Grammar.{Lexemes, LexerState, ◌>>=◌, at, excluded, type_name, attribute_name, attributes}
 use Rattle.gt_policy.specs.Grammar.{set_of, colon, semicolon, classes_of, is_grant_alone, perms_of, allow_statement}
 use Rattle.gt_policy.specs.Grammar.{typeattribute_statement, type_statement, attribute_statement, beside, next_one}
@@ -66,7 +66,7 @@ semicolon_read ((token, n) ∷ ls) rest e = absurd (cc)
 
 -- what a statement adds to the names
 abbrev pub added : Names → Statement → Result Names TokenFault
-added seen (DeclareType w ms) = with_type seen w 0
+added seen (DeclareType w ms) = with_declared_type seen w 0
 added seen (DeclareAttribute w) = with_attribute seen w 0
 added seen (GiveAttributes m ms) = Ok seen
 added seen (Allow a) = with_allow seen 0
@@ -76,8 +76,8 @@ at_line true u f g h i x y e = absurd (cc)
 at_line false true f g h i x y e = e
 at_line false false f g h i x y e = absurd (cc)
 
-type_at_line : (seen next : Names) (w : List ℕ) (n k : ℕ) → with_type seen w n ≡ Ok next → with_type seen w k ≡ Ok next
-unfolding with_type
+type_at_line : (seen next : Names) (w : List ℕ) (n k : ℕ) → with_declared_type seen w n ≡ Ok next → with_declared_type seen w k ≡ Ok next
+unfolding with_declared_type
 type_at_line seen next w n k e = at_line _ _ _ _ _ _ _ _ e
 
 attribute_at_line : (seen next : Names) (w : List ℕ) (n k : ℕ) → with_attribute seen w n ≡ Ok next → with_attribute seen w k ≡ Ok next
@@ -98,9 +98,9 @@ type_more name seen = attributes true false name.1 >>= λ ms. type_end name.0.na
 type_read : (n : ℕ) (seen : Names) (ls : Lexemes) (s : Statement) (next : Names) (rest : Lexemes) → type_statement seen ls ≡ Ok ((s, next), rest) → SpellsStatement s ((TypeWord, n) ∷ ls) rest × (added seen s ≡ Ok next)
 unfolding type_statement
 type_read n seen ls s next rest e =
-    let b1 = bind_ok (type_name true ls) (λ name. with_type seen name.0.name name.0.line >>= λ after. type_more name after) ((s, next), rest) e in
+    let b1 = bind_ok (type_name true ls) (λ name. with_declared_type seen name.0.name name.0.line >>= λ after. type_more name after) ((s, next), rest) e in
     let m = b1.0.0 in
-    let b2 = bind_ok (with_type seen m.name m.line) (λ after. type_more b1.0 after) ((s, next), rest) b1.2 in
+    let b2 = bind_ok (with_declared_type seen m.name m.line) (λ after. type_more b1.0 after) ((s, next), rest) b1.2 in
     let b3 = bind_ok (attributes true false b1.0.1) (λ ms. type_end m.name b2.0 ms) ((s, next), rest) b2.2 in
     let front = type_name_read true ls b1.0 b1.1 in
     let spelled : SpellsStatement (DeclareType m.name b3.0.0) ((TypeWord, n) ∷ ls) b3.0.1 =
@@ -246,7 +246,7 @@ statement_spelled seen next s ls rest (type_of w ms n k behind _ x h) fits =
     let m : Mention = record { name = w; line = k } in
     let name : type_name true ((Name w, k) ∷ behind) ≡ Ok (m, behind) = rw x refl in
     ap (λ r. next_one r)
-    (ap (λ r. r >>= λ name. with_type seen name.0.name name.0.line >>= λ after. type_more name after) name ∙ ap (λ r. r >>= λ after. type_more (m, behind) after) (type_at_line seen next w 0 k fits)
+    (ap (λ r. r >>= λ name. with_declared_type seen name.0.name name.0.line >>= λ after. type_more name after) name ∙ ap (λ r. r >>= λ after. type_more (m, behind) after) (type_at_line seen next w 0 k fits)
     ∙ ap (λ r. r >>= λ found. type_end w next found) (names_spelled true false ms behind rest h))
 statement_spelled seen next s ls rest (attribute_of w n k j _) fits =
     let m : Mention = record { name = w; line = k } in

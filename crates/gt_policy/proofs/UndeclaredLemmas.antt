@@ -24,7 +24,7 @@ use Rattle.gt_policy.specs.Grammar.{◌>>=◌, at}
 use Rattle.gt_policy.specs.Spelling.{types_in, attributes_in, declared_in, declared_names, AreDistinct, AreClean}
 use Rattle.gt_policy.specs.Allowing.{Meaning}
 use Rattle.gt_policy.specs.Resolving.{known, any_symbol, type_in, type_symbol, attribute_in, attribute_symbol}
-use Rattle.gt_policy.specs.Resolving.{element_of, elements_of, given_by, allowed_by, with_statement, resolved_draft}
+use Rattle.gt_policy.specs.Resolving.{element_of, elements_of, given_by, with_allowance, with_statement, resolved_draft}
 use Rattle.gt_policy.specs.Resolving.{granted}
 use Rattle.gt_policy.specs.Resolving.{nothing_given}
 use Rattle.gt_policy.specs.Whole.{meaning_of}
@@ -201,8 +201,8 @@ given_tells ss distinct (m ∷ ms) d id =
     tells_bind ss ((OfAttribute, m) ∷ []) (all_used OfAttribute ms) (attribute_in (declared_names ss) m.name m.line) (λ a. given_by (declared_names ss) (next a) id ms) (attribute_tells ss distinct m) (λ a. given_tells ss distinct ms (next a) id)
 
 -- a statement; the type that it declares is among those declared
-allow_tells : (ss : List Statement) (d : Draft) (a : Allowance) → Tells ss (set_uses a.source ++ set_uses a.target) (allowed_by (declared_names ss) d a)
-unfolding allowed_by
+allow_tells : (ss : List Statement) (d : Draft) (a : Allowance) → Tells ss (set_uses a.source ++ set_uses a.target) (with_allowance (declared_names ss) d a)
+unfolding with_allowance
 allow_tells ss d a =
     let made : List DraftElement → List DraftElement → Draft = λ s t. record { given = d.given; rules = d.rules ++ record { source = s; target = t; perms = granted a.classes a.perms } ∷ [] } in
     tells_bind ss (set_uses a.source) (set_uses a.target) (elements_of (declared_names ss) [] a.source) (λ s. elements_of (declared_names ss) [] a.target >>= λ t. ok_of (made s t)) (elements_tell ss a.source [])

@@ -30,7 +30,7 @@ use Rattle.gt_host.proofs.AlikeLemmas.{bare_names, NamesGiven, AnswerGiven, asks
 use Rattle.gt_host.proofs.AlikeLemmas.{named-given}
 use Rattle.gt_host.proofs.AlikeLemmas.{names-after, answers-same, done-given}
 use Rattle.gt_types.specs.Names.{domain_of}
-use Rattle.gt_replay.specs.Orders.{held_after, without}
+use Rattle.gt_replay.specs.Orders.{held_after, handles_without}
 use Rattle.gt_replay.specs.Abreast.{bare_name, SameNames, SameHandles, HaveAnswered, WereAnswered}
 
 -- names
@@ -73,12 +73,12 @@ names_grown h x names g = names_answered (grown h x) names (names-after h (x ∷
 
 -- handles that are held
 
-without_bare : (handle : Handle) (held : List Handle) → map bare_handle (without handle held) ≡ without (bare_handle handle) (map bare_handle held)
+without_bare : (handle : Handle) (held : List Handle) → map bare_handle (handles_without handle held) ≡ handles_without (bare_handle handle) (map bare_handle held)
 without_bare handle [] = refl
 without_bare handle (x ∷ xs) = by (not (x.serial == handle.serial)) (without_bare handle xs)
   where
-    by : (b : Bool) → map bare_handle (without handle xs) ≡ without (bare_handle handle) (map bare_handle xs)
-        → map bare_handle (cond b (x ∷ without handle xs) (without handle xs)) ≡ cond b (bare_handle x ∷ without (bare_handle handle) (map bare_handle xs)) (without (bare_handle handle) (map bare_handle xs))
+    by : (b : Bool) → map bare_handle (handles_without handle xs) ≡ handles_without (bare_handle handle) (map bare_handle xs)
+        → map bare_handle (cond b (x ∷ handles_without handle xs) (handles_without handle xs)) ≡ cond b (bare_handle x ∷ handles_without (bare_handle handle) (map bare_handle xs)) (handles_without (bare_handle handle) (map bare_handle xs))
     by true rest = ap (λ (l : List Handle). bare_handle x ∷ l) rest
     by false rest = rest
 

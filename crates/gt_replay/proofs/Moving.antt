@@ -16,7 +16,7 @@ use Rattle.gt_script.specs.declared.tasks.DeedBy.TheVariants.{Do, Tell, Await}
 use Rattle.gt_host.specs.Naming.{AreNamed}
 use Rattle.gt_host.specs.Printing.{answer_line}
 use Rattle.gt_host.specs.Runs.{Named, SaysRequest, EndsWith, answer_in, handle_given, label_given, with_name}
-use Rattle.gt_replay.specs.Orders.{Happening, did, raised, passed, CallGoesOn, CallHappens, DoesDeed, FollowsList}
+use Rattle.gt_replay.specs.Orders.{Happening, did, raised, passed, CallGoesOn, CallHappens, DeedHappens, FollowsList}
 use Rattle.gt_replay.specs.Orders.{GivesMappingsBack}
 use Rattle.gt_replay.specs.Orders.{given_up, held_after}
 use Rattle.gt_replay.specs.Walking.{tasks_left_of, tasks_left, Continues, Moves, AnswersLine, IsClosedFrom, ClosesCall}
@@ -75,11 +75,11 @@ text_printed v w line rest is = sym (append_assoc v line rest) ∙ ap (λ (l : L
 
 at_line : (types : List (List ℕ)) (v : Walker) (named : List Named) (task : Task) (deed : Deed) (hs : List Happening) (text : List ℕ)
     → slice_get (tasks_left_of v) v.next ≡ Some task → task.deed ≡ deed → v.doing ≡ doing.Nothing
-    → DoesDeed types v.dom named v.held.items task.line deed (λ names holds more rest. FollowsList types v.dom names holds (drop (v.next + 1) (tasks_left_of v)) more rest) hs text
+    → DeedHappens types v.dom named v.held.items task.line deed (λ names holds more rest. FollowsList types v.dom names holds (drop (v.next + 1) (tasks_left_of v)) more rest) hs text
     → Continues types v named v.doing hs text
 unfolding Continues
 at_line types v named task deed hs text at does idle follows =
-    let own = subst (λ (d : Deed). DoesDeed types v.dom named v.held.items task.line d (λ names holds more rest. FollowsList types v.dom names holds (drop (v.next + 1) (tasks_left_of v)) more rest) hs text) (sym does) follows in
+    let own = subst (λ (d : Deed). DeedHappens types v.dom named v.held.items task.line d (λ names holds more rest. FollowsList types v.dom names holds (drop (v.next + 1) (tasks_left_of v)) more rest) hs text) (sym does) follows in
     let all = subst (λ (l : List Task). FollowsList types v.dom named v.held.items l hs text) (sym (drop_next (tasks_left_of v) v.next task at)) own in
     subst (λ (d : Doing). Continues types v named d hs text) (sym idle) all
 

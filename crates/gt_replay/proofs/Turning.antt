@@ -25,7 +25,7 @@ use Rattle.gt_host.specs.Printing.{answer_line}
 use Rattle.gt_host.specs.Runs.{EndsWith, AnswerNothing, answer_in, handle_given, label_given, with_name}
 use Rattle.gt_replay.specs.declared.replay.Turn.{Turn}
 use Rattle.gt_replay.specs.Orders.{Happening, did, doer, own_happenings, given_up, held_after, ticks_of}
-use Rattle.gt_replay.specs.Orders.{CallGoesOn, CallHappens, GivesMappingsBack, FollowsList, DoesDeed, Prints, AllFollow}
+use Rattle.gt_replay.specs.Orders.{CallGoesOn, CallHappens, GivesMappingsBack, FollowsList, DeedHappens, Prints, AllFollow}
 use Rattle.gt_replay.specs.Orders.{IsOrderOf}
 use Rattle.gt_replay.specs.Walking.{HaveOwnIds}
 use Rattle.gt_replay.specs.Courses.{Opened, resting, calling, giving, Course, course_answered, course_after, back_after}
@@ -133,7 +133,7 @@ line-next types k line call lost left e more part (inr (none, goes)) = record {
 }
 
 deed-next : (types : List (List ℕ)) (k : Course) (line : ℕ) (left : List Task) (deed : Deed) (x : Happening) (more : List Happening) (part : List ℕ)
-    → DoesDeed types k.dom k.named k.held line deed (λ names holds later rest. FollowsList types k.dom names holds left later rest) (x ∷ more) part
+    → DeedHappens types k.dom k.named k.held line deed (λ names holds later rest. FollowsList types k.dom names holds left later rest) (x ∷ more) part
     → k.opened ≡ resting → Next types k (λ c j. DeedLeads types k line left deed x j) more part
 deed-next types k line left (Tell flag) x more part (later, is, follows) idle = record {
   choice = 0;
@@ -303,7 +303,7 @@ over-by types k [] part ([], (none, nothing), is) = (refl, none, is)
 over-by types k [] part (handle ∷ order, (before, after, is, (e, trace, answer, more, so, ends, done)), nothing) = absurd (cc)
 over-by types k (t ∷ ts) part follows = absurd (by t.deed follows)
   where
-    by : (deed : Deed) → DoesDeed types k.dom k.named k.held t.line deed (λ names holds later rest. FollowsList types k.dom names holds ts later rest) [] part → ⊥
+    by : (deed : Deed) → DeedHappens types k.dom k.named k.held t.line deed (λ names holds later rest. FollowsList types k.dom names holds ts later rest) [] part → ⊥
     by (Tell flag) (more, is, follows) = cc
     by (Await flag) (more, is, follows) = cc
     by (Do call) (request, asks, (e, trace, answer, more, so, ends, done)) = cc

@@ -73,13 +73,13 @@ given_up (Unmap handle) = Some handle
 given_up request = None
 
 -- all but the handle with this serial
-abbrev pub without : Handle → List Handle → List Handle
-without handle held = filter (λ h. not (h.serial == handle.serial)) held
+abbrev pub handles_without : Handle → List Handle → List Handle
+handles_without handle held = filter (λ h. not (h.serial == handle.serial)) held
 
 -- what a domain holds after this answer: a map answered Ok gives it a handle,
 -- and an unmap answered Ok takes one
 abbrev pub held_after : List Handle → Option Handle → Answer → List Handle
-held_after held (Some handle) Done = without handle held
+held_after held (Some handle) Done = handles_without handle held
 held_after held lost (Mapped handle) = held ++ handle ∷ []
 held_after held lost answer = held
 
@@ -98,13 +98,13 @@ Prints line Rest text = (rest : List ℕ) × (text ≡ line ++ rest) × Rest res
 
 -- a domain does what a line says, and goes on so with what its labels then name, what it then holds
 -- and what it prints after that
-abbrev pub DoesDeed : List (List ℕ) → DomId → List Named → List Handle → ℕ → Deed
+abbrev pub DeedHappens : List (List ℕ) → DomId → List Named → List Handle → ℕ → Deed
     → (List Named → List Handle → List Happening → List ℕ → Type 0) → List Happening → List ℕ → Type 0
-DoesDeed types dom named held line (Tell flag) Next hs text =
+DeedHappens types dom named held line (Tell flag) Next hs text =
     (more : List Happening) × (hs ≡ raised dom flag ∷ more) × Next named held more text
-DoesDeed types dom named held line (Await flag) Next hs text =
+DeedHappens types dom named held line (Await flag) Next hs text =
     (more : List Happening) × (hs ≡ passed dom flag ∷ more) × Next named held more text
-DoesDeed types dom named held line (Do call) Next hs text =
+DeedHappens types dom named held line (Do call) Next hs text =
     (request : Request) × SaysRequest named dom call request
     × CallHappens dom request (λ answer more.
     Prints (answer_line types line dom answer)
@@ -115,7 +115,7 @@ DoesDeed types dom named held line (Do call) Next hs text =
 abbrev pub FollowsList : List (List ℕ) → DomId → List Named → List Handle → List Task → List Happening → List ℕ → Type 0
 FollowsList types dom named held [] hs text = (order : List Handle) × GivesMappingsBack dom order held hs × (text ≡ [])
 FollowsList types dom named held (t ∷ ts) hs text =
-    DoesDeed types dom named held t.line t.deed
+    DeedHappens types dom named held t.line t.deed
     (λ names holds more rest. FollowsList types dom names holds ts more rest) hs text
 
 -- scripts

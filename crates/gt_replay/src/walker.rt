@@ -1,6 +1,6 @@
 //! A domain on its list.
 ghost use Rattle.std.specs.Prelude.{◌≡◌, List, IfOk, OnOk};
-ghost use Rattle.gt_replay.specs.Orders.{given_up, held_after, without};
+ghost use Rattle.gt_replay.specs.Orders.{given_up, held_after, handles_without};
 
 use crate::fault::ReplayFault;
 use crate::replay::Moved;
@@ -54,7 +54,7 @@ fn given_up(request: Request<'_>) -> Option<Handle>
 
 // All but the handle with this serial.
 fn without(alloc: Global, held: &[Handle], handle: Handle) -> Result<Vec<Handle>, AllocError>
-    ensures { IfOk result (λ left. left.items ≡ without handle held.now) }
+    ensures { IfOk result (λ left. left.items ≡ handles_without handle held.now) }
 {
     let mut left = Vec::new(alloc);
     'held: for other in held {

@@ -19,13 +19,13 @@ use Rattle.gt_lines.specs.Words.{words}
 use Rattle.gt_lines.specs.Numbers.{number_below}
 use Rattle.gt_lines.specs.Fields.{◌>>=◌}
 use Rattle.gt_lines.specs.Lines.{line_of}
-use Rattle.gt_script.specs.Types.{with_type}
+use Rattle.gt_script.specs.Types.{with_type_name}
 use Rattle.gt_policy.specs.Allowing.{Allowed, type_named}
 use Rattle.gt_script.specs.Contents.{Contents, type_names_with}
 use Rattle.gt_script.specs.Script.{is_empty, is_misplaced, has_no_rights, or_config, or_mode, configured}
-use Rattle.gt_script.specs.Script.{domain_written, with_triple, type_named_in, with_domain, with_step, with_order}
+use Rattle.gt_script.specs.Script.{domain_written, with_triple, type_named_in, with_domain, with_domain_line, with_order}
 use Rattle.gt_script.specs.Script.{with_asked}
-use Rattle.gt_script.specs.Script.{with_body, with_placed, with_line, with_words, with_lines}
+use Rattle.gt_script.specs.Script.{with_body_line, with_placed, with_script_line, with_words, with_lines}
 use Rattle.gt_script.specs.Laws.{lines_said, triple_in, wear_in, domain_in, step_for, step_on, order_for, order_on}
 use Rattle.gt_script.specs.Laws.{asks_for}
 use Rattle.gt_script.specs.Laws.{is_for, IsLine}
@@ -137,7 +137,7 @@ adds-nothing n c = record {
 bind-at : {A B : Type 0} (o : Option A) (x : A) (f : A → Option B) → o ≡ Some x → (o >>= f) ≡ f x
 bind-at o x f e = ap (λ (q : Option _). q >>= f) e
 
-adds-triple-of : (n : ℕ) (c d : Contents) (t : TripleLine) (source target : List (List ℕ) × TypeId) → c.policy ≡ None → with_type c.types t.source ≡ Some source → with_type source.0 t.target ≡ Some target
+adds-triple-of : (n : ℕ) (c d : Contents) (t : TripleLine) (source target : List (List ℕ) × TypeId) → c.policy ≡ None → with_type_name c.types t.source ≡ Some source → with_type_name source.0 t.target ≡ Some target
     → record c { types = target.0; triples = c.triples ++ record { source = source.1; target = target.1; perm = t.perm } ∷ [] } ≡ d → Adds n (Some (line.Triple t)) c d
 adds-triple-of n c d t source target free s r same =
     let a = with_type-Typed c.types t.source source s in
@@ -223,8 +223,8 @@ configured-Some ds number dom e =
     (p.1 ∙ ap (λ (d : DomId). Some d.0) r.1, subst (λ (d : DomId). is_taken ds d ≡ true) r.1 r.0)
 
 adds-step : (n : ℕ) (c d : Contents) (number : Number) (asks : BodyLine) (dom : DomId) → c.command ≡ Play → number_below (2 ^ 16) number ≡ Some dom.0 → is_taken c.domains dom ≡ true
-    → with_step c n dom asks ≡ Ok d → Adds n (Some (line.Body number asks)) c d
-unfolding with_step
+    → with_domain_line c n dom asks ≡ Ok d → Adds n (Some (line.Body number asks)) c d
+unfolding with_domain_line
 adds-step n c d number asks dom play small taken e =
     let p = bind-Some _ _ d (or_mode-Ok _ d e) in
     subst (λ (x : Contents). Adds n (Some (line.Body number asks)) c x) (same_Some _ _ p.2) (record {
@@ -286,8 +286,8 @@ adds-known n c d number asks (Some dom) p e =
     let is = configured-Some c.domains number dom p in
     adds-asked n c d number asks dom c.command refl is.0 is.1 e
 
-adds-body : (n : ℕ) (c d : Contents) (number : Number) (asks : BodyLine) → with_body c n number asks ≡ Ok d → Adds n (Some (line.Body number asks)) c d
-unfolding with_body
+adds-body : (n : ℕ) (c d : Contents) (number : Number) (asks : BodyLine) → with_body_line c n number asks ≡ Ok d → Adds n (Some (line.Body number asks)) c d
+unfolding with_body_line
 adds-body n c d number asks e = adds-known n c d number asks (configured c.domains number) refl e
 
 -- a line in its place that gives the first generation is the first to do so, and a triple stands behind no policy
@@ -333,8 +333,8 @@ adds-placed n c d (line.Wear first) p e =
 adds-placed n c d (line.Domain l) p e = adds-domain n c d l e
 adds-placed n c d (line.Body number asks) p e = adds-body n c d number asks e
 
-adds-line : (n : ℕ) (c d : Contents) (l : Line) → with_line c n l ≡ Ok d → Adds n (Some l) c d
-unfolding with_line
+adds-line : (n : ℕ) (c d : Contents) (l : Line) → with_script_line c n l ≡ Ok d → Adds n (Some l) c d
+unfolding with_script_line
 adds-line n c d l e = let p = not-fault _ _ _ d e in adds-placed n c d l p.0 p.1
 
 -- a line that adds something without fault is blank or says something
@@ -342,7 +342,7 @@ record Said (n : ℕ) (ws : List (List ℕ)) (c d : Contents) : Type 0 where
   readable : (ws ≡ []) ⊎ IsSome (line_of ws)
   adds : Adds n (line_of ws) c d
 
-said-some : (n : ℕ) (w : List ℕ) (ws : List (List ℕ)) (c d : Contents) (o : Option Line) → line_of (w ∷ ws) ≡ o → (let r : Result Contents ScriptFaultKind = elim o [ None ↦ Err Syntax | Some l ↦ with_line c n l ] in r ≡ Ok d) → Said n (w ∷ ws) c d
+said-some : (n : ℕ) (w : List ℕ) (ws : List (List ℕ)) (c d : Contents) (o : Option Line) → line_of (w ∷ ws) ≡ o → (let r : Result Contents ScriptFaultKind = elim o [ None ↦ Err Syntax | Some l ↦ with_script_line c n l ] in r ≡ Ok d) → Said n (w ∷ ws) c d
 said-some n w ws c d None p e = absurd cc
 said-some n w ws c d (Some l) p e = record {
   readable = inr (subst IsSome (sym p) refl);

@@ -10,7 +10,7 @@ use Rattle.std.proofs.lemmas.List.Sums.{fails_before_first, prefix_len-le-length
 use Rattle.std.proofs.lemmas.List.Quantifiers.{all_pairs_push}
 use Rattle.std.proofs.lemmas.Slice.Eq.{bytes_eq-Decides}
 use Rattle.gt_types.specs.declared.TypeId.{TypeId}
-use Rattle.gt_script.specs.Types.{with_type}
+use Rattle.gt_script.specs.Types.{with_type_name}
 use Rattle.gt_policy.specs.Allowing.{type_named}
 
 number_kept : (b : Bool) (i n m l : ℕ) → cond (ltb n l) (Some n) None ≡ Some i → m ≡ cond (eqb n l) (l + cond b 0 1) n → cond (ltb m (l + 1)) (Some m) None ≡ Some i
@@ -95,6 +95,6 @@ typed_by names name (Some i) r p e =
     subst (λ q. Typed names name q) same (record { number = number-some _ _ p; grown = Grown-refl names })
 typed_by names name None r p e = typed_new names name (ltb (length names) 256) r p refl e
 
-pub with_type-Typed : (names : List (List ℕ)) (name : List ℕ) (r : List (List ℕ) × TypeId) → with_type names name ≡ Some r → Typed names name r
-unfolding with_type
+pub with_type-Typed : (names : List (List ℕ)) (name : List ℕ) (r : List (List ℕ) × TypeId) → with_type_name names name ≡ Some r → Typed names name r
+unfolding with_type_name
 with_type-Typed names name r e = typed_by names name _ r refl e

@@ -11,7 +11,7 @@ use Rattle.gt_types.specs.declared.limits.TheConstants.{LAST_GENERATION}
 use Rattle.gt_lines.specs.Words.{words}
 use Rattle.gt_lines.specs.Numbers.{decimal_value, decimal_number, below}
 use Rattle.gt_lines.specs.Fields.{◌>>=◌, generation_word}
-use Rattle.gt_lines.specs.Lines.{triple_of, wear_of, domain_of, body_of, line_of, asked_of}
+use Rattle.gt_lines.specs.Lines.{triple_of, wear_of, domain_line_of, body_of, line_of, body_line_of}
 use Rattle.gt_script.specs.Laws.{lines_said, wear_in}
 use Rattle.gt_lines.specs.declared.numbers.Number.{Number}
 use Rattle.gt_lines.specs.declared.lines.BodyLine.{BodyLine}
@@ -53,7 +53,7 @@ body-by (Some n) (Some a) l e = let same : line.Body n a ≡ l = cc in subst Age
 body-ages : (word : List ℕ) (args : List (List ℕ)) (l : Line) → body_of word args ≡ Some l → Ages l
 unfolding body_of
 body-ages word [] l e = absurd cc
-body-ages word (id ∷ args) l e = body-by (decimal_number id) (asked_of word args) l e
+body-ages word (id ∷ args) l e = body-by (decimal_number id) (body_line_of word args) l e
 
 -- a line by its first word, which is `triple`, `wear`, `domain` or another
 by-word : (a b c : Bool) (t : Option TripleLine) (w : Option ℕ) (d : Option DomainLine) (rest : Option Line) (l : Line)
@@ -69,7 +69,7 @@ by-word false false false t w d rest l f g e = g e
 
 line-ages : (ws : List (List ℕ)) (l : Line) → line_of ws ≡ Some l → Ages l
 line-ages [] l e = absurd cc
-line-ages (word ∷ args) l e = by-word (bytes_eq word (codes "triple")) (bytes_eq word (codes "wear")) (bytes_eq word (codes "domain")) (triple_of args) (wear_of args) (domain_of args) (body_of word args) l (wear-ages args) (body-ages word args l) e
+line-ages (word ∷ args) l e = by-word (bytes_eq word (codes "triple")) (bytes_eq word (codes "wear")) (bytes_eq word (codes "domain")) (triple_of args) (wear_of args) (domain_line_of args) (body_of word args) l (wear-ages args) (body-ages word args l) e
 
 ages-cons : (o : Option Line) → ((l : Line) → o ≡ Some l → Ages l) → (gs : List ℕ) → All (λ g. g ≤ LAST_GENERATION) gs → All (λ g. g ≤ LAST_GENERATION) (option_to_list (o >>= wear_in) ++ gs)
 ages-cons None h gs a = a

@@ -8,7 +8,7 @@ use Rattle.gt_script.specs.Prelude.{TripleLine, DomainLine, Line, ScriptFaultKin
 use Rattle.gt_script.specs.Prelude.{ScriptFault}
 use Rattle.gt_policy.specs.declared.fault.TokenFault as policy
 use Rattle.gt_script.specs.Blocks.{opening, closing, Means, IsFaultyBlock}
-use Rattle.gt_script.specs.Types.{with_type}
+use Rattle.gt_script.specs.Types.{with_type_name}
 use Rattle.gt_script.specs.Contents.{Contents, empty, with_policy}
 use Rattle.gt_lines.specs.declared.calls.ScriptAction.TheVariants as actions
 use Rattle.gt_lines.specs.declared.lines.BodyLine.TheVariants as bodies
@@ -52,8 +52,8 @@ or_config None = Err Config
 -- a script with one triple more
 unfoldable pub with_triple : Contents → TripleLine → Result Contents ScriptFaultKind
 with_triple c t = or_config (do
-  source ← with_type c.types t.source
-  target ← with_type source.0 t.target
+  source ← with_type_name c.types t.source
+  target ← with_type_name source.0 t.target
   Some (record c {
     types = target.0;
     triples = c.triples
@@ -62,7 +62,7 @@ with_triple c t = or_config (do
 
 -- the number of a domain's type, which the policy has to declare; if there is none, any name is a type
 abbrev pub type_named_in : Option Allowed → List (List ℕ) → List ℕ → Option (List (List ℕ) × TypeId)
-type_named_in None types name = with_type types name
+type_named_in None types name = with_type_name types name
 type_named_in (Some p) types name = option_map (λ id. (types, id)) (type_named p.types name)
 
 -- a script with these names of its types, and the number of one of them
@@ -109,8 +109,8 @@ or_mode (Some c) = Ok c
 or_mode None = Err Mode
 
 -- a script for `play` with one step more, on line n
-unfoldable pub with_step : Contents → ℕ → DomId → BodyLine → Result Contents ScriptFaultKind
-with_step c n dom asks = or_mode (do
+unfoldable pub with_domain_line : Contents → ℕ → DomId → BodyLine → Result Contents ScriptFaultKind
+with_domain_line c n dom asks = or_mode (do
   action ← action_in asks
   Some (record c { steps = c.steps ++ record { line = n; dom = dom; action = action } ∷ [] }))
 
@@ -122,12 +122,12 @@ with_order c n dom asks = or_mode (do
 
 -- a script for this command with a line of the body more
 abbrev pub with_asked : Command → Contents → ℕ → DomId → BodyLine → Result Contents ScriptFaultKind
-with_asked Play c n dom asks = with_step c n dom asks
+with_asked Play c n dom asks = with_domain_line c n dom asks
 with_asked Run c n dom asks = with_order c n dom asks
 
 -- a script with a line of the body more, of a domain that is configured
-unfoldable pub with_body : Contents → ℕ → Number → BodyLine → Result Contents ScriptFaultKind
-with_body c n number asks =
+unfoldable pub with_body_line : Contents → ℕ → Number → BodyLine → Result Contents ScriptFaultKind
+with_body_line c n number asks =
     elim (configured c.domains number) [ None ↦ Err Config | Some dom ↦ with_asked c.command c n dom asks ]
 
 -- a script with line n more, which is in its place
@@ -135,16 +135,16 @@ abbrev pub with_placed : Contents → ℕ → Line → Result Contents ScriptFau
 with_placed c n (line.Triple t) = with_triple c t
 with_placed c n (line.Wear first) = Ok (record c { wear = Some first })
 with_placed c n (line.Domain d) = with_domain c d
-with_placed c n (line.Body id asks) = with_body c n id asks
+with_placed c n (line.Body id asks) = with_body_line c n id asks
 
 -- a script with line n more
-unfoldable pub with_line : Contents → ℕ → Line → Result Contents ScriptFaultKind
-with_line c n l = if is_misplaced c l then Err Syntax else with_placed c n l
+unfoldable pub with_script_line : Contents → ℕ → Line → Result Contents ScriptFaultKind
+with_script_line c n l = if is_misplaced c l then Err Syntax else with_placed c n l
 
 -- the words of line n: none change nothing
 unfoldable pub with_words : Contents → ℕ → List (List ℕ) → Result Contents ScriptFaultKind
 with_words c n [] = Ok c
-with_words c n (w ∷ ws) = elim (line_of (w ∷ ws)) [ None ↦ Err Syntax | Some l ↦ with_line c n l ]
+with_words c n (w ∷ ws) = elim (line_of (w ∷ ws)) [ None ↦ Err Syntax | Some l ↦ with_script_line c n l ]
 
 -- lines from number n on: the first that adds nothing but a fault gives the fault
 abbrev pub with_lines : Contents → ℕ → List (List ℕ) → Result Contents ScriptFault

@@ -6,12 +6,12 @@ use Rattle.std.specs.Str.{bytes_eq}
 use Rattle.gt_types.specs.declared.TypeId.{TypeId}
 
 -- the names with this one among them, and its number: its place. None if it is a 257th
-unfoldable pub with_type : List (List ℕ) → List ℕ → Option (List (List ℕ) × TypeId)
-with_type names name = elim (position (λ t. bytes_eq t name) names) [
+unfoldable pub with_type_name : List (List ℕ) → List ℕ → Option (List (List ℕ) × TypeId)
+with_type_name names name = elim (position (λ t. bytes_eq t name) names) [
   | Some i ↦ Some (names, record { 0 = i })
   | None ↦ if nat_lt (length names) 256 then Some (names ++ name ∷ [], record { 0 = length names }) else None
 ]
 
 -- a name has this number among the names, which take it in if it is new; none if it is one too many
 abbrev pub GivesNumber : List (List ℕ) → List (List ℕ) → List ℕ → Option TypeId → Type 0
-GivesNumber old new name number = option_map (λ id. (new, id)) number ≡ with_type old name
+GivesNumber old new name number = option_map (λ id. (new, id)) number ≡ with_type_name old name

@@ -184,8 +184,9 @@ impl<'a> Script<'a> {
     ghost use Rattle.gt_policy.specs.Allowing.{allowed_of};
     ghost use Rattle.gt_script.specs.Contents.{contents_told, empty, with_policy, without_orders, type_names};
     ghost use Rattle.gt_script.specs.Contents.{first_gen};
-    ghost use Rattle.gt_script.specs.Script.{with_triple, GivesTypeNumber, with_domain, with_step, with_order};
-    ghost use Rattle.gt_script.specs.Script.{with_body, with_line, with_words, with_lines, completed, whole};
+    ghost use Rattle.gt_script.specs.Script.{with_triple, GivesTypeNumber, with_domain, with_domain_line, with_order};
+    ghost use Rattle.gt_script.specs.Script.{with_body_line, with_script_line, with_words, with_lines};
+    ghost use Rattle.gt_script.specs.Script.{completed, whole};
     ghost use Rattle.gt_script.specs.Script.{has_no_rights, has_body, is_misplaced};
     ghost use Rattle.gt_script.specs.Outcomes.{AddsLine, SaysScript};
 
@@ -323,7 +324,7 @@ impl<'a> Script<'a> {
         dom: DomId,
         asks: BodyLine<'a>,
     ) -> Result<Script<'a>, AddError>
-        ensures { AddsLine result (with_step (contents_told self.entry) line dom asks.entry) }
+        ensures { AddsLine result (with_domain_line (contents_told self.entry) line dom asks.entry) }
     {
         let Some(action) = action_in(asks) else {
             return Err(AddError::Fault(ScriptFaultKind::Mode));
@@ -354,7 +355,7 @@ impl<'a> Script<'a> {
 
     #[tactic(auto, unfolding(crate::specs::Script::with_body))]
     fn with_body(self, line: usize, id: Number, asks: BodyLine<'a>) -> Result<Script<'a>, AddError>
-        ensures { AddsLine result (with_body (contents_told self.entry) line id asks.entry) }
+        ensures { AddsLine result (with_body_line (contents_told self.entry) line id asks.entry) }
     {
         let Some(dom) = configured(&self.domains, id) else {
             return Err(AddError::Fault(ScriptFaultKind::Config));
@@ -397,7 +398,7 @@ impl<'a> Script<'a> {
 
     #[tactic(auto, unfolding(crate::specs::Script::with_line))]
     fn with_line(mut self, number: usize, line: Line<'a>) -> Result<Script<'a>, AddError>
-        ensures { AddsLine result (with_line (contents_told self.entry) number line.entry) }
+        ensures { AddsLine result (with_script_line (contents_told self.entry) number line.entry) }
     {
         if self.is_misplaced(&line) {
             return Err(AddError::Fault(ScriptFaultKind::Syntax));
