@@ -165,7 +165,7 @@ fn read_via(args: &[&[u8]]) -> Option<Entry>
     }
 }
 
-#[tactic(auto, unfolding(crate::specs::Calls::granted))]
+#[tactic(auto, unfolding(crate::specs::Calls::entry_of_kind))]
 fn read_entry(kind: &[u8], args: &[&[u8]]) -> Option<Entry>
     ensures { result ≡ entry_of_kind kind.now (map (λ word. word.now) args.now) }
 {
@@ -190,7 +190,7 @@ fn read_grant<'a>(args: &[&'a [u8]]) -> Option<ScriptCall<'a>>
     }
 }
 
-#[tactic(auto, unfolding(crate::specs::Calls::bytes_of))]
+#[tactic(auto, unfolding(crate::specs::Calls::grant_bytes_of))]
 fn read_bytes<'a>(args: &[&'a [u8]]) -> Option<ScriptCall<'a>>
     ensures { result ≡ grant_bytes_of (map (λ word. word.now) args.now) }
 {
@@ -286,7 +286,7 @@ fn read_poke<'a>(args: &[&'a [u8]]) -> Option<ScriptCall<'a>>
     }
 }
 
-#[tactic(auto, unfolding(crate::specs::Calls::end_of))]
+#[tactic(auto, unfolding(crate::specs::Calls::copy_end_of))]
 fn read_end(kind: &[u8], dom: &[u8], place: &[u8], off: &[u8]) -> Option<End>
     ensures { result ≡ copy_end_of kind.now dom.now place.now off.now }
 {
@@ -442,7 +442,7 @@ fn read_access_call<'a>(word: &[u8], args: &[&'a [u8]]) -> Option<ScriptCall<'a>
     }
 }
 
-#[tactic(auto, unfolding(crate::specs::Calls::call_of))]
+#[tactic(auto, unfolding(crate::specs::Calls::call_line_of))]
 fn read_call<'a>(words: &[&'a [u8]]) -> Option<ScriptCall<'a>>
     ensures { result ≡ call_line_of (map (λ word. word.now) words.now) }
 {

@@ -71,7 +71,7 @@ fn read_wear(args: &[&[u8]]) -> Option<u32>
     }
 }
 
-#[tactic(auto, unfolding(crate::specs::Lines::domain_of))]
+#[tactic(auto, unfolding(crate::specs::Lines::domain_line_of))]
 fn read_domain<'a>(args: &[&'a [u8]]) -> Option<DomainLine<'a>>
     ensures { result ≡ domain_line_of (map (λ word. word.now) args.now) }
 {
@@ -87,7 +87,7 @@ fn read_domain<'a>(args: &[&'a [u8]]) -> Option<DomainLine<'a>>
     }
 }
 
-#[tactic(auto, unfolding(crate::specs::Lines::asked_of))]
+#[tactic(auto, unfolding(crate::specs::Lines::body_line_of))]
 fn read_asked<'a>(word: &[u8], args: &[&'a [u8]]) -> Option<BodyLine<'a>>
     ensures { result ≡ body_line_of word.now (map (λ word. word.now) args.now) }
 {

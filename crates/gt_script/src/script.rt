@@ -317,7 +317,7 @@ impl<'a> Script<'a> {
         Ok(self)
     }
 
-    #[tactic(auto, unfolding(crate::specs::Script::with_step))]
+    #[tactic(auto, unfolding(crate::specs::Script::with_domain_line))]
     fn with_step(
         mut self,
         line: usize,
@@ -353,7 +353,7 @@ impl<'a> Script<'a> {
         Ok(self)
     }
 
-    #[tactic(auto, unfolding(crate::specs::Script::with_body))]
+    #[tactic(auto, unfolding(crate::specs::Script::with_body_line))]
     fn with_body(self, line: usize, id: Number, asks: BodyLine<'a>) -> Result<Script<'a>, AddError>
         ensures { AddsLine result (with_body_line (contents_told self.entry) line id asks.entry) }
     {
@@ -396,7 +396,7 @@ impl<'a> Script<'a> {
         }
     }
 
-    #[tactic(auto, unfolding(crate::specs::Script::with_line))]
+    #[tactic(auto, unfolding(crate::specs::Script::with_script_line))]
     fn with_line(mut self, number: usize, line: Line<'a>) -> Result<Script<'a>, AddError>
         ensures { AddsLine result (with_script_line (contents_told self.entry) number line.entry) }
     {

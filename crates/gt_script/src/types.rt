@@ -53,7 +53,7 @@ impl<'a> TypeNames<'a> {
     }
 
     /// The number of a type, which is added if it is new; None if it is one too many.
-    #[tactic(auto, unfolding(crate::specs::Types::with_type))]
+    #[tactic(auto, unfolding(crate::specs::Types::with_type_name))]
     pub fn number(&mut self, name: &'a [u8]) -> Result<Option<TypeId>, AllocError>
         ensures { IfOk result (GivesNumber self.old self.new name.entry.now) }
     {
