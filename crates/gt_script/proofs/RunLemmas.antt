@@ -87,3 +87,8 @@ head-configures lines c (Err e) of h = tt
 pub ordered : (lines : List (List ℕ)) (c : Contents) → IsScriptFor Run lines c → All (λ (o : Order). IsTrue (is_taken c.domains o.dom)) c.orders
 ordered lines c (inl s) = s.parts.ordered
 ordered lines c (inr s) = s.parts.ordered
+
+-- each flag that a task of a script for `run` names is one of the script's
+pub flags-numbered : (c : Contents) (r : Result RunScript ScriptError) → RunAnswers r (RunSays c) → IfOk r (λ s. AreNumbered s.flags s.tasks)
+flags-numbered c (Ok s) h = numbered c s.flags s.tasks (ap (λ (k : RunContents). k.flags) h.1) (ap (λ (k : RunContents). k.tasks) h.1)
+flags-numbered c (Err e) h = tt

@@ -4,6 +4,7 @@ ghost use Rattle.gt_types.specs.Config.{is_taken};
 ghost use Rattle.gt_types.specs.declared.limits.TheConstants.{LONGEST_TEXT};
 ghost use Rattle.gt_script.specs.Contents.{contents_told};
 ghost use Rattle.gt_script.specs.RunScripts.{CanConfigure, RunSays, RunTells, RunAnswers, list_of as list_in};
+ghost use Rattle.gt_script.specs.Stuck.{AreNumbered};
 
 use crate::command::Command;
 use crate::faults::{ScriptError, ScriptFault, ScriptFaultKind};
@@ -93,6 +94,7 @@ fn of_script<'a>(alloc: Global, script: Script<'a>) -> Result<RunScript<'a>, Scr
 pub fn parse_run<'a>(alloc: Global, bytes: &'a [u8]) -> Result<RunScript<'a>, ScriptError>
     ensures script { RunAnswers result (RunTells bytes.entry.now) }
     ensures holds { IfOk result (λ s. CanConfigure (contents_told s.head)) }
+    ensures numbered { IfOk result (λ s. AreNumbered s.flags s.tasks) }
 
     // The bytes up to one past the limit decide what all of them say.
     ensures beginning { (all : List ℕ) → bytes.entry.now ≡ take (LONGEST_TEXT + 1) all →
