@@ -93,9 +93,9 @@ pub(crate) fn publish(
     row: &mut Row,
     entry: Entry,
 ) -> Result<(), u64>
-    requires owner { Owns words.now seat.old gref row.old }
+    requires owner { Owns words.now seat.old gref row.old.generation row.old.entry }
     requires given { entry ≢ Entry.Invalid }
-    ensures owner { OwnsStill seat.old seat.new gref row.new }
+    ensures owner { OwnsStill seat.old seat.new gref row.new.generation row.new.entry }
 {
     if !row.entry.is_invalid() || row.generation >= LAST_GENERATION {
         return Err(0);
@@ -116,8 +116,8 @@ pub(crate) fn revoke(
     gref: GrantRef,
     row: &mut Row,
 ) -> Result<(), u64>
-    requires owner { Owns words.now seat.old gref row.old }
-    ensures owner { OwnsStill seat.old seat.new gref row.new }
+    requires owner { Owns words.now seat.old gref row.old.generation row.old.entry }
+    ensures owner { OwnsStill seat.old seat.new gref row.new.generation row.new.entry }
 {
     if row.entry.is_invalid() || row.generation > LAST_GENERATION {
         return Ok(());
@@ -135,9 +135,9 @@ pub(crate) fn withdraw(
     gref: GrantRef,
     row: &mut Row,
 ) -> Result<(), u64>
-    requires owner { Owns words.now seat.old gref row.old }
+    requires owner { Owns words.now seat.old gref row.old.generation row.old.entry }
     requires entry { HasDomain words.now.layout seat.old.dom }
-    ensures owner { OwnsStill seat.old seat.new gref row.new }
+    ensures owner { OwnsStill seat.old seat.new gref row.new.generation row.new.entry }
 {
     if row.entry.is_invalid() {
         return Ok(());
@@ -157,9 +157,9 @@ pub(crate) fn turn(
     row: &mut Row,
     ro: bool,
 ) -> Result<bool, u64>
-    requires owner { Owns words.now seat.old gref row.old }
+    requires owner { Owns words.now seat.old gref row.old.generation row.old.entry }
     requires entry { HasDomain words.now.layout seat.old.dom }
-    ensures owner { OwnsStill seat.old seat.new gref row.new }
+    ensures owner { OwnsStill seat.old seat.new gref row.new.generation row.new.entry }
 {
     let owner = seat.dom();
     let word = words.load_control(seat, owner, gref);
@@ -195,8 +195,8 @@ pub(crate) fn revoke_pinned(
     requires owner { IsSeatOf words.now owner.old }
     requires other { IsSeatOf words.now other.old }
     requires entry { IsEntryOf words.now owner.old.dom gref }
-    requires row { IsRowOf row.old gref owner.old.view }
-    ensures owner { OwnsStill owner.old owner.new gref row.new }
+    requires row { IsRowOf row.old.generation row.old.entry gref owner.old.view }
+    ensures owner { OwnsStill owner.old owner.new gref row.new.generation row.new.entry }
     ensures other { IsSameSeat other.old other.new }
 {
     let dom = owner.dom();
@@ -220,9 +220,9 @@ fn withdraw_and_grant(
 ) -> (u64, Result<(), u64>)
     requires owner { IsSeatOf words.now owner.old }
     requires entry { IsEntryOf words.now owner.old.dom gref }
-    requires row { IsRowOf row.old gref owner.old.view }
+    requires row { IsRowOf row.old.generation row.old.entry gref owner.old.view }
     requires given { entry ≢ Entry.Invalid }
-    ensures owner { OwnsStill owner.old owner.new gref row.new }
+    ensures owner { OwnsStill owner.old owner.new gref row.new.generation row.new.entry }
 {
     let dom = owner.dom();
     let _ = withdraw(words, owner, gref, row);
@@ -245,9 +245,9 @@ pub(crate) fn withdraw_pinned(
     requires owner { IsSeatOf words.now owner.old }
     requires other { IsSeatOf words.now other.old }
     requires entry { IsEntryOf words.now owner.old.dom gref }
-    requires row { IsRowOf row.old gref owner.old.view }
+    requires row { IsRowOf row.old.generation row.old.entry gref owner.old.view }
     requires given { entry ≢ Entry.Invalid }
-    ensures owner { OwnsStill owner.old owner.new gref row.new }
+    ensures owner { OwnsStill owner.old owner.new gref row.new.generation row.new.entry }
     ensures other { IsSameSeat other.old other.new }
 {
     let dom = owner.dom();
@@ -321,8 +321,8 @@ pub(crate) fn toggle(
     mut row: Row,
     times: u32,
 ) -> (Seat, Row)
-    requires owner { Owns words.now seat gref row }
-    ensures owner { Owns words.now result.0 gref result.1 }
+    requires owner { Owns words.now seat gref row.generation row.entry }
+    ensures owner { Owns words.now result.0 gref result.1.generation result.1.entry }
 {
     for _ in 0..times {
         let _ = publish(words, &mut seat, gref, &mut row, page(5));
