@@ -12,9 +12,9 @@ abbrev pub IsRowOf : ℕ → Entry → GrantRef → View → Type 0
 IsRowOf generation entry q v = last_of q.0 v ≡ record { generation = generation; entry = entry }
 
 -- the seat is one of these words', and this is what it knows of its entry, which is in its table
-abbrev pub Owns : Board → SeatOf → GrantRef → ℕ → Entry → Type 0
-Owns b s q generation entry = IsSeatOf b s × (q.0 < TABLE_ENTRIES) × IsRowOf generation entry q s.view
+abbrev pub HasRow : Board → SeatOf → GrantRef → ℕ → Entry → Type 0
+HasRow b s q generation entry = IsSeatOf b s × (q.0 < TABLE_ENTRIES) × IsRowOf generation entry q s.view
 
 -- the seat goes on, and this is what it knows of its entry then
-abbrev pub OwnsStill : SeatOf → SeatOf → GrantRef → ℕ → Entry → Type 0
-OwnsStill s s' q generation entry = IsSameSeat s s' × IsRowOf generation entry q s'.view
+abbrev pub HasRowStill : SeatOf → SeatOf → GrantRef → ℕ → Entry → Type 0
+HasRowStill s s' q generation entry = IsSameSeat s s' × IsRowOf generation entry q s'.view

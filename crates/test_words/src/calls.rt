@@ -3,7 +3,7 @@ ghost use Rattle.std.specs.Prelude.{◌≡◌, ◌≢◌, ◌+◌, ◌<◌, [], 
 ghost use Rattle.gt_words.specs.Views.{last_of, last_seen, record_seen};
 ghost use Rattle.gt_words.specs.Rule.{layout_of};
 ghost use Rattle.test_words.specs.Pinned.{IsPinned};
-ghost use Rattle.test_words.specs.Rows.{IsRowOf, Owns, OwnsStill};
+ghost use Rattle.test_words.specs.Rows.{IsRowOf, HasRow, HasRowStill};
 ghost use Rattle.gt_words.specs.Conditions.{KeepsPins, IsSeatOf, IsSameSeat, HasLooked, HasDomain, IsEntryOf};
 ghost use Rattle.gt_words.specs.Conditions.{position_at};
 
@@ -93,9 +93,9 @@ pub(crate) fn publish(
     row: &mut Row,
     entry: Entry,
 ) -> Result<(), u64>
-    requires owner { Owns words.now seat.old gref row.old.generation row.old.entry }
+    requires owner { HasRow words.now seat.old gref row.old.generation row.old.entry }
     requires given { entry ≢ Entry.Invalid }
-    ensures owner { OwnsStill seat.old seat.new gref row.new.generation row.new.entry }
+    ensures owner { HasRowStill seat.old seat.new gref row.new.generation row.new.entry }
 {
     if !row.entry.is_invalid() || row.generation >= LAST_GENERATION {
         return Err(0);
@@ -116,8 +116,8 @@ pub(crate) fn revoke(
     gref: GrantRef,
     row: &mut Row,
 ) -> Result<(), u64>
-    requires owner { Owns words.now seat.old gref row.old.generation row.old.entry }
-    ensures owner { OwnsStill seat.old seat.new gref row.new.generation row.new.entry }
+    requires owner { HasRow words.now seat.old gref row.old.generation row.old.entry }
+    ensures owner { HasRowStill seat.old seat.new gref row.new.generation row.new.entry }
 {
     if row.entry.is_invalid() || row.generation > LAST_GENERATION {
         return Ok(());
@@ -135,9 +135,9 @@ pub(crate) fn withdraw(
     gref: GrantRef,
     row: &mut Row,
 ) -> Result<(), u64>
-    requires owner { Owns words.now seat.old gref row.old.generation row.old.entry }
+    requires owner { HasRow words.now seat.old gref row.old.generation row.old.entry }
     requires entry { HasDomain words.now.layout seat.old.dom }
-    ensures owner { OwnsStill seat.old seat.new gref row.new.generation row.new.entry }
+    ensures owner { HasRowStill seat.old seat.new gref row.new.generation row.new.entry }
 {
     if row.entry.is_invalid() {
         return Ok(());
@@ -157,9 +157,9 @@ pub(crate) fn turn(
     row: &mut Row,
     ro: bool,
 ) -> Result<bool, u64>
-    requires owner { Owns words.now seat.old gref row.old.generation row.old.entry }
+    requires owner { HasRow words.now seat.old gref row.old.generation row.old.entry }
     requires entry { HasDomain words.now.layout seat.old.dom }
-    ensures owner { OwnsStill seat.old seat.new gref row.new.generation row.new.entry }
+    ensures owner { HasRowStill seat.old seat.new gref row.new.generation row.new.entry }
 {
     let owner = seat.dom();
     let word = words.load_control(seat, owner, gref);
@@ -196,7 +196,7 @@ pub(crate) fn revoke_pinned(
     requires other { IsSeatOf words.now other.old }
     requires entry { IsEntryOf words.now owner.old.dom gref }
     requires row { IsRowOf row.old.generation row.old.entry gref owner.old.view }
-    ensures owner { OwnsStill owner.old owner.new gref row.new.generation row.new.entry }
+    ensures owner { HasRowStill owner.old owner.new gref row.new.generation row.new.entry }
     ensures other { IsSameSeat other.old other.new }
 {
     let dom = owner.dom();
@@ -222,7 +222,7 @@ fn withdraw_and_grant(
     requires entry { IsEntryOf words.now owner.old.dom gref }
     requires row { IsRowOf row.old.generation row.old.entry gref owner.old.view }
     requires given { entry ≢ Entry.Invalid }
-    ensures owner { OwnsStill owner.old owner.new gref row.new.generation row.new.entry }
+    ensures owner { HasRowStill owner.old owner.new gref row.new.generation row.new.entry }
 {
     let dom = owner.dom();
     let _ = withdraw(words, owner, gref, row);
@@ -247,7 +247,7 @@ pub(crate) fn withdraw_pinned(
     requires entry { IsEntryOf words.now owner.old.dom gref }
     requires row { IsRowOf row.old.generation row.old.entry gref owner.old.view }
     requires given { entry ≢ Entry.Invalid }
-    ensures owner { OwnsStill owner.old owner.new gref row.new.generation row.new.entry }
+    ensures owner { HasRowStill owner.old owner.new gref row.new.generation row.new.entry }
     ensures other { IsSameSeat other.old other.new }
 {
     let dom = owner.dom();
@@ -321,8 +321,8 @@ pub(crate) fn toggle(
     mut row: Row,
     times: u32,
 ) -> (Seat, Row)
-    requires owner { Owns words.now seat gref row.generation row.entry }
-    ensures owner { Owns words.now result.0 gref result.1.generation result.1.entry }
+    requires owner { HasRow words.now seat gref row.generation row.entry }
+    ensures owner { HasRow words.now result.0 gref result.1.generation result.1.entry }
 {
     for _ in 0..times {
         let _ = publish(words, &mut seat, gref, &mut row, page(5));
