@@ -1,8 +1,8 @@
 //! A domain in a state of the search.
-use crate::counts::{Counts, NO_COUNTS};
-use gt_calls::{Call, Change, Held, Holder, Own, Step, own_at};
-use gt_entry::Header;
-use gt_types::GrantRef;
+ghost use Rattle.std.specs.Prelude.{◌≡◌, ◌++◌, [], ◌∷◌, map};
+ghost use Rattle.gt_search.specs.Mappings.{labels_of, pins_of, apart_from, said, unless_given};
+
+use gt_calls::{Call, Held, Holder, Step};
 use std::alloc::{AllocError, Global};
 
 /// A mapping, and the label that names it.
@@ -26,96 +26,101 @@ pub struct Open {
 pub struct Actor<'a> {
     /// How many tasks of its list it has begun.
     pub next: usize,
-    pub header: Header,
-    /// The entries up to the last one that was changed.
-    pub own: Vec<Own>,
-    pub counts: Vec<Counts>,
     /// The oldest first.
     pub mappings: Vec<Mapping<'a>>,
     pub open: Option<Open>,
 }
 
+// The mapping, without its label if that is the one given to another mapping.
+fn unless_given<'a>(mapping: Mapping<'a>, label: Option<&'a [u8]>) -> Mapping<'a>
+    ensures pin { result.held ≡ mapping.entry.held }
+    ensures label { said result.label ≡ unless_given (said label.entry) (said mapping.entry.label) }
+{
+    if mapping.label == label {
+        let held = mapping.held;
+        Mapping { label: None, held }
+    } else {
+        mapping
+    }
+}
+
+// None of these mappings has this label from now on.
+fn unlabel<'a>(mappings: &mut Vec<Mapping<'a>>, label: Option<&'a [u8]>)
+    ensures pins { pins_of mappings.new.items ≡ pins_of mappings.old.items }
+    ensures labels { labels_of mappings.new.items ≡ apart_from (said label.entry) (labels_of mappings.old.items) }
+{
+    for mapping in mappings.as_mut_slice() {
+        *mapping = unless_given(*mapping, label);
+    }
+}
+
 impl<'a> Actor<'a> {
+    ghost use Rattle.std.specs.Prelude.{◌≡◌, ◌+◌, ◌<◌, ◌^◌, ◌++◌, [], ◌∷◌, OnOk, IfOk};
+    ghost use Rattle.gt_search.specs.Starting.{giving_actor, opened_actor, passed_actor};
+    ghost use Rattle.gt_search.specs.Mappings.{labels_of, pins_of, apart_from, said, given_back};
+    ghost use Rattle.gt_search.specs.Copies.{SameActor};
+
     /// A domain before the first task of its list.
-    pub fn new(alloc: Global, header: Header) -> Actor<'a> {
+    pub fn new(alloc: Global) -> Actor<'a> {
         Actor {
             next: 0,
-            header,
-            own: Vec::new(alloc),
-            counts: Vec::new(alloc),
             mappings: Vec::new(alloc),
             open: None,
         }
     }
 
     /// The same domain once more.
-    pub fn copy(&self, alloc: Global) -> Result<Actor<'a>, AllocError> {
+    pub fn copy(&self, alloc: Global) -> Result<Actor<'a>, AllocError>
+        ensures { IfOk result (SameActor self.now) }
+    {
         Ok(Actor {
             next: self.next,
-            header: self.header,
-            own: Vec::from_slice(alloc, self.own.as_slice())?,
-            counts: Vec::from_slice(alloc, self.counts.as_slice())?,
             mappings: Vec::from_slice(alloc, self.mappings.as_slice())?,
             open: self.open,
         })
     }
 
-    /// The counts of an entry.
-    pub fn counts_at(&self, gref: GrantRef) -> Counts {
-        let at = gref.0 as usize;
-        if at < self.counts.len() {
-            self.counts[at]
-        } else {
-            NO_COUNTS
-        }
+    /// It begins its next task with a call, which has this step to make.
+    pub fn start(&mut self, call: Call, step: Step)
+        ensures { self.old.next + 1 < 2 ^ 64 → self.new ≡ opened_actor self.old call step }
+    {
+        let task = Some(self.next);
+        self.next = self.next.saturating_add(1);
+        self.open = Some(Open { task, call, step });
     }
 
-    /// The control word of an entry.
-    pub fn word(&self, first_gen: u32, gref: GrantRef) -> u64 {
-        let own = own_at(self.own.as_slice(), first_gen, gref);
-        self.counts_at(gref).word(own)
+    /// It goes past its next task.
+    pub fn pass(&mut self)
+        ensures { self.old.next + 1 < 2 ^ 64 → self.new ≡ passed_actor self.old }
+    {
+        self.next = self.next.saturating_add(1);
     }
 
-    /// An entry has these counts from now on.
-    pub fn set_counts(&mut self, gref: GrantRef, counts: Counts) -> Result<(), AllocError> {
-        let at = gref.0 as usize;
-        if self.counts.len() <= at {
-            self.counts.resize(at + 1, NO_COUNTS)?;
-        }
-        self.counts[at] = counts;
-        Ok(())
-    }
-
-    /// Its owner changes an entry.
-    pub fn change(
-        &mut self,
-        first_gen: u32,
-        gref: GrantRef,
-        change: Change,
-    ) -> Result<(), AllocError> {
-        let at = gref.0 as usize;
-        let changed = own_at(self.own.as_slice(), first_gen, gref).after(change);
-        if self.own.len() <= at {
-            let untouched = own_at(&[], first_gen, gref);
-            self.own.resize(at + 1, untouched)?;
-        }
-        self.own[at] = changed;
-        Ok(())
+    /// It begins to give a mapping back at the end of its list, and has this step to make.
+    pub fn give(&mut self, call: Call, step: Step)
+        ensures { self.new ≡ giving_actor self.old call step }
+    {
+        let task = None;
+        self.open = Some(Open { task, call, step });
     }
 
     /// It has a new mapping. Its label names no other one from now on.
-    pub fn map(&mut self, label: Option<&'a [u8]>, held: Held) -> Result<(), AllocError> {
-        for mapping in self.mappings.as_mut_slice() {
-            if mapping.label == label {
-                mapping.label = None;
-            }
-        }
+    pub fn map(&mut self, label: Option<&'a [u8]>, held: Held) -> Result<(), AllocError>
+        ensures pins { OnOk result (pins_of self.new.mappings.items ≡ pins_of self.old.mappings.items ++ held ∷ []) }
+        ensures labels { OnOk result (labels_of self.new.mappings.items ≡
+            apart_from (said label.entry) (labels_of self.old.mappings.items) ++ said label.entry ∷ []) }
+        ensures rest { OnOk result (self.new ≡ record self.old { mappings = self.new.mappings }) }
+    {
+        unlabel(&mut self.mappings, label);
         self.mappings.push(Mapping { label, held })?;
         Ok(())
     }
 
     /// It gives up the mapping under this handle, whose serial is the place of the mapping.
-    pub fn forget(&mut self, holder: Holder) {
+    pub fn forget(&mut self, holder: Holder)
+        ensures mappings { self.new.mappings.items ≡ given_back holder self.old.mappings.items }
+        ensures rest { self.new ≡ record self.old { mappings = self.new.mappings } }
+    {
         if let Holder::Mapping(handle) = holder {
             let at = handle.serial as usize;
             if at < self.mappings.len() {

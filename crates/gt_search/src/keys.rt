@@ -1,29 +1,36 @@
 //! The bytes that tell a state from all others.
 use crate::actor::{Actor, Mapping, Open};
-use crate::pages::Page;
 use crate::phases::{push, push_held, push_phase};
 use crate::scene::{Scene, World};
-use gt_calls::Holder;
+use gt_calls::{Half, Holder};
 use gt_types::GrantRef;
+use gt_world::{Page, Table};
 use std::alloc::AllocError;
 
 // The entries that are not as they were at the start.
-fn push_entries(key: &mut Vec<u8>, first_gen: u32, actor: &Actor) -> Result<(), AllocError> {
-    let untouched = actor.word(first_gen, GrantRef(u32::MAX));
-    let count = actor.counts.len().max(actor.own.len());
+fn push_entries(key: &mut Vec<u8>, first_gen: u32, table: &Table) -> Result<(), AllocError> {
+    let untouched = table.word(first_gen, GrantRef(u32::MAX));
+    let count = table.counts.len().max(table.own.len());
     for at in 0..count {
         let gref = GrantRef((at % 4_294_967_296) as u32);
-        let word = actor.word(first_gen, gref);
-        let counts = actor.counts_at(gref);
-        if word != untouched || counts.first != 0 || counts.second != 0 {
+        let word = table.word(first_gen, gref);
+        let first = table.body(gref, Half::First);
+        let second = table.body(gref, Half::Second);
+        if word != untouched || first != 0 || second != 0 {
             push(key, 1)?;
             push(key, at as u64)?;
             push(key, word)?;
-            push(key, counts.first)?;
-            push(key, counts.second)?;
+            push(key, first)?;
+            push(key, second)?;
         }
     }
     push(key, 0)
+}
+
+fn push_table(key: &mut Vec<u8>, first_gen: u32, table: &Table) -> Result<(), AllocError> {
+    let header = table.header;
+    key.extend_from_slice(&[header.version, header.frames])?;
+    push_entries(key, first_gen, table)
 }
 
 fn push_mapping(key: &mut Vec<u8>, mapping: &Mapping) -> Result<(), AllocError> {
@@ -71,11 +78,8 @@ fn push_open(key: &mut Vec<u8>, open: Option<&Open>) -> Result<(), AllocError> {
     }
 }
 
-fn push_actor(key: &mut Vec<u8>, first_gen: u32, actor: &Actor) -> Result<(), AllocError> {
+fn push_actor(key: &mut Vec<u8>, actor: &Actor) -> Result<(), AllocError> {
     push(key, actor.next as u64)?;
-    let header = actor.header;
-    key.extend_from_slice(&[header.version, header.frames])?;
-    push_entries(key, first_gen, actor)?;
     push_mappings(key, actor.mappings.as_slice())?;
     push_open(key, actor.open.as_ref())
 }
@@ -108,9 +112,12 @@ impl<'s, 'a> Scene<'s, 'a> {
         let mut key = Vec::new(self.alloc);
         push_told(&mut key, world.told.as_slice())?;
         for actor in world.actors.as_slice() {
-            push_actor(&mut key, self.first_gen, actor)?;
+            push_actor(&mut key, actor)?;
         }
-        for page in world.pages.as_slice() {
+        for table in world.ground.tables.as_slice() {
+            push_table(&mut key, self.roster.config().first_gen, table)?;
+        }
+        for page in world.ground.pages.as_slice() {
             push_page(&mut key, page)?;
         }
         Ok(key)

@@ -7,20 +7,19 @@
 //! What holds: it is safe and ends. Nothing is claimed of the turns: whoever uses them replays them on the core
 //! (`gt_replay`), which says what they lead to.
 //!
-//! It uses `gt_calls` (what calls do next), `gt_host` (what lines ask and print), `gt_script` and `gt_replay` (turns).
+//! It uses `gt_calls` (what calls do next), `gt_world` (words and bytes), `gt_host` (what lines ask and print),
+//! `gt_script` and `gt_replay` (turns).
 #![tactic(auto)]
 
 mod actor;
-mod counts;
+mod calls;
 mod exploring;
 mod fault;
 mod keys;
 mod moves;
 mod names;
-mod pages;
 mod phases;
 mod scene;
-mod sight;
 mod suffixes;
 
 pub use exploring::{Found, search};

@@ -1,17 +1,22 @@
 //! The moves of the domains.
+ghost use Rattle.std.specs.Prelude.{◌≡◌, ◌++◌, false, get_or, OnOk};
+ghost use Rattle.gt_core.specs.Acting.{answer_of, answer_with};
+ghost use Rattle.gt_search.specs.Ends.{choices};
+
 use crate::actor::{Actor, Open};
+use crate::calls::{Opening, go_on, open_call};
 use crate::fault::SearchFault;
 use crate::names::names_of;
-use crate::pages;
 use crate::scene::{Scene, World};
-use gt_calls::{Action, Call, Handles, Held, Known, Request, Seen, Start, Step, Value, Verdict};
+use gt_calls::{Action, Call, Handles, Held, Known, Request, Seen, Step, Value, Verdict};
 use gt_core::{Answer, Bytes};
-use gt_host::{bytes_said, label_given, push_answer_line, request_of};
+use gt_host::{Rights, bytes_said, label_given, push_answer_line, request_of};
 use gt_lines::ScriptCall;
 use gt_replay::Turn;
 use gt_script::{Deed, Task};
 use gt_types::DomId;
-use std::alloc::Global;
+use gt_world::Table;
+use std::alloc::{AllocError, Global};
 
 /// What a move led to.
 #[derive(Drop)]
@@ -24,14 +29,9 @@ pub enum Led {
     Answered(Vec<u8>),
 }
 
-// How a call begins.
-#[derive(Clone, Copy)]
-enum Opening {
-    Open(Call, Step),
-    Done(Verdict),
-}
-
-fn value_answer(value: Value) -> Answer {
+fn value_answer(value: Value) -> Answer
+    ensures { result ≡ answer_with value }
+{
     match value {
         Value::Frames(frames) => Answer::Frames(frames),
         Value::Size(size) => Answer::Size(size),
@@ -40,7 +40,9 @@ fn value_answer(value: Value) -> Answer {
 }
 
 // The answer of a call that ends so, if it gives no bytes. A handle is not printed.
-fn answer_of(verdict: Verdict) -> Answer {
+fn answer_of(verdict: Verdict) -> Answer
+    ensures { result ≡ answer_of verdict }
+{
     match verdict {
         Verdict::Granted | Verdict::Mapped(_) => Answer::Done,
         Verdict::Given(value) => value_answer(value),
@@ -67,68 +69,123 @@ fn label_of<'a>(task: &Task<'a>) -> Option<&'a [u8]> {
     }
 }
 
-// The moves that a domain has at the end of its list: each mapping can be given back.
-fn push_endings(turns: &mut Vec<Turn>, place: usize, mappings: usize) -> Result<(), SearchFault> {
-    for choice in 0..mappings {
+// So many moves of a domain, each with its own choice.
+fn push_choices(turns: &mut Vec<Turn>, place: usize, count: usize) -> Result<(), AllocError>
+    ensures { OnOk result (turns.new.items ≡ turns.old.items ++ choices place count) }
+{
+    for choice in 0..count {
         turns.push(Turn { place, choice })?;
     }
     Ok(())
 }
 
+// Whether a flag was raised.
+fn is_told(told: &[bool], flag: usize) -> bool
+    ensures { result ≡ get_or told.now flag false }
+{
+    flag < told.len() && told[flag]
+}
+
 impl<'s, 'a> Scene<'s, 'a> {
-    // How a call begins.
-    fn opening(
-        &self,
-        actor: &Actor<'a>,
-        mappings: &Handles<Held>,
-        dom: DomId,
-        request: Request<'_>,
-    ) -> Opening {
-        let known = Known {
+    ghost use Rattle.std.specs.Prelude.{◌≡◌, ◌<◌, ◌^◌, List, ◌∷◌, Option, Some, true, length, slice_get, slice_set, IfOk, IsTrue};
+    ghost use Rattle.gt_core.specs.GoingOn.{beginning};
+    ghost use Rattle.gt_core.specs.Legal.{BeginsRight};
+    ghost use Rattle.gt_core.specs.declared.trace.Answer.{Answer};
+    ghost use Rattle.gt_host.specs.Printing.{answer_line};
+    ghost use Rattle.gt_replay.specs.Orders.{given_up};
+    ghost use Rattle.gt_search.specs.declared.actor.Actor.{Actor};
+    ghost use Rattle.gt_calls.specs.declared.request.Request.{Request};
+    ghost use Rattle.gt_calls.specs.Path.{path};
+    ghost use Rattle.gt_calls.specs.declared.judging.TheConstants.{END_OF_SERIALS};
+    ghost use Rattle.gt_core.specs.History.{History, Setting, Underway, known_at, maps_answered_at, seen_by, values};
+    ghost use Rattle.gt_search.specs.Continuing.{GoesOnAsRun, StillKnows};
+    ghost use Rattle.gt_host.specs.Runs.{SaysRequest};
+    ghost use Rattle.gt_calls.specs.declared.request.Request.TheVariants.{Unmap};
+    ghost use Rattle.gt_handles.specs.declared.handles.Handle.{Handle};
+    ghost use Rattle.gt_types.specs.declared.config.DomainConfig.{DomainConfig};
+    ghost use Rattle.gt_replay.specs.Courses.{Course, IsDoneIf, back_after, course_after, resting};
+    ghost use Rattle.gt_script.specs.Lists.{Task};
+    ghost use Rattle.gt_search.specs.Starting.{BeginsAsRun, GivesAsRun, IsNextCall, MovesTo, PassesTo, PrintsLine, held_but};
+    ghost use Rattle.gt_calls.specs.Following.{Goes, IsLeftAlike};
+    ghost use Rattle.gt_calls.specs.Rules.{CallerKnowledge, knows};
+    ghost use Rattle.gt_host.specs.Rights.{may_by};
+    ghost use Rattle.gt_search.specs.Beginnings.{BeginsAlike, OpensSo};
+    ghost use Rattle.gt_search.specs.Calls.{GoesAlong, KnowsTable, Rise, ShowsCalls, handles_at, known_in, no_mappings};
+    ghost use Rattle.gt_search.specs.Ends.{AreDone, choices_at, is_done, is_ended, tasks_at, turns_from};
+
+    // What a domain knows, if these are its mappings.
+    fn known<'k>(&'k self, table: &'k Table, mappings: &'k Handles<Held>) -> Known<'k, Rights>
+        ensures { knows may_by result ≡ known_in self.now table.now mappings.now }
+    {
+        Known {
             config: &self.roster,
             rights: &self.rights,
-            own: actor.own.as_slice(),
-            header: actor.header,
+            own: table.own.as_slice(),
+            header: table.header,
             mappings,
-        };
-        match Call::begin(dom, request, &known) {
-            Start::Done(verdict) => Opening::Done(verdict),
-            Start::Open(first) => {
-                let mut call = first;
-                match call.next(&known, Seen::Nothing) {
-                    Action::Step(step) => Opening::Open(call, step),
-                    Action::Done(verdict) => Opening::Done(verdict),
-                }
-            }
         }
     }
 
-    // How a call goes on that saw this.
-    fn next(
+    // How a call begins.
+    fn opening(
         &self,
-        actor: &Actor<'a>,
-        open: Open,
-        seen: Seen,
-    ) -> Result<(Call, Action), SearchFault> {
-        let names = names_of(self.alloc, open.call.caller, actor.mappings.as_slice())?;
-        let known = Known {
-            config: &self.roster,
-            rights: &self.rights,
-            own: actor.own.as_slice(),
-            header: actor.header,
-            mappings: &names.mappings,
-        };
-        let mut call = open.call;
-        let action = call.next(&known, seen);
-        Ok((call, action))
+        table: &Table,
+        mappings: &Handles<Held>,
+        dom: DomId,
+        request: Request<'_>,
+    ) -> Opening
+        ensures { (k : CallerKnowledge) →
+            BeginsAlike k (known_in self.now table.now mappings.now) dom request.entry →
+            OpensSo k dom request.entry result }
+    {
+        open_call(&self.known(table, mappings), dom, request)
+    }
+
+    // How a call goes on that saw this. It asks nothing of the mappings of its domain any more.
+    fn next(&self, table: &Table, last: Open, seen: Seen) -> (Call, Action)
+        ensures caller { result.0.caller ≡ last.call.caller }
+        ensures request { result.0.request ≡ last.call.request }
+        ensures goes { (k : CallerKnowledge) →
+            IsLeftAlike k (known_in self.now table.now no_mappings) last.call seen →
+            Goes k last.call seen result.0 result.1 }
+        ensures along { (s : Setting) (h : History) (d : DomId) (c : Underway) (z : Step) →
+            GoesAlong s h d c last → maps_answered_at h d.0 < END_OF_SERIALS →
+            Rise 0 (handles_at h d) (maps_answered_at h d.0) →
+            path (known_at s h d) d c.request (values c) ≡ Some (Action.Step z) → seen ≡ seen_by s h d z →
+            StillKnows s h d self.now table.now last.call →
+            GoesOnAsRun s h d c z last.task result.0 result.1 }
+    {
+        let mappings = Handles::new(self.alloc);
+        go_on(&self.known(table, &mappings), last.call, seen)
     }
 
     // The line that the answer of a task prints.
-    fn line(&self, task: &Task<'a>, answer: &Answer) -> Result<Led, SearchFault> {
+    fn line(&self, task: &Task<'a>, answer: &Answer) -> Result<Led, SearchFault>
+        ensures { IfOk result (λ led. PrintsLine led
+            (answer_line self.now.types.items task.now.line task.now.dom answer.now)) }
+    {
         let mut out = Vec::new(self.alloc);
         let types = self.types.as_slice();
         push_answer_line(self.alloc, &mut out, types, task.line, task.dom, answer)?;
         Ok(Led::Answered(out))
+    }
+
+    // How the call of a task begins.
+    fn begun(
+        &self,
+        actor: &Actor<'a>,
+        table: &Table,
+        task: &Task<'a>,
+        call: &ScriptCall<'a>,
+    ) -> Result<Opening, SearchFault>
+        ensures { (s : Setting) (h : History) (tasks : List Task) (k : Course) (q : Request) →
+            ShowsCalls s h tasks k actor.now → length tasks < 2 ^ 63 → KnowsTable s h k.dom self.now table.now →
+            task.now.dom ≡ k.dom → SaysRequest k.named k.dom call.now q → IfOk result (BeginsAsRun s h k.dom q) }
+    {
+        let bytes = bytes_said(self.alloc, call)?;
+        let names = names_of(self.alloc, task.dom, actor.mappings.as_slice())?;
+        let request = request_of(&names.labels, task.dom, bytes.as_slice(), call);
+        Ok(self.opening(table, &names.mappings, task.dom, request))
     }
 
     // The call of a task begins.
@@ -138,70 +195,94 @@ impl<'s, 'a> Scene<'s, 'a> {
         at: usize,
         task: &'s Task<'a>,
         call: &'s ScriptCall<'a>,
-    ) -> Result<Led, SearchFault> {
+    ) -> Result<Led, SearchFault>
+        ensures { (s : Setting) (h : History) (k : Course) (ts : List Task) (a : Actor) (q : Request)
+            (t : Table) (answer : Option Answer) → slice_get world.old.actors.items at ≡ Some a →
+            slice_get world.old.ground.tables.items at ≡ Some t →
+            ShowsCalls s h (tasks_at self.now at) k a → KnowsTable s h k.dom self.now t →
+            IsNextCall k task.now ts call.now → SaysRequest k.named k.dom call.now q →
+            BeginsRight s h (beginning k.dom q answer) q →
+            IfOk result (MovesTo s (beginning k.dom q answer ∷ h) (tasks_at self.now at) a k
+            (course_after self.now.types.items task.now.line call.now (given_up q) (record k { tasks = ts }) answer)
+            world.old world.new at) }
+    {
         let Some(actor) = world.actors.get_mut(at) else {
             return Ok(Led::Nowhere);
         };
-        let bytes = bytes_said(self.alloc, call)?;
-        let names = names_of(self.alloc, task.dom, actor.mappings.as_slice())?;
-        let request = request_of(&names.labels, task.dom, bytes.as_slice(), call);
-        let opening = self.opening(actor, &names.mappings, task.dom, request);
-        let place = actor.next;
-        actor.next = place.saturating_add(1);
-        match opening {
+        let Some(table) = world.ground.tables.get(at) else {
+            return Ok(Led::Nowhere);
+        };
+        match self.begun(actor, table, task, call)? {
             Opening::Open(call, step) => {
-                let task = Some(place);
-                actor.open = Some(Open { task, call, step });
+                actor.start(call, step);
                 Ok(Led::On)
             }
-            Opening::Done(verdict) => self.line(task, &answer_of(verdict)),
+            Opening::Done(verdict) => {
+                actor.pass();
+                self.line(task, &answer_of(verdict))
+            }
         }
+    }
+
+    // How an unmap of a domain's mapping at this place begins, if there is one.
+    fn unmapping(
+        &self,
+        actor: &Actor<'a>,
+        table: &Table,
+        dom: DomId,
+        choice: usize,
+    ) -> Result<Option<Opening>, SearchFault>
+        ensures { (s : Setting) (h : History) (tasks : List Task) (k : Course) (handle : Handle) →
+            ShowsCalls s h tasks k actor.now → length tasks < 2 ^ 63 → KnowsTable s h k.dom self.now table.now →
+            dom ≡ k.dom → k.opened ≡ resting → slice_get k.held choice ≡ Some handle →
+            IfOk result (GivesAsRun s h k.dom handle choice) }
+    {
+        let names = names_of(self.alloc, dom, actor.mappings.as_slice())?;
+        let Some(handle) = names.handles.get(choice).copied() else {
+            return Ok(None);
+        };
+        let request = Request::Unmap { handle };
+        Ok(Some(self.opening(table, &names.mappings, dom, request)))
     }
 
     // A domain at the end of its list begins to give a mapping back.
-    fn give_back(&self, world: &mut World<'a>, turn: Turn) -> Result<Led, SearchFault> {
-        let (Some(actor), Some(domain)) = (
-            world.actors.get_mut(turn.place),
-            self.roster.config().domains.get(turn.place),
-        ) else {
+    fn give_back(&self, world: &mut World<'a>, turn: Turn) -> Result<Led, SearchFault>
+        ensures { (s : Setting) (h : History) (k : Course) (a : Actor) (domain : DomainConfig) (handle : Handle)
+            (t : Table) (answer : Option Answer) → slice_get world.old.actors.items turn.place ≡ Some a →
+            slice_get world.old.ground.tables.items turn.place ≡ Some t →
+            slice_get self.now.roster.domains.items turn.place ≡ Some domain → domain.id ≡ k.dom →
+            ShowsCalls s h (tasks_at self.now turn.place) k a → KnowsTable s h k.dom self.now t →
+            k.opened ≡ resting → slice_get k.held turn.choice ≡ Some handle →
+            BeginsRight s h (beginning k.dom (Unmap handle) answer) (Unmap handle) → IsDoneIf answer →
+            IfOk result (MovesTo s (beginning k.dom (Unmap handle) answer ∷ h) (tasks_at self.now turn.place) a k
+            (back_after (held_but k turn.choice) answer) world.old world.new turn.place) }
+    {
+        let Some(domain) = self.roster.config().domains.get(turn.place) else {
             return Ok(Led::Nowhere);
         };
-        let names = names_of(self.alloc, domain.id, actor.mappings.as_slice())?;
-        let Some(handle) = names.handles.get(turn.choice).copied() else {
+        let Some(actor) = world.actors.get_mut(turn.place) else {
             return Ok(Led::Nowhere);
         };
-        let request = Request::Unmap { handle };
-        match self.opening(actor, &names.mappings, domain.id, request) {
-            Opening::Open(call, step) => {
-                let task = None;
-                actor.open = Some(Open { task, call, step });
+        let Some(table) = world.ground.tables.get(turn.place) else {
+            return Ok(Led::Nowhere);
+        };
+        match self.unmapping(actor, table, domain.id, turn.choice)? {
+            None => Ok(Led::Nowhere),
+            Some(Opening::Open(call, step)) => {
+                actor.give(call, step);
                 Ok(Led::On)
             }
-            Opening::Done(_) => Err(SearchFault::Keeps(domain.id)),
+            Some(Opening::Done(_)) => Err(SearchFault::Keeps(domain.id)),
         }
     }
 
-    // Writes the bytes that the step of an open call writes.
-    fn write(&self, world: &mut World<'a>, at: usize, open: Open) -> Result<(), SearchFault> {
-        match open.step {
-            Step::Write {
-                dom,
-                frame,
-                off,
-                ..
-            } => {
-                let task = match open.task {
-                    Some(place) => self.task(at, place),
-                    None => None,
-                };
-                let bytes = said(self.alloc, task)?;
-                let pages = &mut world.pages;
-                pages::write(self.alloc, pages, dom, frame, off, bytes.as_slice())?;
-            }
-            Step::Copy { from, to, len } => self.copy(world, from, to, len)?,
-            _ => {}
-        }
-        Ok(())
+    // The bytes that were given to an open call.
+    fn given(&self, at: usize, open: Open) -> Result<Vec<u8>, SearchFault> {
+        let task = match open.task {
+            Some(place) => self.task(at, place),
+            None => None,
+        };
+        said(self.alloc, task)
     }
 
     // The answer of a call that ends so after this step.
@@ -221,8 +302,7 @@ impl<'s, 'a> Scene<'s, 'a> {
                     len,
                 },
             ) => {
-                let pages = world.pages.as_slice();
-                let bytes = pages::read(self.alloc, pages, dom, frame, off, len)?;
+                let bytes = world.ground.read(self.alloc, dom, frame, off, len)?;
                 Ok(Answer::Bytes(Bytes { bytes }))
             }
             _ => Ok(answer_of(verdict)),
@@ -259,13 +339,19 @@ impl<'s, 'a> Scene<'s, 'a> {
 
     // The open call of a domain makes its next step.
     fn tick(&self, world: &mut World<'a>, at: usize, open: Open) -> Result<Led, SearchFault> {
-        self.write(world, at, open)?;
-        let seen = self.see(world, open.call.caller, open.step);
-        self.apply(world, at, open.step, seen)?;
-        let Some(actor) = world.actors.get_mut(at) else {
+        let given = self.given(at, open)?;
+        let ground = &mut world.ground;
+        ground.write(self.alloc, open.step, given.as_slice())?;
+        let seen = ground.see(&self.roster, open.call.caller, open.step);
+        ground.apply(&self.roster, at, open.step, seen)?;
+        let (Some(actor), Some(table)) = (world.actors.get_mut(at), world.ground.tables.get(at))
+        else {
             return Ok(Led::Nowhere);
         };
-        let (call, action) = self.next(actor, open, seen)?;
+        if let Step::Unpin { holder, .. } = open.step {
+            actor.forget(holder);
+        }
+        let (call, action) = self.next(table, open, seen);
         match action {
             Action::Step(step) => {
                 let task = open.task;
@@ -276,24 +362,43 @@ impl<'s, 'a> Scene<'s, 'a> {
         }
     }
 
-    // A domain raises a flag, or goes past one.
-    fn signal(
-        &self,
-        world: &mut World<'a>,
-        at: usize,
-        flag: usize,
-        raises: bool,
-    ) -> Result<Led, SearchFault> {
-        let (Some(told), Some(actor)) = (world.told.get_mut(flag), world.actors.get_mut(at)) else {
-            return Ok(Led::Nowhere);
+    // A domain raises a flag.
+    fn raise(&self, world: &mut World<'a>, at: usize, flag: usize) -> Led
+        ensures { (s : Setting) (h : History) (k : Course) (t : Task) (ts : List Task) (a : Actor) →
+            slice_get world.old.actors.items at ≡ Some a → ShowsCalls s h (tasks_at self.now at) k a →
+            k.opened ≡ resting → k.tasks ≡ t ∷ ts → flag < length world.old.told.items →
+            (result ≡ Led.On) × (world.new.told.items ≡ slice_set world.old.told.items flag true)
+            × PassesTo s h (tasks_at self.now at) a (record k { tasks = ts }) world.old world.new at }
+    {
+        let Some(actor) = world.actors.get_mut(at) else {
+            return Led::Nowhere;
         };
-        if raises {
-            *told = true;
-        } else if !*told {
-            return Ok(Led::Nowhere);
+        let Some(told) = world.told.get_mut(flag) else {
+            return Led::Nowhere;
+        };
+        *told = true;
+        actor.pass();
+        Led::On
+    }
+
+    // A domain goes past a flag, if that was raised.
+    fn go_past(&self, world: &mut World<'a>, at: usize, flag: usize) -> Led
+        ensures raised { (s : Setting) (h : History) (k : Course) (t : Task) (ts : List Task) (a : Actor) →
+            slice_get world.old.actors.items at ≡ Some a → ShowsCalls s h (tasks_at self.now at) k a →
+            k.opened ≡ resting → k.tasks ≡ t ∷ ts → slice_get world.old.told.items flag ≡ Some true →
+            (result ≡ Led.On) × (world.new.told ≡ world.old.told)
+            × PassesTo s h (tasks_at self.now at) a (record k { tasks = ts }) world.old world.new at }
+    {
+        let is_raised = is_told(world.told.as_slice(), flag);
+        let Some(actor) = world.actors.get_mut(at) else {
+            return Led::Nowhere;
+        };
+        if is_raised {
+            actor.pass();
+            Led::On
+        } else {
+            Led::Nowhere
         }
-        actor.next = actor.next.saturating_add(1);
-        Ok(Led::On)
     }
 
     /// The move of a domain.
@@ -310,30 +415,54 @@ impl<'s, 'a> Scene<'s, 'a> {
         };
         match &task.deed {
             Deed::Do(call) => self.begin(world, at, task, call),
-            Deed::Tell(flag) => self.signal(world, at, *flag, true),
-            Deed::Await(flag) => self.signal(world, at, *flag, false),
+            Deed::Tell(flag) => Ok(self.raise(world, at, *flag)),
+            Deed::Await(flag) => Ok(self.go_past(world, at, *flag)),
+        }
+    }
+
+    // Whether the domain at this place has no call open, and has begun all tasks of its list.
+    fn is_ended(&self, place: usize, actor: &Actor<'a>) -> bool
+        ensures { result ≡ is_ended self.now place actor.now }
+    {
+        actor.open.is_none() && self.task(place, actor.next).is_none()
+    }
+
+    // Whether it has no mapping either.
+    fn is_done(&self, place: usize, actor: &Actor<'a>) -> bool
+        ensures { result ≡ is_done self.now place actor.now }
+    {
+        self.is_ended(place, actor) && actor.mappings.is_empty()
+    }
+
+    // How many moves it has: at the end of its list it can give back each of its mappings.
+    fn choices(&self, place: usize, actor: &Actor<'a>) -> usize
+        ensures { result ≡ choices_at self.now place actor.now }
+    {
+        if self.is_ended(place, actor) {
+            actor.mappings.len()
+        } else {
+            1
         }
     }
 
     /// The moves that the domains have.
-    pub fn turns(&self, world: &World<'a>) -> Result<Vec<Turn>, SearchFault> {
+    pub fn turns(&self, world: &World<'a>) -> Result<Vec<Turn>, AllocError>
+        ensures { IfOk result (λ turns. turns.items ≡ turns_from self.now 0 world.now.actors.items) }
+    {
         let mut turns = Vec::new(self.alloc);
         for (place, actor) in world.actors.as_slice().iter().enumerate() {
-            let is_ended = actor.open.is_none() && self.task(place, actor.next).is_none();
-            if is_ended {
-                push_endings(&mut turns, place, actor.mappings.len())?;
-            } else {
-                turns.push(Turn { place, choice: 0 })?;
-            }
+            push_choices(&mut turns, place, self.choices(place, actor))?;
         }
         Ok(turns)
     }
 
     /// Whether all domains are at the ends of their lists, with no call open and no mapping.
-    pub fn is_finished(&self, world: &World<'a>) -> bool {
+    pub fn is_finished(&self, world: &World<'a>) -> bool
+        ensures finished { IsTrue result → AreDone self.now world.now.actors.items }
+        ensures end { AreDone self.now world.now.actors.items → IsTrue result }
+    {
         for (place, actor) in world.actors.as_slice().iter().enumerate() {
-            let is_ended = actor.open.is_none() && self.task(place, actor.next).is_none();
-            if !is_ended || !actor.mappings.is_empty() {
+            if !self.is_done(place, actor) {
                 return false;
             }
         }

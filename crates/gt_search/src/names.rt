@@ -1,8 +1,12 @@
 //! The handles of a domain's mappings, and the labels that name them.
+ghost use Rattle.std.specs.Prelude.{IfOk};
+ghost use Rattle.gt_search.specs.Placing.{ArePlaced};
+
 use crate::actor::Mapping;
 use crate::fault::SearchFault;
-use gt_calls::{END_OF_SERIALS, Handle, Handles, Held};
-use gt_host::Labels;
+use gt_calls::{Handle, Handles, Held};
+use gt_core::Answer;
+use gt_host::{Labels, name_mapping};
 use gt_types::DomId;
 use std::alloc::Global;
 
@@ -19,19 +23,19 @@ pub fn names_of<'a>(
     alloc: Global,
     dom: DomId,
     held: &[Mapping<'a>],
-) -> Result<Names<'a>, SearchFault> {
+) -> Result<Names<'a>, SearchFault>
+    ensures { IfOk result (λ names. ArePlaced dom held.now names) }
+{
+    Handles::<Held>::nothing_is_listed();
+    Handles::<Held>::inserted_is_listed();
     let mut mappings = Handles::new(alloc);
     let mut handles = Vec::new(alloc);
     let mut labels = Labels::new(alloc);
     for mapping in held {
         mappings.reserve()?;
-        if mappings.given() < END_OF_SERIALS {
-            let handle = mappings.insert(mapping.held);
-            handles.push(handle)?;
-            if let Some(label) = mapping.label {
-                labels.name(dom, label, handle)?;
-            }
-        }
+        let handle = mappings.insert(mapping.held);
+        handles.push(handle)?;
+        name_mapping(&mut labels, dom, mapping.label, &Answer::Mapped(handle))?;
     }
     Ok(Names {
         mappings,

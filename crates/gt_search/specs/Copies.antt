@@ -1,0 +1,25 @@
+-- States of a search once more.
+use Rattle.std.specs.Prelude.{◌≡◌, List, [], ◌∷◌}
+use Rattle.gt_search.specs.declared.actor.Actor.{Actor}
+use Rattle.gt_search.specs.declared.scene.World.{World}
+use Rattle.gt_world.specs.Copies.{SamePages, SameTables}
+
+-- the other domain is as far, with the same mappings and the same call open
+pub record SameActor (one other : Actor) : Type 0 where
+  pub next : other.next ≡ one.next
+  pub mappings : other.mappings.items ≡ one.mappings.items
+  pub open_call : other.«open» ≡ one.«open»
+
+-- each of the domains is the same as the one at its place
+abbrev pub SameActors : List Actor → List Actor → Type 0
+SameActors [] [] = Unit {0}
+SameActors (a ∷ more) (b ∷ rest) = SameActor a b × SameActors more rest
+SameActors [] (b ∷ rest) = ⊥
+SameActors (a ∷ more) [] = ⊥
+
+-- the other state has the same domains, tables, pages and flags
+pub record SameWorld (one other : World) : Type 0 where
+  pub actors : SameActors one.actors.items other.actors.items
+  pub tables : SameTables one.ground.tables.items other.ground.tables.items
+  pub pages : SamePages one.ground.pages.items other.ground.pages.items
+  pub told : other.told.items ≡ one.told.items

@@ -1,0 +1,9 @@
+pub mod Beginnings
+pub mod Calls
+pub mod Continuing
+pub mod Copies
+pub mod Ends
+pub mod Mappings
+pub mod Placing
+pub mod Renaming
+pub mod Starting

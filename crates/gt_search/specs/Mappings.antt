@@ -1,0 +1,35 @@
+-- The mappings of a domain in a state.
+use Rattle.std.specs.Prelude.{◌++◌, bytes_eq, ℕ, suc, if◌then◌else◌, List, map, take, drop, Option, Some, None}
+use Rattle.std.specs.Borrow.{Bor}
+use Rattle.std.specs.Option.{option_map}
+use Rattle.gt_calls.specs.declared.held.Held.{Held}
+use Rattle.gt_calls.specs.declared.request.Holder.{Holder}
+use Rattle.gt_calls.specs.declared.request.Holder.TheVariants.{Mapping as ByHandle, Leg as ByLeg}
+use Rattle.gt_search.specs.declared.actor.Mapping.{Mapping}
+
+-- the bytes of a label, if there is one
+abbrev pub said : Option (Bor (List ℕ)) → Option (List ℕ)
+said label = option_map (λ l. l.now) label
+
+-- the labels of these mappings
+abbrev pub labels_of : List Mapping → List (Option (List ℕ))
+labels_of ms = map (λ m. said m.label) ms
+
+-- their pins
+abbrev pub pins_of : List Mapping → List Held
+pins_of ms = map (λ m. m.held) ms
+
+-- a label, unless it is the one given to another mapping
+abbrev pub unless_given : Option (List ℕ) → Option (List ℕ) → Option (List ℕ)
+unless_given None old = old
+unless_given (Some label) None = None
+unless_given (Some label) (Some old) = if bytes_eq old label then None else Some old
+
+-- these labels, but for the one given to another mapping
+abbrev pub apart_from : Option (List ℕ) → List (Option (List ℕ)) → List (Option (List ℕ))
+apart_from given labels = map (unless_given given) labels
+
+-- the mappings without the one at the place that is the serial of this handle
+abbrev pub given_back : Holder → List Mapping → List Mapping
+given_back (ByHandle handle) ms = take handle.serial ms ++ drop (suc handle.serial) ms
+given_back (ByLeg number) ms = ms

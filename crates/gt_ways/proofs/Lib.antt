@@ -1,0 +1,5 @@
+pub mod Finding
+pub mod Gathering
+pub mod Growing
+pub mod Listing
+pub mod Trying

@@ -1,0 +1,11 @@
+pub mod Padding
+pub mod Kept
+pub mod OwnRows
+pub mod Becoming
+pub mod Looking
+pub mod Showing
+pub mod Writings
+pub mod Fitting
+pub mod Copying
+pub mod AlikeFitting
+pub mod GoingAlike

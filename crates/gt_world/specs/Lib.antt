@@ -1,0 +1,9 @@
+pub mod Copies
+pub mod Counts
+pub mod CountsRow
+pub mod Likeness
+pub mod Pages
+pub mod Rows
+pub mod Shows
+pub mod Tables
+pub mod Writing

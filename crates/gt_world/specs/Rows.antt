@@ -1,0 +1,37 @@
+-- The rows of a domain's entries, of which there are only as many as were touched.
+use Rattle.std.specs.Prelude.{◌≡◌, ◌==◌, ◌+◌, ℕ, List, slice_index_or, if◌then◌else◌, min}
+use Rattle.gt_types.specs.declared.limits.TheConstants.{LAST_GENERATION}
+use Rattle.gt_entry.specs.declared.change.Change.{Change}
+use Rattle.gt_entry.specs.Changes.{changed_entry, raise_of}
+use Rattle.gt_entry.specs.Words.{control_word}
+use Rattle.gt_entry.specs.Spelling.{control_with}
+use Rattle.gt_calls.specs.declared.known.Own.{Own}
+use Rattle.gt_calls.specs.Rules.{entry_in, own_generation}
+use Rattle.gt_entry.specs.declared.change.Half.{Half}
+use Rattle.gt_world.specs.Counts.{no_counts, body_of}
+use Rattle.gt_world.specs.declared.counts.Counts.{Counts}
+
+-- the counts of entry r
+abbrev pub counts_in : List Counts → ℕ → Counts
+counts_in counts r = slice_index_or counts r no_counts
+
+-- the control word of entry r
+abbrev pub word_in : ℕ → List Own → List Counts → ℕ → ℕ
+word_in first own counts r =
+    control_word
+    (control_with (entry_in own r) (own_generation first own r) (counts_in counts r).reads (counts_in counts r).writes)
+
+-- the counts of each entry after entry at has these
+abbrev pub CountsBecome : List Counts → List Counts → ℕ → Counts → Type 0
+CountsBecome old new at c = (r : ℕ) → counts_in new r ≡ (if at == r then c else counts_in old r)
+
+-- what the owner knows of each entry after it changes entry at
+pub record OwnBecomes (first : ℕ) (old new : List Own) (at : ℕ) (change : Change) : Type 0 where
+  pub entries : (r : ℕ) → entry_in new r ≡ (if at == r then changed_entry change (entry_in old r) else entry_in old r)
+  pub generations : (r : ℕ) → own_generation first new r
+      ≡ (if at == r then min (own_generation first old r + raise_of change) LAST_GENERATION
+      else own_generation first old r)
+
+-- a body word of entry r
+abbrev pub body_in : List Counts → ℕ → Half → ℕ
+body_in counts r half = body_of half (counts_in counts r)

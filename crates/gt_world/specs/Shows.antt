@@ -1,0 +1,128 @@
+-- When the tables and pages of a small state show what happened.
+use Rattle.std.specs.Prelude.{◌≡◌, ◌≢◌, ◌==◌, ◌&&◌, ◌+◌, ◌≤◌, ◌<◌, ℕ, List, ◌∷◌, Some, None, length}
+use Rattle.std.specs.Prelude.{slice_get, AllPairs}
+use Rattle.std.specs.Prelude.{count_by, if◌then◌else◌}
+use Rattle.gt_types.specs.Names.{domain_of}
+use Rattle.gt_types.specs.declared.DomId.{DomId}
+use Rattle.gt_types.specs.declared.Dir.{Dir}
+use Rattle.gt_types.specs.declared.config.Config.{Config}
+use Rattle.gt_types.specs.declared.config.DomainConfig.{DomainConfig}
+use Rattle.gt_types.specs.declared.limits.TheConstants.{FRAME_SIZE, LAST_GENERATION, MAX_PINS}
+use Rattle.gt_entry.specs.declared.change.Half.TheVariants.{First as FirstHalf, Second as SecondHalf}
+use Rattle.gt_entry.specs.Changes.{raise_of}
+use Rattle.gt_calls.specs.Rules.{entry_in, own_generation}
+use Rattle.gt_calls.specs.declared.held.Held.{Held}
+use Rattle.gt_calls.specs.declared.request.Holder.TheVariants.{Leg as ByLeg}
+use Rattle.gt_calls.specs.declared.action.Step.{Step}
+use Rattle.gt_calls.specs.declared.action.Step.TheVariants.{LookHeader, LookControl, LookBody, Pin as PinStep, Unpin}
+use Rattle.gt_calls.specs.declared.action.Step.TheVariants.{StoreHeader, Exchange, Read as ReadBytes}
+use Rattle.gt_calls.specs.declared.action.Step.TheVariants.{Write as WriteBytes, Copy as CopyBytes}
+use Rattle.gt_calls.specs.declared.action.Seen.{Seen}
+use Rattle.gt_calls.specs.declared.action.Seen.TheVariants.{Taken}
+use Rattle.gt_core.specs.declared.trace.Item.{Item}
+use Rattle.gt_core.specs.declared.trace.Happened.TheVariants.{Began, Stepped}
+use Rattle.gt_core.specs.GoingOn.{CanBeReached}
+use Rattle.gt_core.specs.Legal.{IsRight}
+use Rattle.gt_calls.specs.declared.request.Request.{Request}
+use Rattle.gt_core.specs.History.{History, Setting, Pin, live, without, is_pin_on, same_dir, entry_at, generation_at}
+use Rattle.gt_core.specs.History.{body_at, table_at, reads_at, writes_at, contents_at, given_in, open_call}
+use Rattle.gt_world.specs.Pages.{page_contents}
+use Rattle.gt_world.specs.Rows.{counts_in}
+use Rattle.gt_world.specs.declared.counts.Counts.{Counts}
+use Rattle.gt_world.specs.declared.pages.Page.{Page}
+use Rattle.gt_world.specs.declared.table.Table.{Table}
+
+-- the configuration is that of the setting, and no two of its domains have one number
+pub record IsSettingOf (c : Config) (s : Setting) : Type 0 where
+  pub domains : c.domains.items ≡ s.domains
+  pub first : c.first_gen ≡ s.first_generation
+  pub apart : AllPairs (λ d e. d.id.0 ≢ e.id.0) s.domains
+
+-- the counts are those of entry r of domain t after these items: its live pins and its body words
+pub record CountsShow (h : History) (t r : ℕ) (c : Counts) : Type 0 where
+  pub reads : c.reads ≡ reads_at h t r
+  pub writes : c.writes ≡ writes_at h t r
+  pub first : c.first ≡ body_at h t r FirstHalf
+  pub second : c.second ≡ body_at h t r SecondHalf
+
+-- the table is that of domain d after these items
+pub record TableShows (s : Setting) (h : History) (d : DomId) (t : Table) : Type 0 where
+  pub header : t.header ≡ table_at s h d
+  pub entries : (r : ℕ) → entry_in t.own.items r ≡ entry_at h d.0 r
+  pub generations : (r : ℕ) → own_generation s.first_generation t.own.items r ≡ generation_at s h d.0 r
+  pub counts : (r : ℕ) → CountsShow h d.0 r (counts_in t.counts.items r)
+
+-- the tables are those of the domains of the run after these items, in their order
+pub record TablesShow (s : Setting) (h : History) (ts : List Table) : Type 0 where
+  pub many : length ts ≡ length s.domains
+  pub each : (k : ℕ) (d : DomainConfig) (t : Table) → slice_get s.domains k ≡ Some d → slice_get ts k ≡ Some t
+      → TableShows s h d.id t
+
+-- the pages have the bytes of all frames after these items
+abbrev pub PagesShow : History → List Page → Type 0
+PagesShow h pages = (t f : ℕ) → page_contents pages t f ≡ contents_at h t f
+
+-- the domain is one of the run
+abbrev pub IsOfRun : Setting → DomId → Type 0
+IsOfRun s d = domain_of s.domains d ≢ None
+
+-- the domain at whose words a step of domain d looks is one of the run
+abbrev pub LooksInRun : Setting → DomId → Step → Type 0
+LooksInRun s d (LookHeader dom) = IsOfRun s dom
+LooksInRun s d (LookControl dom gref) = IsOfRun s dom
+LooksInRun s d (LookBody dom gref half) = IsOfRun s dom
+LooksInRun s d (PinStep p) = IsOfRun s p.dom
+LooksInRun s d (Exchange gref looked change) = IsOfRun s d
+LooksInRun s d step = Unit {0}
+
+-- the second list has one pin of this kind less on the entry of this pin, and else as many of each
+abbrev pub LosesOne : Held → List Pin → List Pin → Type 0
+LosesOne m whole less =
+    (t r : ℕ) (k : Dir) → count_by (is_pin_on t r k) whole
+    ≡ (if (m.dom.0 == t) && (m.gref.0 == r) && same_dir m.dir k then 1 else 0) + count_by (is_pin_on t r k) less
+
+-- there is room in words and frames for what a step of domain d does that saw this, and an unpin gives back a live pin
+abbrev pub StepFits : Setting → History → DomId → Step → Seen → Type 0
+StepFits s h d (PinStep p) Taken = count_by (is_pin_on p.dom.0 p.gref.0 p.dir) (live h) < MAX_PINS
+StepFits s h d (Exchange gref looked change) Taken = generation_at s h d.0 gref.0 + raise_of change ≤ LAST_GENERATION
+StepFits s h d (Unpin p holder) seen = LosesOne p (live h) (without d.0 holder (live h))
+StepFits s h d (StoreHeader version frames) seen = (version < 4) × (frames < 256)
+StepFits s h d (ReadBytes dom frame off len) seen = off + len ≤ FRAME_SIZE
+StepFits s h d (WriteBytes dom frame off len) seen = off + len ≤ FRAME_SIZE
+StepFits s h d (CopyBytes from to len) seen = (from.off + len ≤ FRAME_SIZE) × (to.off + len ≤ FRAME_SIZE)
+StepFits s h d step seen = Unit {0}
+
+-- a step but for what holds the pin that it gives back
+abbrev pub unheld : Step → Step
+unheld (Unpin p holder) = Unpin p (ByLeg 0)
+unheld step = step
+
+-- the item is of this step, which saw this, of the domain at a place, but for what holds a pin that it gives back; and
+-- the step fits
+pub record IsItemOf (s : Setting) (h : History) (i : Item) (at : ℕ) (step : Step) (seen : Seen) : Type 0 where
+  pub domain : DomainConfig
+  pub placed : slice_get s.domains at ≡ Some domain
+  pub actor : i.actor ≡ domain.id
+  pub made : Step
+  pub happened : i.happened ≡ Stepped made seen
+  pub same : unheld made ≡ unheld step
+  pub fits : StepFits s h i.actor made seen
+
+-- if the step writes what its call was given, these are the bytes given to the domain's open call
+abbrev pub IsGivenTo : History → DomId → Step → List ℕ → Type 0
+IsGivenTo h d (WriteBytes dom frame off len) given = given ≡ given_in (open_call h d.0)
+IsGivenTo h d step given = Unit {0}
+
+-- a step that is right after a history that some core stands for looks at words of a domain of the run, and fits
+abbrev pub RightStepsFit : Type 0
+RightStepsFit =
+    (s : Setting) (h : History) (i : Item) (at : ℕ) (d : DomainConfig) (made step : Step) (seen : Seen)
+    → CanBeReached s h → IsRight s h i → i.happened ≡ Stepped made seen → slice_get s.domains at ≡ Some d
+    → i.actor ≡ d.id → unheld made ≡ unheld step → IsItemOf s h i at step seen × LooksInRun s i.actor step
+
+-- a call that begins changes no table, and writes no bytes
+abbrev pub BeginningsChangeNothing : Type 0
+BeginningsChangeNothing =
+    (s : Setting) (h : History) (i : Item) (request : Request) (ts : List Table) (pages : List Page)
+    → AllPairs (λ d e. d.id.0 ≢ e.id.0) s.domains → i.happened ≡ Began request
+    → (TablesShow s h ts → TablesShow s (i ∷ h) ts) × (PagesShow h pages → PagesShow (i ∷ h) pages)
