@@ -45,7 +45,7 @@ movers=(bench_live plain journal)
 # program keeps what is written, so there is no memory for long runs of stores and copies.
 rounds_of() {
   case "$1 $2" in
-    *" load-"* | plain*) echo 500000 ;;
+    *" load-"* | *" fresh-"* | plain*) echo 500000 ;;
     *" grants" | *" withdrawals") echo 200000 ;; # generations end them soon after a million
     "bench_live "*-64) echo 200000 ;;
     "bench_live "*-4096) echo 100000 ;;
@@ -137,7 +137,7 @@ counted() {
   sed -n 's/.*I *refs: *//p' "$work/log" | tr -d ,
 }
 
-moves=(load-64 load-4096 store-64 store-4096 copy-64 copy-4096 forward-64 forward-4096)
+moves=(load-64 load-4096 fresh-64 fresh-4096 store-64 store-4096 copy-64 copy-4096 forward-64 forward-4096)
 if [ "$table" != bytes ]; then
   if [ "$runs" -gt 0 ]; then
     printf '%-11s %7s %7s %7s %7s %7s %7s %7s %7s %7s %7s %7s %7s %7s %7s %7s %7s\n' load threads on ahead taken off words \

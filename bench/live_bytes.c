@@ -3,9 +3,9 @@
 // for each write, a record of its writer, its entry, its place and its bytes, as the frames of `gt_frames` do.
 //
 // `PROGRAM LOAD THREADS ROUNDS` prints the load, the threads and the rounds done in all, as `bench_live` does. LOAD
-// is `load-64`, `load-4096`, `store-64`, `store-4096`, `copy-64`, `copy-4096`, `forward-64` or `forward-4096`. Each
-// thread has a page of its own that the owner granted to it. A load answers fresh memory with the bytes read, a copy
-// takes a pin and gives it back. A forwarded copy goes from one page of the owner's to another, by way of a transitive
+// is `load-64`, `load-4096`, `fresh-64`, `fresh-4096`, `store-64`, `store-4096`, `copy-64`, `copy-4096`, `forward-64` or `forward-4096`. Each
+// thread has a page of its own that the owner granted to it. A load reads into a buffer of the thread's, or (`fresh`)
+// answers fresh memory with the bytes read; a copy takes a pin and gives it back. A forwarded copy goes from one page of the owner's to another, by way of a transitive
 // entry at each end, and takes four pins.
 #include <pthread.h>
 #include <stdatomic.h>
@@ -166,19 +166,36 @@ static bool is_named(const struct frame *frame, const struct mapping *mapping) {
     return frame->owner == mapping->owner && frame->number == mapping->frame;
 }
 
-// Reads through a mapping into fresh memory.
-static uint8_t *load(const struct caller *caller, uint32_t handle, uint16_t offset, uint16_t length) {
-    if ((uint32_t)offset + length > FRAME_SIZE || handle >= HANDLES || !caller->mappings[handle].used) return NULL;
-    const struct mapping *mapping = &caller->mappings[handle];
-    struct frame *frame = frame_of(mapping);
-    if (frame == NULL) return NULL;
-    uint8_t *bytes = malloc(length == 0 ? 1 : length);
-    if (bytes == NULL) return NULL;
+// The mapping under a handle, if the range ends in a frame.
+static const struct mapping *mapping_for(const struct caller *caller, uint32_t handle, uint16_t offset, size_t length) {
+    if (length > FRAME_SIZE || offset + length > FRAME_SIZE) return NULL;
+    return handle >= HANDLES || !caller->mappings[handle].used ? NULL : &caller->mappings[handle];
+}
+
+// Reads from a frame, if it is the one that a mapping is of.
+static bool read_frame(struct frame *frame, const struct mapping *mapping, uint16_t offset, uint8_t *bytes, size_t length) {
     pthread_mutex_lock(&frame->mutex);
     bool named = is_named(frame, mapping);
     if (named) memcpy(bytes, frame->bytes + offset, length);
     pthread_mutex_unlock(&frame->mutex);
-    if (named) return bytes;
+    return named;
+}
+
+// Reads through a mapping into a buffer of the caller's.
+static bool load(const struct caller *caller, uint32_t handle, uint16_t offset, uint8_t *bytes, size_t length) {
+    const struct mapping *mapping = mapping_for(caller, handle, offset, length);
+    struct frame *frame = mapping == NULL ? NULL : frame_of(mapping);
+    return frame != NULL && read_frame(frame, mapping, offset, bytes, length);
+}
+
+// Reads through a mapping into fresh memory.
+static uint8_t *load_fresh(const struct caller *caller, uint32_t handle, uint16_t offset, uint16_t length) {
+    const struct mapping *mapping = mapping_for(caller, handle, offset, length);
+    struct frame *frame = mapping == NULL ? NULL : frame_of(mapping);
+    if (frame == NULL) return NULL;
+    uint8_t *bytes = malloc(length == 0 ? 1 : length);
+    if (bytes == NULL) return NULL;
+    if (read_frame(frame, mapping, offset, bytes, length)) return bytes;
     free(bytes);
     return NULL;
 }
@@ -349,14 +366,19 @@ struct job {
 
 static uint32_t work(struct caller *caller, const char *name, uint32_t reference, uint16_t length, uint32_t rounds) {
     static uint8_t bytes[FRAME_SIZE];
+    uint8_t buffer[FRAME_SIZE];
     struct end from = {reference, OWNER, 0}, to = {0, SELF, 0};
     struct end first = {reference, MIDDLE, 0}, last = {reference + MOST_THREADS, MIDDLE, 0};
+    const bool fresh = strncmp(name, "fresh", 5) == 0;
     uint32_t done = 0;
     for (uint32_t round = 0; round < rounds; round++) {
         if (*name == 'l') {
-            uint8_t *read = load(caller, 0, 0, length);
-            if (read != NULL) done++;
+            done += load(caller, 0, 0, buffer, length);
             // Its bytes are looked at, so that no compiler leaves the load out.
+            *(volatile uint8_t *)buffer;
+        } else if (fresh) {
+            uint8_t *read = load_fresh(caller, 0, 0, length);
+            if (read != NULL) done++;
             if (read != NULL) *(volatile uint8_t *)read;
             free(read);
         } else if (*name == 's') {
@@ -374,7 +396,8 @@ static void *run_job(void *argument) {
     struct job *job = argument;
     struct caller caller = {FIRST_MAPPER + job->place, calloc(HANDLES, sizeof(struct mapping))};
     uint16_t length = (uint16_t)strtoul(strchr(job->load, '-') + 1, NULL, 10);
-    if (caller.mappings != NULL && (*job->load == 'c' || *job->load == 'f' || map(&caller, job->place)))
+    bool copies = *job->load == 'c' || strncmp(job->load, "forward", 7) == 0;
+    if (caller.mappings != NULL && (copies || map(&caller, job->place)))
         job->done = work(&caller, job->load, job->place, length, job->rounds);
     free(caller.mappings);
     return NULL;
@@ -411,7 +434,7 @@ int main(int count, char **words) {
     pthread_t running[MOST_THREADS];
     if (threads < 1 || threads > MOST_THREADS) return 2;
     for (uint32_t i = 0; i < threads; i++) {
-        bool forwarded = *words[1] == 'f';
+        bool forwarded = strncmp(words[1], "forward", 7) == 0;
         grant(i, FIRST_MAPPER + i, forwarded);
         if (forwarded) grant(i + MOST_THREADS, FIRST_MAPPER + i, true);
         jobs[i] = (struct job){words[1], i, rounds, 0};

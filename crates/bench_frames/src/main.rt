@@ -27,6 +27,18 @@ const BY_OWNER: Writ = Writ {
     basis: Ground::Owned,
 };
 
+/// The whole of a frame.
+const WHOLE: Range = Range {
+    off: 0,
+    len: FRAME_SIZE,
+};
+
+/// All of a frame but its last byte.
+const BUT_THE_LAST: Range = Range {
+    off: 0,
+    len: FRAME_SIZE - 1,
+};
+
 /// Writes these bytes to the frame's beginning, and answers how often.
 fn write_all(frame: &mut Frame, bytes: &[u8], times: u32) -> u32 {
     for done in 0..times {
@@ -58,7 +70,7 @@ fn copy_all(from: &Frame, to: &mut Frame, times: u32) -> u32 {
         if to.owner() != OWNER {
             return done;
         }
-        if Frame::copy_between(from, to, &BY_OWNER, 0, 0, FRAME_SIZE).is_err() {
+        if Frame::copy_between(from, to, &BY_OWNER, WHOLE, 0).is_err() {
             return done;
         }
     }
@@ -71,7 +83,7 @@ fn shift_all(frame: &mut Frame, times: u32) -> u32 {
         if frame.owner() != OWNER {
             return done;
         }
-        if frame.copy_within(&BY_OWNER, 0, 1, FRAME_SIZE - 1).is_err() {
+        if frame.copy_within(&BY_OWNER, BUT_THE_LAST, 1).is_err() {
             return done;
         }
     }
@@ -118,10 +130,6 @@ fn near() -> FrameName
 
 /// Copies one whole frame of the run to another, and answers how often.
 fn copy_named(frames: &mut Frames, times: u32) -> u32 {
-    let whole = Range {
-        off: 0,
-        len: FRAME_SIZE,
-    };
     let from = Spot {
         frame: far(),
         off: 0,
@@ -131,7 +139,7 @@ fn copy_named(frames: &mut Frames, times: u32) -> u32 {
         off: 0,
     };
     for done in 0..times {
-        if !frames.has_range(from.frame, whole) || !frames.admits(to.frame, &BY_OWNER, whole) {
+        if !frames.has_range(from.frame, WHOLE) || !frames.admits(to.frame, &BY_OWNER, WHOLE) {
             return done;
         }
         if frames.copy(&BY_OWNER, from, to, FRAME_SIZE).is_err() {
@@ -158,7 +166,7 @@ fn copy_locked<R: Wait>(rt: &R, pool: &Pool, visits: &mut Visits, times: u32) ->
         let Some(mut ends) = pool.lock_both(rt, far(), near()) else {
             return done;
         };
-        let copied = ends.copy(&BY_OWNER, 0, 0, FRAME_SIZE);
+        let copied = ends.copy(&BY_OWNER, WHOLE, 0);
         ends.free(visits);
         if copied.is_err() {
             return done;

@@ -16,7 +16,10 @@ use std::thread::{self, Threads};
 /// What the threads do with bytes.
 #[derive(Clone, Copy, PartialEq, Eq)]
 pub(crate) enum Moves {
+    /// Loads into a buffer of the thread's.
     Loads,
+    /// Loads into fresh memory.
+    Fresh,
     Stores,
     Copies,
     /// Copies by way of a transitive entry at each end.
@@ -29,10 +32,12 @@ struct Worker<'m, P: Allows> {
     gref: GrantRef,
 }
 
-// What a thread does in a round: it reads so many bytes, writes these, or makes this copy.
+// What a thread does in a round: it reads over its buffer, reads so many bytes into fresh memory, writes these, or makes
+// this copy.
 #[derive(Clone, Copy)]
 enum Access<'a> {
-    Load(u16),
+    Load,
+    Fresh(u16),
     Store(&'a [u8]),
     Copy(CopyArgs),
 }
@@ -63,9 +68,11 @@ fn access_once<R: Wait, P: Allows>(
     rt: &R,
     domain: &mut Running<'_, P>,
     access: &Access<'_>,
+    buffer: &mut [u8],
 ) -> bool {
     match access {
-        Access::Load(len) => domain.load(rt, 0, *len).is_ok(),
+        Access::Load => domain.load_into(rt, 0, buffer).is_ok(),
+        Access::Fresh(len) => domain.load(rt, 0, *len).is_ok(),
         Access::Store(bytes) => domain.store(rt, 0, bytes).is_ok(),
         Access::Copy(copy) => domain.copy(rt, copy).is_ok(),
     }
@@ -73,6 +80,7 @@ fn access_once<R: Wait, P: Allows>(
 
 fn work<R: Wait, P: Allows>(
     rt: &R,
+    alloc: Global,
     worker: Worker<'_, P>,
     audit: Audit,
     moves: Moves,
@@ -81,18 +89,23 @@ fn work<R: Wait, P: Allows>(
     rounds: u32,
 ) -> u32 {
     let Worker { mut domain, gref } = worker;
+    // A thread makes its buffer itself, so that no two of them share a cache line.
+    let Ok(mut buffer) = vec![in alloc; 0; usize::from(len)] else {
+        return 0;
+    };
     let access = match moves {
-        Moves::Loads => Access::Load(len),
+        Moves::Loads => Access::Load,
+        Moves::Fresh => Access::Fresh(len),
         Moves::Stores => Access::Store(bytes),
         Moves::Copies | Moves::Forwards => Access::Copy(copy_of(moves, gref, len)),
     };
-    let maps = moves == Moves::Loads || moves == Moves::Stores;
+    let maps = moves != Moves::Copies && moves != Moves::Forwards;
     if !record_calls(&mut domain, audit) || maps && domain.map(OWNER.0, gref.0, WRITABLE).is_err() {
         return 0;
     }
     let mut done = 0u32;
     'rounds: for _ in 0..rounds {
-        if access_once(rt, &mut domain, &access) {
+        if access_once(rt, &mut domain, &access, &mut buffer) {
             done = done.saturating_add(1);
         }
     }
@@ -179,7 +192,7 @@ pub(crate) fn run_moves<R: Threads + Wait + Sync>(
     let done = thread::map_vec(
         rt,
         workers,
-        &|worker| { work(rt, worker, audit, moves, &bytes, len, rounds) },
+        &|worker| { work(rt, alloc, worker, audit, moves, &bytes, len, rounds) },
     )?;
     Ok(sum_of(&done))
 }

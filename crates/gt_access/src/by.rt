@@ -1,5 +1,5 @@
 //! Accesses that lock the frames that they are made to, and free them again.
-ghost use Rattle.std.specs.Prelude.{◌≡◌, ◌+◌, ◌≤◌, length, vec_capacity, vec_len, IfOk, IfSome};
+ghost use Rattle.std.specs.Prelude.{◌≡◌, ◌+◌, ◌≤◌, length, vec_capacity, vec_len, IfNone, IfOk, IfSome};
 ghost use Rattle.gt_types.specs.declared.Dir.TheVariants as dirs;
 ghost use Rattle.gt_types.specs.declared.Use.TheVariants as uses;
 ghost use Rattle.gt_words.specs.Conditions.{IsSeatOf};
@@ -7,9 +7,9 @@ ghost use Rattle.gt_access.specs.Accesses.{IsReadOf, writing_at, copying_at};
 ghost use Rattle.gt_access.specs.Routes.{MayAccessBy, MayCopyBy, ReachesBy, writ_by};
 ghost use Rattle.gt_access.specs.Visiting.{VisitsToCopy, VisitsToRead, VisitsToWrite};
 
-use crate::under::{Run, copy_under, read_under, writ_by, write_under};
+use crate::under::{Run, copy_under, fill_under, read_under, write_under};
 use gt_calls::{Pins, Route};
-use gt_frames::{Copied, FrameName, Read, Spot, Visits, Written};
+use gt_frames::{Copied, Filled, FrameName, Read, Spot, Visits, Written};
 use gt_types::{Allows, FRAME_SIZE, Memory, Range};
 use gt_words::Seat;
 use std::sync::Wait;
@@ -51,6 +51,35 @@ pub fn read_by<R: Wait, P: Allows>(
     Some(read)
 }
 
+/// Reads the bytes of the frame of this name from `off` on over all of `out`. `None` if there is no such frame,
+/// or another one is in its place; `out` is as it was then.
+#[tactic(auto, using(crate::proofs::Covering::reaches_named, crate::proofs::Visited::read_visit))]
+pub fn fill_by<R: Wait, P: Allows>(
+    rt: &R,
+    run: &Run<'_, P>,
+    seat: &Seat,
+    visits: &mut Visits,
+    route: &Route,
+    name: FrameName,
+    off: u16,
+    out: &mut [u8],
+) -> Option<Filled>
+    requires seat { IsSeatOf run.now.words.now seat.now }
+    requires reached { ReachesBy run.now.words.now.layout seat.now dirs.Read uses.Map
+        name off (length out.old) route.now }
+    requires may { MayAccessBy run.now.config.now.domains.items (P.may run.now.rights.now) seat.now.dom route.now }
+    requires range { off + length out.old ≤ FRAME_SIZE }
+    ensures read { IfSome result (λ r. IsReadOf r name off (length out.old)) }
+    ensures visited { VisitsToRead name off (length out.old) result visits.old visits.new }
+    ensures filled { IfSome result (λ r. out.new ≡ r.bytes) }
+    ensures kept { IfNone result (out.new ≡ out.old) }
+{
+    let locked = run.pool.lock(rt, name)?;
+    let filled = fill_under(run, seat, &locked, route, off, out);
+    locked.free(visits);
+    Some(filled)
+}
+
 /// Writes `bytes` to the frame of this name, from `off` on.
 ///
 /// # Errors
@@ -79,8 +108,7 @@ pub fn write_by<'a, R: Wait, P: Allows>(
     let Some(mut frame) = run.pool.lock(rt, name) else {
         return Err(Refused::Gone);
     };
-    let writ = writ_by(seat.dom(), route);
-    let written = write_under(run, seat, &mut frame, route, &writ, off, bytes);
+    let written = write_under(run, seat, &mut frame, route, off, bytes);
     frame.free(visits);
     match written {
         Ok(written) => Ok(written),
@@ -118,9 +146,8 @@ pub fn copy_by<R: Wait, P: Allows>(
     let Some(mut ends) = run.pool.lock_both(rt, from.frame, to.frame) else {
         return Err(Refused::Gone);
     };
-    let writ = writ_by(seat.dom(), &routes.dest);
     let range = Range { off: from.off, len };
-    let copied = copy_under(run, seat, &mut ends, routes, &writ, range, to.off);
+    let copied = copy_under(run, seat, &mut ends, routes, range, to.off);
     ends.free(visits);
     match copied {
         Ok(copied) => Ok(copied),

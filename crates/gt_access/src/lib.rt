@@ -17,5 +17,5 @@
 mod by;
 mod under;
 
-pub use by::{Refused, copy_by, read_by, write_by};
-pub use under::{Run, copy_under, read_under, writ_by, write_under};
+pub use by::{Refused, copy_by, fill_by, read_by, write_by};
+pub use under::{Run, copy_under, fill_under, read_under, writ_by, write_under};

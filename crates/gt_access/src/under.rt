@@ -10,7 +10,7 @@ ghost use Rattle.gt_frames.specs.Sets.{name_of};
 ghost use Rattle.gt_access.specs.Routes.{MayAccessBy, MayCopyBy, ReachesBy, writ_by};
 
 use gt_calls::{Pins, Route};
-use gt_frames::{Copied, Ends, Ground, Lent, Pool, Read, Writ, Written};
+use gt_frames::{Copied, Ends, Filled, Ground, Lent, Pool, Read, Writ, Written};
 use gt_positions::Roster;
 use gt_types::{Allows, DomId, FRAME_SIZE, Memory, Range};
 use gt_words::{Seat, Words};
@@ -74,6 +74,27 @@ pub fn read_under<P: Allows>(
     frame.read_to(range.off, usize::from(range.len), room)
 }
 
+/// Reads the bytes of a locked frame from `off` on over all of `out`.
+pub fn fill_under<P: Allows>(
+    run: &Run<'_, P>,
+    seat: &Seat,
+    frame: &Lent<'_>,
+    route: &Route,
+    off: u16,
+    out: &mut [u8],
+) -> Filled
+    requires seat { IsSeatOf run.now.words.now seat.now }
+    requires reached { ReachesBy run.now.words.now.layout seat.now dirs.Read uses.Map
+        (name_of frame.now.after) off (length out.old) route.now }
+    requires may { MayAccessBy run.now.config.now.domains.items (P.may run.now.rights.now) seat.now.dom route.now }
+    requires range { off + length out.old ≤ FRAME_SIZE }
+    ensures read { result ≡ reading_of frame.now.after off (length out.old) }
+    ensures len { length result.bytes ≡ length out.old }
+    ensures filled { out.new ≡ result.bytes }
+{
+    frame.read_into(off, out)
+}
+
 /// Writes `bytes` to a locked frame, from `off` on.
 ///
 /// # Errors
@@ -85,7 +106,6 @@ pub fn write_under<'a, P: Allows>(
     seat: &Seat,
     frame: &mut Lent<'_>,
     route: &Route,
-    writ: &Writ,
     off: u16,
     bytes: &'a [u8],
 ) -> Result<Written<'a>, Memory>
@@ -93,15 +113,16 @@ pub fn write_under<'a, P: Allows>(
     requires reached { ReachesBy run.now.words.now.layout seat.now dirs.Write uses.Map
         (name_of frame.old.after) off (length bytes.now) route.now }
     requires may { MayAccessBy run.now.config.now.domains.items (P.may run.now.rights.now) seat.now.dom route.now }
-    requires writ { writ.now ≡ writ_by seat.now.dom route.now }
     requires range { off + length bytes.now ≤ FRAME_SIZE }
     ensures before { frame.new.before ≡ frame.old.before }
-    ensures written { OnOk result (IsWrite frame.old.after frame.new.after writ.now off bytes.now) }
+    ensures written { OnOk result (IsWrite frame.old.after frame.new.after (writ_by seat.now.dom route.now)
+        off bytes.now) }
     ensures kept { IsKept frame.new.after }
     ensures receipt { IfOk result (λ r. r ≡ writing_of frame.old.after off bytes.now seat.now.dom) }
     ensures refused { OnErr result (frame.new.after ≡ frame.old.after) }
 {
-    frame.write(writ, off, bytes)
+    let writ = writ_by(seat.dom(), route);
+    frame.write(&writ, off, bytes)
 }
 
 /// Copies a range of the one locked frame to the other, from `to_off` on; both may be one frame.
@@ -114,27 +135,26 @@ pub fn copy_under<P: Allows>(
     seat: &Seat,
     ends: &mut Ends<'_>,
     routes: &Pins,
-    writ: &Writ,
-    from: Range,
+    range: Range,
     to_off: u16,
 ) -> Result<Copied, Memory>
     requires seat { IsSeatOf run.now.words.now seat.now }
     requires source { ReachesBy run.now.words.now.layout seat.now dirs.Read uses.Copy
-        (name_of (source_of ends.old)) from.off from.len routes.now.source }
+        (name_of (source_of ends.old)) range.off range.len routes.now.source }
     requires dest { ReachesBy run.now.words.now.layout seat.now dirs.Write uses.Copy
-        (name_of (dest_of ends.old)) to_off from.len routes.now.dest }
+        (name_of (dest_of ends.old)) to_off range.len routes.now.dest }
     requires may { MayCopyBy run.now.config.now.domains.items (P.may run.now.rights.now) seat.now.dom routes.now }
-    requires writ { writ.now ≡ writ_by seat.now.dom routes.now.dest }
-    requires source_range { from.off + from.len ≤ FRAME_SIZE }
-    requires dest_range { to_off + from.len ≤ FRAME_SIZE }
+    requires source_range { range.off + range.len ≤ FRAME_SIZE }
+    requires dest_range { to_off + range.len ≤ FRAME_SIZE }
     ensures written { OnOk result (IsWrite (dest_of ends.old) (dest_of ends.new)
-        writ.now to_off (bytes_at (source_of ends.old) from.off from.len)) }
+        (writ_by seat.now.dom routes.now.dest) to_off (bytes_at (source_of ends.old) range.off range.len)) }
     ensures source_kept { OnOk result (KeepsSource ends.old ends.new) }
     ensures kept { IsKept (dest_of ends.new) }
     ensures receipt { IfOk result
-        (λ r. r ≡ copying_of (source_of ends.old) from.off (dest_of ends.old) to_off from.len seat.now.dom) }
+        (λ r. r ≡ copying_of (source_of ends.old) range.off (dest_of ends.old) to_off range.len seat.now.dom) }
     ensures refused { OnErr result ((dest_of ends.new ≡ dest_of ends.old) × (source_of ends.new ≡ source_of ends.old)) }
     ensures on { GoesOn ends.old ends.new }
 {
-    ends.copy(writ, from.off, to_off, from.len)
+    let writ = writ_by(seat.dom(), &routes.dest);
+    ends.copy(&writ, range, to_off)
 }

@@ -1,4 +1,5 @@
 pub mod Bytes
+pub mod Copies
 pub mod Covering
 pub mod Frames
 pub mod Places

@@ -1,7 +1,8 @@
 -- Locked frames at the two ends of a copy.
 use Rattle.std.specs.Prelude.{◌≡◌, false, Option, Some, None, List, ◌∷◌}
+use Rattle.gt_types.specs.declared.places.FrameName.{FrameName}
 use Rattle.gt_frames.specs.declared.pool.Ends.{Ends}
-use Rattle.gt_frames.specs.Frames.{FrameState}
+use Rattle.gt_frames.specs.Frames.{FrameState, IsKept}
 use Rattle.gt_frames.specs.Places.{is_name}
 use Rattle.gt_frames.specs.Sets.{name_of}
 use Rattle.gt_frames.specs.Visits.{Visit, IsFresh, visit_in}
@@ -43,6 +44,14 @@ IsFreshIn (Some v) = IsFresh v
 -- the frames were just locked
 abbrev pub AreFresh : Ends → Type 0
 AreFresh e = IsFresh (dest_visit e) × IsFreshIn (source_visit e)
+
+-- the frames that the bytes come from and go to have these names; they were just locked, and each write to them was by
+-- right
+pub record AreLocked (from to : FrameName) (e : Ends) : Type 0 where
+  pub source : name_of (source_of e) ≡ from
+  pub dest : name_of (dest_of e) ≡ to
+  pub fresh : AreFresh e
+  pub kept : IsKept (source_of e) × IsKept (dest_of e)
 
 -- of the visits only what the frame that the bytes go to holds now has changed
 pub record GoesOn (old new : Ends) : Type 0 where

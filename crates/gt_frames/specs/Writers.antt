@@ -1,6 +1,6 @@
 -- Who wrote each byte of a frame last, and by what right.
-use Rattle.std.specs.Prelude.{◌≡◌, ℕ, zero, suc, ◌+◌, ◌≤◌, Bool, true, ◌&&◌, ◌⊎◌, if◌then◌else◌, nat_le, nat_lt}
-use Rattle.std.specs.Prelude.{List, [], ◌∷◌, length, slice_get, slice_index_or, Option, Some, None}
+use Rattle.std.specs.Prelude.{◌≡◌, ℕ, zero, suc, ◌+◌, ◌<◌, ◌≤◌, Bool, false, true, ◌&&◌, ◌⊎◌, if◌then◌else◌, nat_le}
+use Rattle.std.specs.Prelude.{nat_lt, List, [], ◌∷◌, length, slice_get, slice_index_or, Option, Some, None}
 use Rattle.gt_types.specs.declared.limits.TheConstants.{FRAME_SIZE}
 use Rattle.gt_frames.specs.declared.writ.Writ.{Writ}
 use Rattle.gt_frames.specs.declared.writ.WriteRecord.{WriteRecord}
@@ -39,6 +39,17 @@ pub record AreWriters (w : Writers) : Type 0 where
 -- each byte has the writ that it had
 abbrev pub ShowsSame : Writers → Writers → Type 0
 ShowsSame v w = (at : ℕ) → shown w at ≡ shown v at
+
+-- the place is there, and no byte has its writ
+pub record IsFree (w : Writers) (place : ℕ) : Type 0 where
+  pub inside : place < length w.writs.items
+  pub unused : slice_index_or w.used.items place true ≡ false
+
+-- each byte has the writ that it had, and as many bytes have numbers
+pub record KeepsWriters (v w : Writers) : Type 0 where
+  pub sound : AreWriters w
+  pub same : ShowsSame v w
+  pub len : length w.numbers.items ≡ length v.numbers.items
 
 -- the number is that of this writ, and marked
 pub record HasWrit (w : Writers) (n : ℕ) (writ : Writ) : Type 0 where

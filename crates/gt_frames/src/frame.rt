@@ -9,10 +9,11 @@ ghost use Rattle.gt_frames.specs.Writers.{KnowsWriters};
 use crate::journal::Journal;
 use crate::receipts::CopiedEnd;
 use crate::writers::Writers;
-use crate::{Copied, FrameBytes, Read, Writ, Written};
-use gt_types::{DomId, FRAME_SIZE, Memory};
+use crate::{Copied, Filled, FrameBytes, Read, Writ, Written};
+use gt_types::{DomId, FRAME_SIZE, Memory, Range};
 use std::alloc::Global;
 use std::marker::Model;
+use std::snapshot::Snapshot;
 
 /// A frame of 4,096 bytes, with all writes that were made to it.
 #[derive(Drop)]
@@ -67,48 +68,48 @@ fn store(
     }
 }
 
-// So many bytes from this offset on.
+// The bytes of this range.
 #[inline(always)]
-fn range_of(bytes: &[u8], off: u16, len: u16) -> &[u8]
-    requires { off + len ≤ length bytes.now }
-    ensures bytes { result.now ≡ slice_range bytes.now off (off + len) }
-    ensures len { length result.now ≡ len }
+fn range_of(bytes: &[u8], range: Range) -> &[u8]
+    requires { range.off + range.len ≤ length bytes.now }
+    ensures bytes { result.now ≡ slice_range bytes.now range.off (range.off + range.len) }
+    ensures len { length result.now ≡ range.len }
 {
-    let start = usize::from(off);
-    &bytes[start..start + usize::from(len)]
+    let start = usize::from(range.off);
+    &bytes[start..start + usize::from(range.len)]
 }
 
-// The same of bytes of the contents themselves, which may overlap the range written: they are taken out first.
+// The same of a range of the contents themselves, which may overlap the range written: its bytes are taken out first.
 fn store_own(
     writers: &mut Writers,
     journal: &mut Journal,
     contents: &mut Vec<u8>,
     writ: &Writ,
-    from_off: u16,
+    range: Range,
     to_off: u16,
-    len: u16,
 ) -> Result<(), Memory>
     requires size { vec_len contents.old ≡ FRAME_SIZE }
-    requires source { from_off + len ≤ FRAME_SIZE }
-    requires range { to_off + len ≤ FRAME_SIZE }
+    requires source { range.off + range.len ≤ FRAME_SIZE }
+    requires range { to_off + range.len ≤ FRAME_SIZE }
     requires knows { KnowsWriters writers.old journal.old }
     ensures knows { KnowsWriters writers.new journal.new }
     ensures journal { OnOk result (journal.new
-        ≡ recorded journal.old writ.now to_off (slice_range contents.old.items from_off (from_off + len))) }
+        ≡ recorded journal.old writ.now to_off (slice_range contents.old.items range.off (range.off + range.len))) }
     ensures contents { OnOk result (contents.new.items
-        ≡ overlay contents.old.items to_off (slice_range contents.old.items from_off (from_off + len))) }
+        ≡ overlay contents.old.items to_off (slice_range contents.old.items range.off (range.off + range.len))) }
     ensures journal_kept { OnErr result (journal.new ≡ journal.old) }
     ensures contents_kept { OnErr result (contents.new.items ≡ contents.old.items) }
 {
     let mut room = [0; FRAME_SIZE as usize];
-    let taken = &mut room[..usize::from(len)];
-    taken.copy_from_slice(range_of(contents, from_off, len));
+    let taken = &mut room[..usize::from(range.len)];
+    taken.copy_from_slice(range_of(contents, range));
     store(writers, journal, contents, writ, to_off, taken)
 }
 
 impl Frame {
-    ghost use Rattle.gt_frames.specs.Frames.{contents, bytes_at, covers, IsKept, IsWrite};
-    ghost use Rattle.gt_frames.specs.Receipts.{reading_of, writing_of, copying_of};
+    ghost use Rattle.gt_frames.specs.Copies.{CanCopy, IsCopy};
+    ghost use Rattle.gt_frames.specs.Frames.{contents, covers, IsKept, IsWrite};
+    ghost use Rattle.gt_frames.specs.Receipts.{reading_of, writing_of};
     ghost use Rattle.gt_frames.specs.Writers.{last_writ};
 
     /// A frame of zeros, to which nothing was written.
@@ -177,6 +178,25 @@ impl Frame {
         }
     }
 
+    /// Reads the bytes from the offset `off` on over all of the caller's `out`. It takes no memory.
+    #[inline(always)]
+    pub fn read_into(&self, off: u16, out: &mut [u8]) -> Filled
+        requires { off + length out.old ≤ FRAME_SIZE }
+        ensures read { result ≡ reading_of self.now off (length out.old) }
+        ensures len { length result.bytes ≡ length out.old }
+        ensures filled { out.new ≡ result.bytes }
+    {
+        let (start, len) = (usize::from(off), out.len());
+        out.copy_from_slice(&self.bytes[start..start + len]);
+        Filled {
+            owner: self.owner,
+            number: self.number,
+            off,
+            len,
+            contents: Snapshot::of(&self.bytes),
+        }
+    }
+
     /// Writes `bytes` from the offset `off` on.
     ///
     /// # Errors
@@ -212,7 +232,7 @@ impl Frame {
         })
     }
 
-    /// Copies `len` bytes of another frame.
+    /// Copies a range of another frame, to `to_off` on.
     ///
     /// # Errors
     ///
@@ -221,68 +241,52 @@ impl Frame {
         from: &Frame,
         to: &mut Frame,
         writ: &Writ,
-        from_off: u16,
+        range: Range,
         to_off: u16,
-        len: u16,
     ) -> Result<Copied, Memory>
-        requires source { from_off + len ≤ FRAME_SIZE }
-        requires dest { to_off + len ≤ FRAME_SIZE }
-        requires right { IsTrue (covers writ.now to.old.owner to.old.number to_off len) }
-        ensures written { OnOk result (IsWrite to.old to.new writ.now to_off (bytes_at from.now from_off len)) }
-        ensures kept { IsKept to.new }
-        ensures receipt { IfOk result (λ r. r ≡ copying_of from.now from_off to.old to_off len writ.now.writer) }
-        ensures refused { OnErr result (to.new ≡ to.old) }
+        requires { CanCopy writ.now to.old range to_off }
+        ensures { IsCopy from.now to.old to.new writ.now range to_off result }
     {
+        let bytes = range_of(&from.bytes, range);
         store(
             &mut to.writers,
             &mut to.journal,
             &mut to.bytes,
             writ,
             to_off,
-            range_of(&from.bytes, from_off, len),
+            bytes,
         )?;
         Ok(Copied {
-            source: from.end(from_off),
+            source: from.end(range.off),
             dest: to.end(to_off),
-            len,
+            len: range.len,
             writer: writ.writer,
         })
     }
 
-    /// Copies `len` of its own bytes. The ranges may overlap: what is written is what the source
-    /// range held before.
+    /// Copies a range of its own, to `to_off` on. The ranges may overlap: what is written is what the
+    /// source range held before.
     ///
     /// # Errors
     ///
     /// `Memory`, with the frame as it was.
-    pub fn copy_within(
-        &mut self,
-        writ: &Writ,
-        from_off: u16,
-        to_off: u16,
-        len: u16,
-    ) -> Result<Copied, Memory>
-        requires source { from_off + len ≤ FRAME_SIZE }
-        requires dest { to_off + len ≤ FRAME_SIZE }
-        requires right { IsTrue (covers writ.now self.old.owner self.old.number to_off len) }
-        ensures written { OnOk result (IsWrite self.old self.new writ.now to_off (bytes_at self.old from_off len)) }
-        ensures kept { IsKept self.new }
-        ensures receipt { IfOk result (λ r. r ≡ copying_of self.old from_off self.old to_off len writ.now.writer) }
-        ensures refused { OnErr result (self.new ≡ self.old) }
+    pub fn copy_within(&mut self, writ: &Writ, range: Range, to_off: u16) -> Result<Copied, Memory>
+        requires { CanCopy writ.now self.old range to_off }
+        ensures { IsCopy self.old self.old self.new writ.now range to_off result }
     {
+        let contents = &mut self.bytes;
         store_own(
             &mut self.writers,
             &mut self.journal,
-            &mut self.bytes,
+            contents,
             writ,
-            from_off,
+            range,
             to_off,
-            len,
         )?;
         Ok(Copied {
-            source: self.end(from_off),
+            source: self.end(range.off),
             dest: self.end(to_off),
-            len,
+            len: range.len,
             writer: writ.writer,
         })
     }

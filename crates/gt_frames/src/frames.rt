@@ -63,32 +63,31 @@ fn copy_among(
     frames: &mut [Frame],
     writ: &Writ,
     source: usize,
-    from_off: u16,
+    range: Range,
     dest: usize,
     to_off: u16,
-    len: u16,
 ) -> Result<Copied, Memory>
     requires source_there { source < length frames.old }
     requires dest_there { dest < length frames.old }
-    requires source { from_off + len ≤ FRAME_SIZE }
-    requires dest { to_off + len ≤ FRAME_SIZE }
+    requires source { range.off + range.len ≤ FRAME_SIZE }
+    requires dest { to_off + range.len ≤ FRAME_SIZE }
     requires right { (to : FrameState) → slice_get frames.old dest ≡ Some to
-        → IsTrue (covers writ.now to.owner to.number to_off len) }
-    ensures written { OnOk result (CopiesAmong frames.old frames.new source dest writ.now from_off to_off len) }
+        → IsTrue (covers writ.now to.owner to.number to_off range.len) }
+    ensures written { OnOk result (CopiesAmong frames.old frames.new source dest writ.now range.off to_off range.len) }
     ensures receipt { IfOk result (λ r. (from to : FrameState)
         → slice_get frames.old source ≡ Some from → slice_get frames.old dest ≡ Some to
-        → r ≡ copying_of from from_off to to_off len writ.now.writer) }
+        → r ≡ copying_of from range.off to to_off range.len writ.now.writer) }
     ensures refused { OnErr result (frames.new ≡ frames.old) }
 {
     if source == dest {
-        return frames[dest].copy_within(writ, from_off, to_off, len);
+        return frames[dest].copy_within(writ, range, to_off);
     }
     if source < dest {
         let (front, back) = frames.split_at_mut(dest);
-        Frame::copy_between(&front[source], &mut back[0], writ, from_off, to_off, len)
+        Frame::copy_between(&front[source], &mut back[0], writ, range, to_off)
     } else {
         let (front, back) = frames.split_at_mut(source);
-        Frame::copy_between(&back[0], &mut front[dest], writ, from_off, to_off, len)
+        Frame::copy_between(&back[0], &mut front[dest], writ, range, to_off)
     }
 }
 
@@ -190,6 +189,7 @@ impl Frames {
     {
         let source = self.place(from.frame).unwrap();
         let dest = self.place(to.frame).unwrap();
-        copy_among(&mut self.frames, writ, source, from.off, dest, to.off, len)
+        let range = Range { off: from.off, len };
+        copy_among(&mut self.frames, writ, source, range, dest, to.off)
     }
 }

@@ -36,6 +36,6 @@ pub use gt_types::{FrameName, Spot};
 pub use laws::{a_covered_record_shows_no_byte, as_many_records_as_bytes_are_enough};
 pub use places::FrameCount;
 pub use pool::{Ends, Pool};
-pub use receipts::{Copied, Read, Written};
+pub use receipts::{Copied, Filled, Read, Written};
 pub use visits::{Lent, Visits};
 pub use writ::{Ground, Writ, WriteRecord};

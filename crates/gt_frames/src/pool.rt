@@ -2,10 +2,10 @@
 ghost use Rattle.std.specs.Prelude.{◌≡◌, ◌+◌, ◌<◌, ◌≤◌, ◌++◌, [], ◌∷◌, length, All, IfOk, IfSome, OnOk, OnErr, IsTrue};
 ghost use Rattle.std.specs.Prelude.{◌↔◌};
 ghost use Rattle.std.specs.Sync.Mutex.{mutex_guard_value};
-ghost use Rattle.gt_frames.specs.Frames.{bytes_at, contents, covers, IsKept, IsWrite};
+ghost use Rattle.gt_frames.specs.Copies.{CanCopy, IsCopy};
+ghost use Rattle.gt_frames.specs.Frames.{contents, IsKept};
 ghost use Rattle.gt_frames.specs.Places.{frame_counts, frames_of, pool_number};
-ghost use Rattle.gt_frames.specs.Pool.{source_of, dest_of, visits_of, AreFresh, GoesOn, KeepsSource};
-ghost use Rattle.gt_frames.specs.Receipts.{copying_of};
+ghost use Rattle.gt_frames.specs.Pool.{source_of, dest_of, visits_of, AreLocked, GoesOn, KeepsSource};
 ghost use Rattle.gt_frames.specs.Sets.{name_of};
 ghost use Rattle.gt_frames.specs.Visits.{IsFresh};
 
@@ -13,7 +13,7 @@ use crate::frames::frames_of_zeros;
 use crate::places::{find, frame_counts};
 use crate::{Copied, Frame, FrameCount, FrameName, Lent, Visits, Writ};
 use crossbeam_utils::CachePadded;
-use gt_types::{Config, FRAME_SIZE, Memory};
+use gt_types::{Config, FRAME_SIZE, Memory, Range};
 use std::alloc::Global;
 use std::marker::Model;
 use std::sync::{Mutex, MutexGuard, Wait};
@@ -157,10 +157,7 @@ impl Pool {
     /// Locks the frames at both ends of a copy: the one with the lower pool number first, and one
     /// lock if both are one frame. `None` if there is no such frame, or another one is in its place.
     pub fn lock_both(&self, rt: &impl Wait, source: FrameName, dest: FrameName) -> Option<Ends<'_>>
-        ensures source { IfSome result (λ e. name_of (source_of e) ≡ source) }
-        ensures dest { IfSome result (λ e. name_of (dest_of e) ≡ dest) }
-        ensures fresh { IfSome result AreFresh }
-        ensures kept { IfSome result (λ e. IsKept (source_of e) × IsKept (dest_of e)) }
+        ensures { IfSome result (AreLocked source dest) }
     {
         let from = self.place(source)?;
         let to = self.place(dest)?;
@@ -182,10 +179,7 @@ impl Pool {
 impl<'p> Ends<'p> {
     // Both ends are this frame, if it has both names.
     fn same(frame: MutexGuard<'p, Frame>, source: FrameName, dest: FrameName) -> Option<Ends<'p>>
-        ensures source { IfSome result (λ e. name_of (source_of e) ≡ source) }
-        ensures dest { IfSome result (λ e. name_of (dest_of e) ≡ dest) }
-        ensures fresh { IfSome result AreFresh }
-        ensures kept { IfSome result (λ e. IsKept (source_of e) × IsKept (dest_of e)) }
+        ensures { IfSome result (AreLocked source dest) }
     {
         if is_named(&frame, source) && is_named(&frame, dest) {
             Some(Ends {
@@ -205,10 +199,7 @@ impl<'p> Ends<'p> {
         source: FrameName,
         dest: FrameName,
     ) -> Option<Ends<'p>>
-        ensures source { IfSome result (λ e. name_of (source_of e) ≡ source) }
-        ensures dest { IfSome result (λ e. name_of (dest_of e) ≡ dest) }
-        ensures fresh { IfSome result AreFresh }
-        ensures kept { IfSome result (λ e. IsKept (source_of e) × IsKept (dest_of e)) }
+        ensures { IfSome result (AreLocked source dest) }
     {
         if is_named(&from, source) && is_named(&to, dest) {
             Some(Ends {
@@ -231,35 +222,23 @@ impl<'p> Ends<'p> {
         }
     }
 
-    /// Copies `len` bytes from the one end to the other. What is written is what the source range
-    /// held before, overlap included.
+    /// Copies a range of the one end to the other, from `to_off` on. What is written is what the source
+    /// range held before, overlap included.
     ///
     /// # Errors
     ///
     /// `Memory`, with both frames as they were.
-    pub fn copy(
-        &mut self,
-        writ: &Writ,
-        from_off: u16,
-        to_off: u16,
-        len: u16,
-    ) -> Result<Copied, Memory>
-        requires source { from_off + len ≤ FRAME_SIZE }
-        requires dest { to_off + len ≤ FRAME_SIZE }
-        requires right { IsTrue (covers writ.now (dest_of self.old).owner (dest_of self.old).number to_off len) }
-        ensures written { OnOk result (IsWrite (dest_of self.old) (dest_of self.new) writ.now to_off
-            (bytes_at (source_of self.old) from_off len)) }
-        ensures kept { IsKept (dest_of self.new) }
+    pub fn copy(&mut self, writ: &Writ, range: Range, to_off: u16) -> Result<Copied, Memory>
+        requires { CanCopy writ.now (dest_of self.old) range to_off }
+        ensures copied { IsCopy (source_of self.old) (dest_of self.old) (dest_of self.new)
+            writ.now range to_off result }
         ensures source_kept { OnOk result (KeepsSource self.old self.new) }
-        ensures receipt { IfOk result (λ r.
-            r ≡ copying_of (source_of self.old) from_off (dest_of self.old) to_off len writ.now.writer) }
-        ensures refused { OnErr result
-            ((dest_of self.new ≡ dest_of self.old) × (source_of self.new ≡ source_of self.old)) }
+        ensures refused { OnErr result (source_of self.new ≡ source_of self.old) }
         ensures on { GoesOn self.old self.new }
     {
         match &self.source {
-            None => self.dest.copy_within(writ, from_off, to_off, len),
-            Some(source) => self.dest.copy_from(source, writ, from_off, to_off, len),
+            None => self.dest.copy_own(writ, range, to_off),
+            Some(source) => self.dest.copy_from(source, writ, range, to_off),
         }
     }
 }

@@ -4,6 +4,7 @@ ghost use Rattle.std.specs.Prelude.{◌≡◌};
 use crate::FrameBytes;
 use gt_types::DomId;
 use std::marker::Model;
+use std::snapshot::Snapshot;
 
 /// Bytes that were read from a frame: its owner and number, the offset of the first byte, the bytes.
 #[derive(Drop)]
@@ -29,6 +30,32 @@ impl Read {
     {
         self.bytes.into_vec()
     }
+}
+
+/// Bytes that were read from a frame into bytes of the caller's: its owner and number, the offset of the first byte,
+/// and, only for contracts, the bytes.
+#[derive(Drop)]
+pub struct Filled {
+    pub(crate) owner: DomId,
+    pub(crate) number: u64,
+    pub(crate) off: u16,
+    pub(crate) len: usize,
+    // All bytes that the frame had.
+    pub(crate) contents: Snapshot<Vec<u8>>,
+}
+
+impl Model for Filled {
+    ghost use Rattle.std.specs.Prelude.{◌+◌, slice_range};
+    ghost use Rattle.gt_frames.specs.Receipts.{Reading};
+
+    ghost Value = { Reading };
+
+    ghost view = { λ f. record {
+      owner = f.owner;
+      number = f.number;
+      off = f.off;
+      bytes = slice_range f.contents.value.items f.off (f.off + f.len);
+    } };
 }
 
 /// Bytes that were written to a frame: its owner and number, the offset of the first byte, the

@@ -2,9 +2,9 @@
 ghost use Rattle.std.specs.Prelude.{◌≡◌, ◌+◌, ◌≤◌, ◌++◌, [], ◌∷◌, length, vec_capacity, vec_len, IfOk, OnOk, OnErr};
 ghost use Rattle.std.specs.Prelude.{IsTrue};
 
-use crate::{Copied, Frame, FrameName, Read, Writ, Written};
+use crate::{Copied, Filled, Frame, FrameName, Read, Writ, Written};
 use gt_history::History;
-use gt_types::{FRAME_SIZE, Memory};
+use gt_types::{FRAME_SIZE, Memory, Range};
 use std::marker::Model;
 use std::snapshot::Snapshot;
 use std::sync::MutexGuard;
@@ -53,8 +53,9 @@ impl Visits {
 
 impl<'p> Lent<'p> {
     ghost use Rattle.std.specs.Sync.Mutex.{mutex_guard_value};
-    ghost use Rattle.gt_frames.specs.Frames.{bytes_at, contents, covers, IsKept, IsWrite};
-    ghost use Rattle.gt_frames.specs.Receipts.{reading_of, writing_of, copying_of};
+    ghost use Rattle.gt_frames.specs.Copies.{CanCopy, IsCopy};
+    ghost use Rattle.gt_frames.specs.Frames.{contents, covers, IsKept, IsWrite};
+    ghost use Rattle.gt_frames.specs.Receipts.{reading_of, writing_of};
     ghost use Rattle.gt_frames.specs.Sets.{name_of};
 
     /// The frame that this lock guards, just locked.
@@ -89,55 +90,49 @@ impl<'p> Lent<'p> {
         self.frame.read_to(off, len, room)
     }
 
-    /// Writes `bytes` from the offset `off` on.
+    /// Reads the bytes from the offset `off` on over all of the caller's `out`. It takes no memory.
+    #[inline(always)]
+    pub fn read_into(&self, off: u16, out: &mut [u8]) -> Filled
+        requires { off + length out.old ≤ FRAME_SIZE }
+        ensures read { result ≡ reading_of self.now.after off (length out.old) }
+        ensures len { length result.bytes ≡ length out.old }
+        ensures filled { out.new ≡ result.bytes }
+    {
+        self.frame.read_into(off, out)
+    }
+
+    /// Writes `bytes` by this writ, from the offset `off` on.
     ///
     /// # Errors
     ///
     /// `Memory`, with the frame as it was.
-    pub fn write<'a>(
-        &mut self,
-        writ: &Writ,
-        off: u16,
-        bytes: &'a [u8],
-    ) -> Result<Written<'a>, Memory>
+    pub fn write<'a>(&mut self, by: &Writ, off: u16, bytes: &'a [u8]) -> Result<Written<'a>, Memory>
         requires range { off + length bytes.now ≤ FRAME_SIZE }
-        requires right { IsTrue (covers writ.now self.old.after.owner self.old.after.number off (length bytes.now)) }
+        requires right { IsTrue (covers by.now self.old.after.owner self.old.after.number off (length bytes.now)) }
         ensures before { self.new.before ≡ self.old.before }
-        ensures written { OnOk result (IsWrite self.old.after self.new.after writ.now off bytes.now) }
+        ensures written { OnOk result (IsWrite self.old.after self.new.after by.now off bytes.now) }
         ensures kept { IsKept self.new.after }
-        ensures receipt { IfOk result (λ r. r ≡ writing_of self.old.after off bytes.now writ.now.writer) }
+        ensures receipt { IfOk result (λ r. r ≡ writing_of self.old.after off bytes.now by.now.writer) }
         ensures refused { OnErr result (self.new.after ≡ self.old.after) }
     {
-        self.frame.write(writ, off, bytes)
+        self.frame.write(by, off, bytes)
     }
 
-    /// Copies `len` of its own bytes. The ranges may overlap: what is written is what the source range held before.
+    /// Copies a range of its own, to `to` on. The ranges may overlap: what is written is what the source range held
+    /// before.
     ///
     /// # Errors
     ///
     /// `Memory`, with the frame as it was.
-    pub(crate) fn copy_within(
-        &mut self,
-        writ: &Writ,
-        from_off: u16,
-        to_off: u16,
-        len: u16,
-    ) -> Result<Copied, Memory>
-        requires source { from_off + len ≤ FRAME_SIZE }
-        requires dest { to_off + len ≤ FRAME_SIZE }
-        requires right { IsTrue (covers writ.now self.old.after.owner self.old.after.number to_off len) }
+    pub(crate) fn copy_own(&mut self, writ: &Writ, range: Range, to: u16) -> Result<Copied, Memory>
+        requires { CanCopy writ.now self.old.after range to }
         ensures before { self.new.before ≡ self.old.before }
-        ensures written { OnOk result (IsWrite self.old.after self.new.after writ.now to_off
-            (bytes_at self.old.after from_off len)) }
-        ensures kept { IsKept self.new.after }
-        ensures receipt { IfOk result (λ r.
-            r ≡ copying_of self.old.after from_off self.old.after to_off len writ.now.writer) }
-        ensures refused { OnErr result (self.new.after ≡ self.old.after) }
+        ensures copied { IsCopy self.old.after self.old.after self.new.after writ.now range to result }
     {
-        self.frame.copy_within(writ, from_off, to_off, len)
+        self.frame.copy_within(writ, range, to)
     }
 
-    /// Copies `len` bytes of another locked frame.
+    /// Copies a range of another locked frame, to `to_off` on.
     ///
     /// # Errors
     ///
@@ -146,22 +141,14 @@ impl<'p> Lent<'p> {
         &mut self,
         from: &Lent<'p>,
         writ: &Writ,
-        from_off: u16,
+        range: Range,
         to_off: u16,
-        len: u16,
     ) -> Result<Copied, Memory>
-        requires source { from_off + len ≤ FRAME_SIZE }
-        requires dest { to_off + len ≤ FRAME_SIZE }
-        requires right { IsTrue (covers writ.now self.old.after.owner self.old.after.number to_off len) }
+        requires { CanCopy writ.now self.old.after range to_off }
         ensures before { self.new.before ≡ self.old.before }
-        ensures written { OnOk result (IsWrite self.old.after self.new.after writ.now to_off
-            (bytes_at from.now.after from_off len)) }
-        ensures kept { IsKept self.new.after }
-        ensures receipt { IfOk result (λ r.
-            r ≡ copying_of from.now.after from_off self.old.after to_off len writ.now.writer) }
-        ensures refused { OnErr result (self.new.after ≡ self.old.after) }
+        ensures copied { IsCopy from.now.after self.old.after self.new.after writ.now range to_off result }
     {
-        Frame::copy_between(&from.frame, &mut self.frame, writ, from_off, to_off, len)
+        Frame::copy_between(&from.frame, &mut self.frame, writ, range, to_off)
     }
 
     /// Frees the frame. The visits tell then how it was when it was locked, and how it is now.

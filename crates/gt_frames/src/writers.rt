@@ -98,10 +98,10 @@ fn set_all(numbers: &mut [u16], number: u16)
 }
 
 impl Writers {
-    ghost use Rattle.std.specs.Prelude.{◌≡◌, ◌+◌, ◌<◌, ◌≤◌, ◌-◌, ℕ, Some, None, IfOk, OnOk, OnErr, false, true, length};
+    ghost use Rattle.std.specs.Prelude.{◌≡◌, ◌+◌, ◌<◌, ◌≤◌, ◌-◌, ℕ, Some, None, IfOk, OnOk, OnErr, true, length};
     ghost use Rattle.std.specs.Prelude.{replicate, slice_get, slice_index_or};
     ghost use Rattle.gt_frames.specs.Bytes.{overlay};
-    ghost use Rattle.gt_frames.specs.Writers.{AreWriters, HasWrit, IsUsed, ShowsSame, shown};
+    ghost use Rattle.gt_frames.specs.Writers.{AreWriters, HasWrit, IsFree, IsUsed, KeepsWriters, ShowsSame, shown};
 
     /// No byte was written.
     pub(crate) fn new(alloc: Global) -> Writers
@@ -135,11 +135,8 @@ impl Writers {
     // Adds a place with this writ, which no byte has.
     fn add(&mut self, writ: &Writ) -> Result<usize, Memory>
         requires { AreWriters self.old }
-        ensures sound { AreWriters self.new }
-        ensures same { ShowsSame self.old self.new }
-        ensures len { length self.new.numbers.items ≡ length self.old.numbers.items }
-        ensures free { IfOk result (λ n.
-            (n < length self.new.writs.items) × (slice_index_or self.new.used.items n true ≡ false)) }
+        ensures same { KeepsWriters self.old self.new }
+        ensures free { IfOk result (IsFree self.new) }
     {
         self.writs.reserve(1)?;
         self.used.reserve(1)?;
@@ -153,11 +150,8 @@ impl Writers {
     // otherwise one is added.
     fn free_place(&mut self, writ: &Writ) -> Result<usize, Memory>
         requires { AreWriters self.old }
-        ensures sound { AreWriters self.new }
-        ensures same { ShowsSame self.old self.new }
-        ensures len { length self.new.numbers.items ≡ length self.old.numbers.items }
-        ensures free { IfOk result (λ n.
-            (n < length self.new.writs.items) × (slice_index_or self.new.used.items n true ≡ false)) }
+        ensures same { KeepsWriters self.old self.new }
+        ensures free { IfOk result (IsFree self.new) }
     {
         if let Some(place) = first_free(&self.used, self.next) {
             return Ok(place);
@@ -175,11 +169,8 @@ impl Writers {
     // Puts the writ at a place that no byte has.
     fn put(&mut self, place: usize, writ: &Writ)
         requires sound { AreWriters self.old }
-        requires inside { place < length self.old.writs.items }
-        requires free { slice_index_or self.old.used.items place true ≡ false }
-        ensures sound { AreWriters self.new }
-        ensures same { ShowsSame self.old self.new }
-        ensures len { length self.new.numbers.items ≡ length self.old.numbers.items }
+        requires free { IsFree self.old place }
+        ensures same { KeepsWriters self.old self.new }
         ensures has { HasWrit self.new (place + 1) writ.now }
     {
         self.writs[place] = *writ;

@@ -58,6 +58,11 @@ abbrev pub IsReadBy : Step → Reading → Type 0
 IsReadBy (ReadBytes dom frame off len) r = IsReadOf r (frame_named dom frame) off len
 IsReadBy step r = ⊥
 
+-- a read that was answered so left just the bytes read in the caller's buffer; refused, it left the buffer as it was
+abbrev pub Fills : Result Reading Denial → List ℕ → List ℕ → Type 0
+Fills (Ok r) old new = new ≡ r.bytes
+Fills (Err denial) old new = new ≡ old
+
 -- this writer wrote these bytes to just the frame and range that the access writes
 abbrev pub IsWrittenBy : DomId → List ℕ → Step → Writing → Type 0
 IsWrittenBy writer bytes (WriteBytes dom frame off len) r = r ≡ writing_at (frame_named dom frame) off bytes writer

@@ -162,6 +162,28 @@ impl<'m, P: Allows> Running<'m, P> {
         self.domain.load(rt, self.monitor, self.last, off, len)
     }
 
+    /// Reads over all of the buffer from this offset on through the last mapping.
+    pub fn load_into<R: Wait>(
+        &mut self,
+        rt: &R,
+        off: u16,
+        buffer: &mut [u8],
+    ) -> Result<(), Denial> {
+        let handle = self.last;
+        plain(self.domain.load_into(rt, self.monitor, handle, off, buffer))
+    }
+
+    /// Reads over all of the buffer from this offset on of a frame of its own.
+    pub fn peek_into<R: Wait>(
+        &mut self,
+        rt: &R,
+        frame: u64,
+        off: u16,
+        buffer: &mut [u8],
+    ) -> Result<(), Denial> {
+        plain(self.domain.peek_into(rt, self.monitor, frame, off, buffer))
+    }
+
     /// Writes these bytes from this offset on through the last mapping.
     pub fn store<R: Wait>(&mut self, rt: &R, off: u16, bytes: &[u8]) -> Result<(), Denial> {
         plain(self.domain.store(rt, self.monitor, self.last, off, bytes))

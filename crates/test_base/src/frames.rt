@@ -1,7 +1,7 @@
 //! Frames: what is written is read, and a refused call can be made again.
 use gt_entry::Entry;
 use gt_frames::{Copied, Frame, Ground, Read, Writ, WriteRecord, Written};
-use gt_types::{DomId, GrantRef, Memory};
+use gt_types::{DomId, GrantRef, Memory, Range};
 use std::alloc::Global;
 use std::process::Abort;
 use std::test::Fail;
@@ -46,6 +46,13 @@ const BY_A_VIA: Writ = Writ {
     },
 };
 
+const WHOLE: Range = Range { off: 0, len: 4096 };
+
+const FIRST_FOUR: Range = Range { off: 0, len: 4 };
+
+// Those from the third byte on.
+const NEXT_FOUR: Range = Range { off: 2, len: 4 };
+
 // The bytes of a frame from an offset on, as many as there is room for; the room itself if it is too much.
 fn bytes(frame: &Frame, off: u16, room: Vec<u8>) -> Vec<u8> {
     if room.len() > 4096 || usize::from(off) + room.len() > 4096 {
@@ -72,7 +79,7 @@ fn a_frame_is_copied_to_another(rt: HostRuntime) -> Result<(), Fail> {
     let mut source = Frame::new(alloc, OWNER, 5)?;
     let mut dest = Frame::new(alloc, STRANGER, 3)?;
     let _ = source.write(&BY_OWNER, 4094, &[0xab, 0xcd])?;
-    let _ = Frame::copy_between(&source, &mut dest, &BY_A_VIA, 0, 0, 4096)?;
+    let _ = Frame::copy_between(&source, &mut dest, &BY_A_VIA, WHOLE, 0)?;
     let (owner, number) = (dest.owner(), dest.number());
     let read = bytes(&dest, 4093, vec![in alloc; 7u8; 3]?);
     assert_eq!(rt;
@@ -98,13 +105,13 @@ fn done(rt: &impl Abort, frame: &mut Frame, other: &mut Frame, doing: Doing) -> 
             let _ = frame.write(&BY_OWNER, 0, &[1, 2, 3, 4])?;
         }
         Doing::OneFurther => {
-            let _ = frame.copy_within(&BY_OWNER, 0, 1, 4)?;
+            let _ = frame.copy_within(&BY_OWNER, FIRST_FOUR, 1)?;
         }
         Doing::TwoBack => {
-            let _ = frame.copy_within(&BY_OWNER, 2, 0, 4)?;
+            let _ = frame.copy_within(&BY_OWNER, NEXT_FOUR, 0)?;
         }
         Doing::ToTheOther => {
-            let _ = Frame::copy_between(frame, other, &BY_OWNER, 0, 1, 4)?;
+            let _ = Frame::copy_between(frame, other, &BY_OWNER, FIRST_FOUR, 1)?;
         }
     }
     Ok(())

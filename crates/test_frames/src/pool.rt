@@ -2,7 +2,7 @@
 use crate::places::{BYTES, at, config, text};
 use gt_frames::{FrameName, Ground, Pool, Read, Spot, Visits, Writ};
 use gt_rows::spot;
-use gt_types::DomId;
+use gt_types::{DomId, Range};
 use std::alloc::{AllocError, Global};
 use std::process::Abort;
 use std::sync::Wait;
@@ -55,9 +55,11 @@ fn copied<R: Wait>(rt: &R, pool: &Pool, visits: &mut Visits, from: Spot, to: Spo
     };
     match pool.lock_both(rt, from.frame, to.frame) {
         Some(mut ends) => {
-            let done = from.off <= 4092
-                && to.off <= 4092
-                && ends.copy(&writ, from.off, to.off, 4).is_ok();
+            let four = Range {
+                off: from.off,
+                len: 4,
+            };
+            let done = from.off <= 4092 && to.off <= 4092 && ends.copy(&writ, four, to.off).is_ok();
             ends.free(visits);
             done
         }

@@ -24,6 +24,9 @@ pub enum Stage<'a> {
     Asked(&'a [Line<'a>]),
     /// The same, if a line that is refused memory is asked again.
     Insisted(&'a [Line<'a>]),
+    /// This domain reads these bytes from this offset on, through its last mapping or in this frame of its own, over a
+    /// buffer that had others.
+    Fills(usize, Option<u64>, u16, [u8; 5]),
     /// The last domain maps the first entry of domain 1 for reading, so often.
     MapsOften(u32),
     /// The last domain makes room for so many records, and keeps no more.
@@ -87,6 +90,25 @@ fn play<R: Wait + Abort, P: Allows>(
     Ok(())
 }
 
+// Whether the domain reads these bytes over a buffer, through its last mapping or in a frame of its own.
+fn fills<R: Wait, P: Allows>(
+    rt: &R,
+    domain: Option<&mut Running<'_, P>>,
+    frame: Option<u64>,
+    off: u16,
+    wanted: [u8; 5],
+) -> bool {
+    let Some(domain) = domain else {
+        return false;
+    };
+    let mut buffer = [7; 5];
+    let done = match frame {
+        Some(frame) => domain.peek_into(rt, frame, off, &mut buffer),
+        None => domain.load_into(rt, off, &mut buffer),
+    };
+    done.is_ok() && buffer == wanted
+}
+
 // Maps the first entry of domain 1 for reading so often. Answers how often that was Ok.
 fn map_often<P: Allows>(domain: Option<&mut Running<'_, P>>, times: u32) -> u32 {
     let Some(domain) = domain else {
@@ -141,6 +163,10 @@ fn make<R: Wait + Abort, P: Allows>(
     match stage {
         Stage::Asked(lines) => play(rt, alloc, domains.as_mut_slice(), lines, false)?,
         Stage::Insisted(lines) => play(rt, alloc, domains.as_mut_slice(), lines, true)?,
+        Stage::Fills(by, frame, off, wanted) => {
+            let filled = fills(rt, domains.get_mut(by), frame, off, wanted);
+            assert!(rt; filled, "domain {by}");
+        }
         Stage::MapsOften(times) => {
             let done = map_often(domains.last_mut(), times);
             assert_eq!(rt; done, times);

@@ -171,7 +171,25 @@ const STORM_OF_VIAS: [(Part, u32); 4] = [
     (Part::Follows(1), 10_000),
 ];
 
-const ROWS: [Row; 12] = [
+// Each byte of frame 5 is 55, and domain 2 has it mapped and wrote three bytes.
+const STORED: [Line; 4] = [
+    (ONE, Poke(5, 0, &[0x55; 4096]), "ok"),
+    (ONE, Grant(0, page!(DomId(2), false, 5)), "ok"),
+    (TWO, Map(1, 0, WRITABLE), "ok"),
+    (TWO, Store(10, &[1, 2, 3]), "ok"),
+];
+
+const ROWS: [Row; 13] = [
+    Row {
+        name: "bytes are read over a buffer",
+        stages: &[
+            Stage::Asked(&STORED),
+            Stage::Fills(TWO, None, 9, [0x55, 1, 2, 3, 0x55]),
+            Stage::Fills(ONE, Some(5), 8, [0x55, 0x55, 1, 2, 3]),
+            Stage::Fills(TWO, Some(5), 8, [0; 5]),
+        ],
+        ..QUIET
+    },
     Row {
         name: "a domain that leaves gives its pins back",
         stages: &[

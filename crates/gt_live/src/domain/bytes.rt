@@ -6,15 +6,15 @@ ghost use Rattle.gt_words.specs.Conditions.{IsSeatOf};
 ghost use Rattle.gt_access.specs.Accesses.{IsReadOf, writing_at};
 ghost use Rattle.gt_access.specs.Routes.{MayAccessBy, ReachesBy};
 ghost use Rattle.gt_calls.specs.declared.request.Request.TheVariants as requests;
-ghost use Rattle.gt_live.specs.Accesses.{IsOfAccess, IsReadBy, IsWrittenBy};
+ghost use Rattle.gt_live.specs.Accesses.{Fills, IsOfAccess, IsReadBy, IsWrittenBy};
 ghost use Rattle.gt_live.specs.Domains.{AccessesQuietly, BelongsTo, StaysIn, not_made};
 ghost use Rattle.gt_live.specs.Visiting.{HasVisited, WasRead, WasWritten};
 
 use super::{Domain, refusal_of};
 use crate::monitor::Monitor;
-use gt_access::{Refused, Run, read_by, write_by};
+use gt_access::{Refused, Run, fill_by, read_by, write_by};
 use gt_calls::{Handle, Route, judge_load, judge_own_access, judge_store};
-use gt_frames::{FrameName, Read, Visits, Written};
+use gt_frames::{Filled, FrameName, Read, Visits, Written};
 use gt_types::{Allows, Denial, FRAME_SIZE, Facts, Range, Rule};
 use gt_words::Seat;
 use std::alloc::Global;
@@ -85,6 +85,35 @@ fn read_through<R: Wait, P: Allows>(
     }
 }
 
+// Reads bytes of a frame that this route leads to over all of `out`.
+#[tactic(auto, using(crate::proofs::Visiting::none_visited, crate::proofs::Visiting::read_visits))]
+fn fill_through<R: Wait, P: Allows>(
+    rt: &R,
+    monitor: &Monitor<P>,
+    seat: &Seat,
+    visits: &mut Visits,
+    route: &Route,
+    name: FrameName,
+    off: u16,
+    out: &mut [u8],
+) -> Result<Filled, Denial>
+    requires seat { IsSeatOf monitor.now.words seat.now }
+    requires reached { ReachesBy monitor.now.words.layout seat.now dirs.Read uses.Map
+        name off (length out.old) route.now }
+    requires may { MayAccessBy monitor.now.config.domains.items (P.may monitor.now.rights) seat.now.dom route.now }
+    requires range { off + length out.old ≤ FRAME_SIZE }
+    ensures read { IfOk result (λ r. IsReadOf r name off (length out.old)) }
+    ensures refused { IfErr result IsOfAccess }
+    ensures visited { HasVisited WasRead result visits.old visits.new }
+    ensures filled { Fills result out.old out.new }
+{
+    let run = run_of(monitor);
+    match fill_by(rt, &run, seat, visits, route, name, off, out) {
+        Some(filled) => Ok(filled),
+        None => Err(not_made(Refused::Gone)),
+    }
+}
+
 // Writes bytes to a frame that this route leads to.
 #[tactic(auto, using(crate::proofs::Visiting::unwritten, crate::proofs::Visiting::write_visits))]
 fn write_through<'a, R: Wait, P: Allows>(
@@ -131,7 +160,7 @@ impl Domain {
         ensures answers { AccessesQuietly P.may monitor.now self.old
             (requests.Load handle off len) IsReadBy WasRead result self.new }
     {
-        if let Some(verdict) = judge_load(&self.mappings, handle, off, len) {
+        if let Some(verdict) = judge_load(&self.mappings, handle, off, usize::from(len)) {
             return Err(refusal_of(verdict));
         }
         let held = *self.mappings.get(handle).unwrap();
@@ -142,6 +171,37 @@ impl Domain {
         let way = Route::Direct(held);
         let (seat, visits) = (&self.seat, &mut self.visits);
         read_through(rt, monitor, self.alloc, seat, visits, &way, name, off, len)
+    }
+
+    /// Reads over all of `buffer`, from the offset `off` on through a mapping. It takes no memory.
+    ///
+    /// # Errors
+    /// N3 or N6; or N16 at the access. Nothing changes, not even the buffer.
+    pub fn load_into<R: Wait, P: Allows>(
+        &mut self,
+        rt: &R,
+        monitor: &Monitor<P>,
+        handle: Handle,
+        off: u16,
+        buffer: &mut [u8],
+    ) -> Result<Filled, Denial>
+        requires mine { BelongsTo P.may monitor.now self.old }
+        ensures stays { StaysIn P.may monitor.now self.old self.new }
+        ensures answers { AccessesQuietly P.may monitor.now self.old
+            (requests.Load handle off (length buffer.old)) IsReadBy WasRead result self.new }
+        ensures filled { Fills result buffer.old buffer.new }
+    {
+        if let Some(verdict) = judge_load(&self.mappings, handle, off, buffer.len()) {
+            return Err(refusal_of(verdict));
+        }
+        let held = *self.mappings.get(handle).unwrap();
+        let name = FrameName {
+            owner: held.dom,
+            number: held.entry.frame(),
+        };
+        let route = Route::Direct(held);
+        let (seat, visits) = (&self.seat, &mut self.visits);
+        fill_through(rt, monitor, seat, visits, &route, name, off, buffer)
     }
 
     /// Reads `len` bytes from the offset `off` on of a frame of its own.
@@ -182,6 +242,37 @@ impl Domain {
             off,
             len,
         )
+    }
+
+    /// Reads over all of `buffer`, from the offset `off` on of a frame of its own. It takes no memory.
+    ///
+    /// # Errors
+    /// N3 or N16; or N16 at the access. Nothing changes, not even the buffer.
+    pub fn peek_into<R: Wait, P: Allows>(
+        &mut self,
+        rt: &R,
+        monitor: &Monitor<P>,
+        frame: u64,
+        off: u16,
+        buffer: &mut [u8],
+    ) -> Result<Filled, Denial>
+        requires mine { BelongsTo P.may monitor.now self.old }
+        ensures stays { StaysIn P.may monitor.now self.old self.new }
+        ensures answers { AccessesQuietly P.may monitor.now self.old
+            (requests.Peek frame off (length buffer.old)) IsReadBy WasRead result self.new }
+        ensures filled { Fills result buffer.old buffer.new }
+    {
+        let caller = self.seat.dom();
+        let config = &monitor.config;
+        if let Some(verdict) = judge_own_access(config, caller, frame, off, buffer.len()) {
+            return Err(refusal_of(verdict));
+        }
+        let name = FrameName {
+            owner: caller,
+            number: frame,
+        };
+        let (seat, visits) = (&self.seat, &mut self.visits);
+        fill_through(rt, monitor, seat, visits, &Route::Own, name, off, buffer)
     }
 
     /// Writes `bytes` from the offset `off` on through a mapping.

@@ -20,7 +20,7 @@ pub returns-then-source-dest-2-clause-written : goal.returns-then-source-dest-2-
 returns-then-source-dest-2-clause-written c =
     on_ok_weaker c.copy_between.result
     (λ write.
-    copied_among c.args.frames.now _ c.args.source c.args.dest c.args.writ.now c.args.from_off c.args.to_off c.args.len _ _ c.copy_between.new.to
+    copied_among c.args.frames.now _ c.args.source c.args.dest c.args.writ.now c.args.range.off c.args.to_off c.args.range.len _ _ c.copy_between.new.to
     (λ g at. from_here c g at ∙ c.index-front-source.is) (λ g at. to_here c g at ∙ c.index-back-0.is) write c.copy_between.ensures.kept
     (set_back_is c.args.frames.now c.split_at_mut-front.result.0.now c.split_at_mut-front.result.1.now c.args.dest c.split_at_mut-front.ensures.value c.split_at_mut-front.ensures.front_len c.copy_between.new.to))
     c.copy_between.ensures.written
@@ -29,7 +29,7 @@ pub returns-then-source-dest-2-clause-receipt : goal.returns-then-source-dest-2-
 returns-then-source-dest-2-clause-receipt c =
     IfOk-weaker c.copy_between.result _ _
     (λ r is.
-    receipt_among c.args.frames.now c.args.source c.args.dest c.args.writ.now.writer c.args.from_off c.args.to_off c.args.len _ _ r
+    receipt_among c.args.frames.now c.args.source c.args.dest c.args.writ.now.writer c.args.range.off c.args.to_off c.args.range.len _ _ r
     (λ g at. from_here c g at ∙ c.index-front-source.is) (λ g at. to_here c g at ∙ c.index-back-0.is) is)
     c.copy_between.ensures.receipt
 
@@ -53,7 +53,7 @@ returns-else-source-dest-2-clause-written c =
     let below : c.args.dest < c.args.source = grind arith in
     on_ok_weaker c.copy_between-else-source-dest-2.result
     (λ write.
-    copied_among c.args.frames.now _ c.args.source c.args.dest c.args.writ.now c.args.from_off c.args.to_off c.args.len _ _
+    copied_among c.args.frames.now _ c.args.source c.args.dest c.args.writ.now c.args.range.off c.args.to_off c.args.range.len _ _
     c.copy_between-else-source-dest-2.new.to
     (λ g at. from_there c g at ∙ c.index-back-0-else-source-dest-2.is) (λ g at. to_there c g at ∙ c.index-front-dest.is) write c.copy_between-else-source-dest-2.ensures.kept
     (set_front_is c.args.frames.now c.split_at_mut-front-else-source-dest-2.result.0.now c.split_at_mut-front-else-source-dest-2.result.1.now c.args.source
@@ -64,6 +64,6 @@ pub returns-else-source-dest-2-clause-receipt : goal.returns-else-source-dest-2-
 returns-else-source-dest-2-clause-receipt c =
     IfOk-weaker c.copy_between-else-source-dest-2.result _ _
     (λ r is.
-    receipt_among c.args.frames.now c.args.source c.args.dest c.args.writ.now.writer c.args.from_off c.args.to_off c.args.len _ _ r
+    receipt_among c.args.frames.now c.args.source c.args.dest c.args.writ.now.writer c.args.range.off c.args.to_off c.args.range.len _ _ r
     (λ g at. from_there c g at ∙ c.index-back-0-else-source-dest-2.is) (λ g at. to_there c g at ∙ c.index-front-dest.is) is)
     c.copy_between-else-source-dest-2.ensures.receipt

@@ -8,6 +8,7 @@ use Rattle.gt_calls.specs.declared.action.Step.TheVariants as steps
 use Rattle.gt_calls.specs.declared.held.Held.{Held}
 use Rattle.gt_calls.specs.declared.request.Request.TheVariants as requests
 use Rattle.gt_handles.specs.Handles.{value_of}
+use Rattle.gt_calls.specs.Rules.{load_begun}
 use Rattle.gt_live.specs.Accesses.{IsReadBy, frame_named}
 use Rattle.gt_live.specs.Domains.{knowledge}
 use Rattle.gt_live.proofs.Accessing.{mapped-way, none-left, one-access, refused-access, reaches-mapped}
@@ -34,7 +35,9 @@ returns-clause-answers g c =
     let m = c.args.monitor.now in let d = c.args.self.now in let may = g.P.Allows.may m.rights in let held = c.unwrap-held.result.now in
     let there : value_of d.mappings c.args.handle ≡ Some held = sym c.get.ensures.value ∙ ap option_copied c.unwrap-held.ensures in
     let k = knowledge m.config may d in
-    let way = mapped-way k d.seat.dom (requests.Load c.args.handle c.args.off c.args.len) c.args.handle held (λ (p : Held). steps.Read p.dom (frame_of p.entry) c.args.off c.args.len) (sym c.judge_load.ensures ∙ none-left c.judge_load.result c.in_default.not-Some) there refl in (
+    let judged : c.judge_load.result ≡ load_begun (value_of d.mappings) c.args.handle c.args.off c.args.len =
+    c.judge_load.ensures ∙ ap (λ (n : ℕ). load_begun (value_of d.mappings) c.args.handle c.args.off n) c.from.ensures in
+    let way = mapped-way k d.seat.dom (requests.Load c.args.handle c.args.off c.args.len) c.args.handle held (λ (p : Held). steps.Read p.dom (frame_of p.entry) c.args.off c.args.len) (sym judged ∙ none-left c.judge_load.result c.in_default.not-Some) there refl in (
       one-access m.words.layout _ (steps.Read held.dom (frame_of held.entry) c.args.off c.args.len) IsReadBy c.read_through.result d.seat.view tt way (subst (λ (n : ℕ). IfOk c.read_through.result (λ (r : Reading). IsReadOf r (frame_named held.dom n) c.args.off c.args.len)) c.frame.ensures c.read_through.ensures.read) c.read_through.ensures.refused,
       (record { slots = refl; given = refl }, λ t r. refl),
       refl,
@@ -43,9 +46,11 @@ returns-clause-answers g c =
 
 pub returns-in-Some-clause-answers : goal.returns-in-Some-clause-answers
 returns-in-Some-clause-answers g c =
-    let m = c.args.monitor.now in let d = c.args.self.now in (
+    let m = c.args.monitor.now in let d = c.args.self.now in
+    let judged : c.judge_load.result ≡ load_begun (value_of d.mappings) c.args.handle c.args.off c.args.len =
+    c.judge_load.ensures ∙ ap (λ (n : ℕ). load_begun (value_of d.mappings) c.args.handle c.args.off n) c.from.ensures in (
       refused-access m.words.layout (knowledge m.config (g.P.Allows.may m.rights) d) d.seat.dom (requests.Load c.args.handle c.args.off c.args.len) IsReadBy
-          c.in-Some.verdict c.refusal_of.result d.seat.view tt (sym c.judge_load.ensures ∙ c.in-Some.is) c.refusal_of.ensures,
+          c.in-Some.verdict c.refusal_of.result d.seat.view tt (sym judged ∙ c.in-Some.is) c.refusal_of.ensures,
       (record { slots = refl; given = refl }, λ t r. refl),
       refl,
       none_visited WasRead c.refusal_of.result d.visits d.visits refl,
