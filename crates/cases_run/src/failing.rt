@@ -1,5 +1,5 @@
 //! Scripts over readers and writers that fail.
-use crate::running::{run_failing, run_text};
+use crate::running::{run_failing, run_recorded};
 use gt_audit::SharedLog;
 use gt_failing::failing_line;
 use gt_run::Flags;
@@ -53,9 +53,7 @@ pub fn failing_said<R: Threads + Wait + Sync>(
     alloc: Global,
     script: &str,
 ) -> anyhow::Result<String> {
-    let gate = Flags::new(rt, alloc)?;
-    let log = SharedLog::new(alloc)?;
-    let ended = run_text(rt, alloc, script, Some(&log), &gate)?;
+    let ended = run_recorded(rt, alloc, script)?;
     let read = untold_read(rt, alloc, script)?;
     let write = untold_write(rt, alloc, script, ended.out.as_slice())?;
     let mut out = ended.said(alloc)?;

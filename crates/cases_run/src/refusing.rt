@@ -1,6 +1,6 @@
 //! Runs that are refused threads and memory, each in turn.
 use crate::likeness::{Shortage, lacks};
-use crate::running::run_text;
+use crate::running::{run_recorded, run_text};
 use crate::scarce::{End, GAP, Place, Scarce, run_scarce};
 use gt_audit::SharedLog;
 use gt_flood::Flood;
@@ -88,34 +88,6 @@ fn judged(job: Job<'_>, end: End, text: &[u8]) -> Option<Shortage> {
     }
 }
 
-// Each thread is refused in turn. So many are there before a run that did not end with that fault, or that ran a list.
-fn untold_thread<R: Threads + Wait + Sync>(
-    rt: &R,
-    alloc: Global,
-    flood: &Mutex<Flood>,
-    script: &str,
-) -> anyhow::Result<Option<usize>> {
-    let mut text = Vec::with_capacity(alloc, ROOM)?;
-    let count = count_of(script, "domain ");
-    let mut stacks: Vec<Vec<u8>> = Vec::new(alloc);
-    for _ in 0..count {
-        stacks.push(Vec::with_capacity(alloc, STACK)?)?;
-    }
-    for held in 0..count {
-        let gate = Scarce::new(rt, alloc, flood, Place::Start, GAP)?;
-        let log = SharedLog::new(alloc)?;
-        let end = run_scarce(rt, alloc, script, &log, &gate, &mut text);
-        gate.open();
-        let is_quiet = text.is_empty() && gate.callers() == 0 && log.count() == 0;
-        if end != End::Thread || !is_quiet {
-            return Ok(Some(held));
-        }
-        drop(stacks.pop());
-        keep_stacks(rt, alloc, held.saturating_add(1))?;
-    }
-    Ok(None)
-}
-
 fn count_of(script: &str, start: &str) -> usize {
     script
         .lines()
@@ -141,64 +113,6 @@ fn keep_stacks<R: Threads + Wait + Sync>(
     Ok(())
 }
 
-// Memory runs out before a script is read. So much was left to a run that went otherwise than it must: it ends with
-// that fault and writes nothing, or it ends well.
-fn untold_at_start<R: Threads + Wait + Sync>(
-    rt: &R,
-    alloc: Global,
-    flood: &Mutex<Flood>,
-    job: Job<'_>,
-    seen: &mut Seen,
-) -> anyhow::Result<Option<usize>> {
-    let mut gate = Scarce::new(rt, alloc, flood, Place::Start, 0)?;
-    let log = SharedLog::new(alloc)?;
-    let mut text = Vec::with_capacity(alloc, ROOM)?;
-    let mut left = 0usize;
-    for _ in 0..TRIES {
-        gate.leave(left);
-        let end = run_scarce(rt, alloc, job.script, &log, &gate, &mut text);
-        if gate.callers() > 0 {
-            gate.open();
-            let is_whole = end == End::Done && text.as_slice() == job.whole.as_bytes();
-            return Ok(if is_whole { None } else { Some(left) });
-        }
-        match end {
-            End::Memory if text.is_empty() => seen.memory = true,
-            End::Thread if text.is_empty() => seen.thread = true,
-            _ => break,
-        }
-        left = left.saturating_add(if left < FINE { STEP } else { PAGE });
-    }
-    gate.open();
-    Ok(Some(left))
-}
-
-// Memory runs out at a place where lists run already. So much was left to a run that went otherwise than it must.
-fn untold_from<R: Threads + Wait + Sync>(
-    rt: &R,
-    alloc: Global,
-    flood: &Mutex<Flood>,
-    job: Job<'_>,
-    place: Place,
-    seen: &mut Seen,
-) -> anyhow::Result<Option<usize>> {
-    let mut left = 0usize;
-    for _ in 0..TRIES {
-        let gate = Scarce::new(rt, alloc, flood, place, left)?;
-        let log = SharedLog::new(alloc)?;
-        let mut text = Vec::with_capacity(alloc, ROOM)?;
-        let end = run_scarce(rt, alloc, job.script, &log, &gate, &mut text);
-        gate.open();
-        match judged(job, end, text.as_slice()) {
-            None => return Ok(Some(left)),
-            Some(lacked) if end == End::Done && lacked.is_nothing() => return Ok(None),
-            Some(lacked) => seen.add(job.script, end, lacked)?,
-        }
-        left = left.saturating_add(if place == Place::Write { STEP } else { PAGE });
-    }
-    Ok(Some(left))
-}
-
 // What was seen, unless a run went otherwise than it must.
 fn place_said(
     alloc: Global,
@@ -212,75 +126,127 @@ fn place_said(
     }
 }
 
-// The same for each second flag, the second one first.
-fn between_flags<R: Threads + Wait + Sync>(
-    rt: &R,
+// What the runs share: threads, memory, and the flood that takes most of it.
+#[derive(Drop)]
+struct Trials<'t, R: Wait> {
+    rt: &'t R,
     alloc: Global,
-    flood: &Mutex<Flood>,
-    job: Job<'_>,
-) -> anyhow::Result<String> {
-    let mut seen = Seen::nothing(alloc);
-    let mut flag = 1usize;
-    for _ in 0..count_of(job.script, "tell ") / 2 {
-        let untold = untold_from(rt, alloc, flood, job, Place::Flag(flag), &mut seen)?;
-        if untold.is_some() {
-            let place = format!(in alloc; "from flag {flag} on")?;
-            return Ok(place_said(alloc, place.as_str(), &seen, untold)?);
+    flood: &'t Mutex<Flood>,
+}
+
+impl<'t, R: Threads + Wait + Sync> Trials<'t, R> {
+    // Each thread is refused in turn. So many are there before a run that did not end with that fault, or that ran a list.
+    fn untold_thread(&self, script: &str) -> anyhow::Result<Option<usize>> {
+        let mut text = Vec::with_capacity(self.alloc, ROOM)?;
+        let count = count_of(script, "domain ");
+        let mut stacks: Vec<Vec<u8>> = Vec::new(self.alloc);
+        for _ in 0..count {
+            stacks.push(Vec::with_capacity(self.alloc, STACK)?)?;
         }
-        flag = flag.saturating_add(2);
+        for held in 0..count {
+            let gate = Scarce::new(self.rt, self.alloc, self.flood, Place::Start, GAP)?;
+            let log = SharedLog::new(self.alloc)?;
+            let end = run_scarce(self.rt, self.alloc, script, &log, &gate, &mut text);
+            gate.open();
+            let is_quiet = text.is_empty() && gate.callers() == 0 && log.count() == 0;
+            if end != End::Thread || !is_quiet {
+                return Ok(Some(held));
+            }
+            drop(stacks.pop());
+            keep_stacks(self.rt, self.alloc, held.saturating_add(1))?;
+        }
+        Ok(None)
     }
-    Ok(seen.said(alloc, "while lists run")?)
-}
 
-// What came of threads that are refused.
-fn threads_said<R: Threads + Wait + Sync>(
-    rt: &R,
-    alloc: Global,
-    flood: &Mutex<Flood>,
-    script: &str,
-) -> anyhow::Result<String> {
-    Ok(match untold_thread(rt, alloc, flood, script)? {
-        None => {
-            String::from_str(
-                alloc,
-                "each thread that is refused is told, and no list runs\n",
-            )?
+    // Memory runs out before a script is read. So much was left to a run that went otherwise than it must: it ends with
+    // that fault and writes nothing, or it ends well.
+    fn untold_at_start(&self, job: Job<'_>, seen: &mut Seen) -> anyhow::Result<Option<usize>> {
+        let mut gate = Scarce::new(self.rt, self.alloc, self.flood, Place::Start, 0)?;
+        let log = SharedLog::new(self.alloc)?;
+        let mut text = Vec::with_capacity(self.alloc, ROOM)?;
+        let mut left = 0usize;
+        for _ in 0..TRIES {
+            gate.leave(left);
+            let end = run_scarce(self.rt, self.alloc, job.script, &log, &gate, &mut text);
+            if gate.callers() > 0 {
+                gate.open();
+                let is_whole = end == End::Done && text.as_slice() == job.whole.as_bytes();
+                return Ok(if is_whole { None } else { Some(left) });
+            }
+            match end {
+                End::Memory if text.is_empty() => seen.memory = true,
+                End::Thread if text.is_empty() => seen.thread = true,
+                _ => break,
+            }
+            left = left.saturating_add(if left < FINE { STEP } else { PAGE });
         }
-        Some(held) => format!(in alloc; "with {held} threads it goes otherwise\n")?,
-    })
-}
+        gate.open();
+        Ok(Some(left))
+    }
 
-fn start_said<R: Threads + Wait + Sync>(
-    rt: &R,
-    alloc: Global,
-    flood: &Mutex<Flood>,
-    job: Job<'_>,
-) -> anyhow::Result<String> {
-    let mut seen = Seen::nothing(alloc);
-    let untold = untold_at_start(rt, alloc, flood, job, &mut seen)?;
-    Ok(place_said(alloc, "before lists run", &seen, untold)?)
-}
+    // Memory runs out at a place where lists run already. So much was left to a run that went otherwise than it must.
+    fn untold_from(
+        &self,
+        job: Job<'_>,
+        place: Place,
+        seen: &mut Seen,
+    ) -> anyhow::Result<Option<usize>> {
+        let mut left = 0usize;
+        for _ in 0..TRIES {
+            let gate = Scarce::new(self.rt, self.alloc, self.flood, place, left)?;
+            let log = SharedLog::new(self.alloc)?;
+            let mut text = Vec::with_capacity(self.alloc, ROOM)?;
+            let end = run_scarce(self.rt, self.alloc, job.script, &log, &gate, &mut text);
+            gate.open();
+            match judged(job, end, text.as_slice()) {
+                None => return Ok(Some(left)),
+                Some(lacked) if end == End::Done && lacked.is_nothing() => return Ok(None),
+                Some(lacked) => seen.add(job.script, end, lacked)?,
+            }
+            left = left.saturating_add(if place == Place::Write { STEP } else { PAGE });
+        }
+        Ok(Some(left))
+    }
 
-fn write_said<R: Threads + Wait + Sync>(
-    rt: &R,
-    alloc: Global,
-    flood: &Mutex<Flood>,
-    job: Job<'_>,
-) -> anyhow::Result<String> {
-    let mut seen = Seen::nothing(alloc);
-    let untold = untold_from(rt, alloc, flood, job, Place::Write, &mut seen)?;
-    Ok(place_said(alloc, "while it writes", &seen, untold)?)
-}
+    // The same for each second flag, the second one first.
+    fn between_flags(&self, job: Job<'_>) -> anyhow::Result<String> {
+        let mut seen = Seen::nothing(self.alloc);
+        let mut flag = 1usize;
+        for _ in 0..count_of(job.script, "tell ") / 2 {
+            let untold = self.untold_from(job, Place::Flag(flag), &mut seen)?;
+            if untold.is_some() {
+                let place = format!(in self.alloc; "from flag {flag} on")?;
+                return Ok(place_said(self.alloc, place.as_str(), &seen, untold)?);
+            }
+            flag = flag.saturating_add(2);
+        }
+        Ok(seen.said(self.alloc, "while lists run")?)
+    }
 
-// What a script prints with its records.
-fn whole_said<R: Threads + Wait + Sync>(
-    rt: &R,
-    alloc: Global,
-    script: &str,
-) -> anyhow::Result<String> {
-    let gate = Flags::new(rt, alloc)?;
-    let log = SharedLog::new(alloc)?;
-    run_text(rt, alloc, script, Some(&log), &gate)?.said(alloc)
+    // What came of threads that are refused.
+    fn threads_said(&self, script: &str) -> anyhow::Result<String> {
+        Ok(match self.untold_thread(script)? {
+            None => {
+                String::from_str(
+                    self.alloc,
+                    "each thread that is refused is told, and no list runs\n",
+                )?
+            }
+            Some(held) => format!(in self.alloc; "with {held} threads it goes otherwise\n")?,
+        })
+    }
+
+    fn start_said(&self, job: Job<'_>) -> anyhow::Result<String> {
+        let mut seen = Seen::nothing(self.alloc);
+        let untold = self.untold_at_start(job, &mut seen)?;
+        Ok(place_said(self.alloc, "before lists run", &seen, untold)?)
+    }
+
+    fn write_said(&self, job: Job<'_>) -> anyhow::Result<String> {
+        let mut seen = Seen::nothing(self.alloc);
+        let untold = self.untold_from(job, Place::Write, &mut seen)?;
+        Ok(place_said(self.alloc, "while it writes", &seen, untold)?)
+    }
 }
 
 /// What a script prints with its records, and what is refused where threads and memory run out, at each place and with
@@ -293,14 +259,19 @@ pub fn refusing_said<R: Threads + Wait + Sync>(
     script: &str,
 ) -> anyhow::Result<String> {
     let flood = Mutex::new(Flood::new(alloc)?);
-    let threads = threads_said(rt, alloc, &flood, script)?;
-    let whole = whole_said(rt, alloc, script)?;
+    let trials = Trials {
+        rt,
+        alloc,
+        flood: &flood,
+    };
+    let threads = trials.threads_said(script)?;
+    let whole = run_recorded(rt, alloc, script)?.said(alloc)?;
     let job = Job {
         script,
         whole: whole.as_str(),
     };
-    let start = start_said(rt, alloc, &flood, job)?;
-    let lists = between_flags(rt, alloc, &flood, job)?;
-    let write = write_said(rt, alloc, &flood, job)?;
+    let start = trials.start_said(job)?;
+    let lists = trials.between_flags(job)?;
+    let write = trials.write_said(job)?;
     Ok(format!(in alloc; "{whole}{threads}{start}{lists}{write}")?)
 }

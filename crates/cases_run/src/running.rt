@@ -1,7 +1,7 @@
 //! Runs over memory.
 use gt_audit::SharedLog;
 use gt_failing::{FailingReader, FailingWriter};
-use gt_run::{Gate, RunFault, run};
+use gt_run::{Flags, Gate, RunFault, run};
 use std::alloc::{AllocError, Global};
 use std::sync::Wait;
 use std::thread::Threads;
@@ -54,6 +54,17 @@ fn fault_text(alloc: Global, ended: &Result<(), RunFault>) -> Result<String, All
         Ok(()) => Ok(String::new(alloc)),
         Err(fault) => format!(in alloc; "{fault}"),
     }
+}
+
+/// Runs a script with its records, of which all is read and written.
+pub fn run_recorded<R: Threads + Wait + Sync>(
+    rt: &R,
+    alloc: Global,
+    script: &str,
+) -> anyhow::Result<Ended> {
+    let gate = Flags::new(rt, alloc)?;
+    let log = SharedLog::new(alloc)?;
+    Ok(run_text(rt, alloc, script, Some(&log), &gate)?)
 }
 
 /// Runs a script of which all is read and written.

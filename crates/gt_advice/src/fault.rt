@@ -56,27 +56,15 @@ fn last_line(bytes: &[u8]) -> usize {
     ends.saturating_add(1)
 }
 
-// Whether a text that is cut off here, and goes on with a token, has no fault up to that token. A name that is not
-// declared yet is none.
+// Whether a text that is cut off here, and goes on with a token, has no fault up to that token.
 fn fits(alloc: Global, front: &[u8], token: &str) -> Result<bool, Memory> {
     let mut bytes = Vec::from_slice(alloc, front)?;
     bytes.extend_from_slice(b"\n")?;
     bytes.extend_from_slice(token.as_bytes())?;
-    let last = last_line(bytes.as_slice());
-    let Ok(text) = text_of(bytes.as_slice()) else {
-        return Ok(false);
-    };
-    match Policy::parse(alloc, text) {
-        Ok(_) => Ok(true),
-        Err(fault) => match fault.kind {
-            PolicyFaultKind::Memory => Err(Memory),
-            PolicyFaultKind::Unknown(_) => Ok(true),
-            _ => Ok(fault.line as usize > last),
-        },
-    }
+    fits_so_far(alloc, bytes.as_slice())
 }
 
-// Whether a text that is cut off here has no fault so far.
+// Whether a text that is cut off here has no fault so far. A name that is not declared yet is none.
 fn fits_so_far(alloc: Global, front: &[u8]) -> Result<bool, Memory> {
     let last = last_line(front);
     let Ok(text) = text_of(front) else {

@@ -4,6 +4,7 @@ use Rattle.gt_as_json.specs.Prelude.{Appends, Keeps, AppendsBeginning, json_text
 use Rattle.gt_as_json.specs.Prelude.{TellsScript}
 use Rattle.gt_as_json.specs.Prelude.{RunTells, PlayFault, Played, RunFault, Ran, ListingFault, Listed, Asked, DumpFault}
 use Rattle.gt_as_json.specs.Prelude.{Told}
+use Rattle.gt_streams.specs.Streams.{OfInput}
 use Rattle.gt_host.specs.declared.fault.PlayFault.TheVariants as plays
 use Rattle.gt_run.specs.declared.fault.RunFault.TheVariants as runs
 use Rattle.gt_listing.specs.declared.fault.ListingFault.TheVariants as listings
@@ -12,6 +13,10 @@ use Rattle.gt_dump.specs.declared.fault.DumpFault.TheVariants as dumps
 -- what a command promises of the bytes that its writer held and holds, and of its answer
 abbrev pub Promise : Type 0 → Type 1
 Promise F = Option (List ℕ) → Option (List ℕ) → Result (Unit {0}) F → Type 0
+
+-- what it promises of whatever a reader has left, where that is known
+abbrev pub ForInput : {F : Type 0} → Option (List ℕ) → (List ℕ → Promise F) → Promise F
+ForInput known promise old new answer = OfInput known (λ input. promise input old new answer)
 
 -- the text is one that the command writes to a writer without bytes, with this answer
 abbrev pub WritesJson : {F : Type 0} → Promise F → Result (Unit {0}) F → List ℕ → Type 0

@@ -1,13 +1,13 @@
 //! Commands whose text goes out as JSON.
 ghost use Rattle.std.specs.Prelude.{is_some};
-ghost use Rattle.gt_streams.specs.Streams.{OfInput, ConsumesAtMost};
+ghost use Rattle.gt_streams.specs.Streams.{ConsumesAtMost};
 ghost use Rattle.gt_streams.specs.declared.streams.TheConstants.{READ_LIMIT};
 ghost use Rattle.gt_json.specs.declared.places.Printed.TheVariants as printed;
 ghost use Rattle.gt_host.specs.declared.fault.PlayFault.TheVariants as plays;
 ghost use Rattle.gt_run.specs.declared.fault.RunFault.TheVariants as runs;
 ghost use Rattle.gt_listing.specs.declared.fault.ListingFault.TheVariants as listings;
 ghost use Rattle.gt_dump.specs.declared.fault.DumpFault.TheVariants as dumps;
-ghost use Rattle.gt_as_json.specs.AsJson.{PlayedAsJson, RanAsJson, ListedAsJson, ToldAsJson, Passes};
+ghost use Rattle.gt_as_json.specs.AsJson.{ForInput, PlayedAsJson, RanAsJson, ListedAsJson, ToldAsJson, Passes};
 
 use gt_audit::SharedLog;
 use gt_dump::{Asked, DumpFault, entries};
@@ -120,8 +120,8 @@ pub fn play_json<R: Read, W: Write>(
     writer: &mut W,
     audit: bool,
 ) -> Result<(), PlayFault>
-    ensures text { OfInput (R.remaining reader.old) (λ input.
-        PlayedAsJson input audit (W.contents writer.old) (W.contents writer.new) result) }
+    ensures text { ForInput (R.remaining reader.old) (λ input. PlayedAsJson input audit)
+        (W.contents writer.old) (W.contents writer.new) result }
     ensures read { ConsumesAtMost READ_LIMIT (R.remaining reader.old) (R.remaining reader.new) }
 {
     let mut text = Vec::new(alloc);
@@ -142,8 +142,8 @@ pub fn run_json<R: Threads + Wait + Sync, I: Read, W: Write, G: Gate + Sync>(
     log: Option<&SharedLog>,
     gate: &G,
 ) -> Result<(), RunFault>
-    ensures text { OfInput (I.remaining reader.old) (λ input.
-        RanAsJson input (is_some log.entry) (W.contents writer.old) (W.contents writer.new) result) }
+    ensures text { ForInput (I.remaining reader.old) (λ input. RanAsJson input (is_some log.entry))
+        (W.contents writer.old) (W.contents writer.new) result }
     ensures read { ConsumesAtMost READ_LIMIT (I.remaining reader.old) (I.remaining reader.new) }
 {
     let mut text = Vec::new(alloc);
@@ -161,8 +161,8 @@ pub fn policy_json<R: Read, W: Write>(
     reader: &mut R,
     writer: &mut W,
 ) -> Result<(), ListingFault>
-    ensures text { OfInput (R.remaining reader.old) (λ input.
-        ListedAsJson input (W.contents writer.old) (W.contents writer.new) result) }
+    ensures text { ForInput (R.remaining reader.old) ListedAsJson
+        (W.contents writer.old) (W.contents writer.new) result }
     ensures read { ConsumesAtMost READ_LIMIT (R.remaining reader.old) (R.remaining reader.new) }
 {
     let mut text = Vec::new(alloc);
@@ -182,8 +182,8 @@ pub fn entries_json<R: Read, W: Write>(
     reader: &mut R,
     writer: &mut W,
 ) -> Result<(), DumpFault>
-    ensures text { OfInput (R.remaining reader.old) (λ input.
-        ToldAsJson asked input (W.contents writer.old) (W.contents writer.new) result) }
+    ensures text { ForInput (R.remaining reader.old) (ToldAsJson asked)
+        (W.contents writer.old) (W.contents writer.new) result }
     ensures read { ConsumesAtMost READ_LIMIT (R.remaining reader.old) (R.remaining reader.new) }
 {
     let mut text = Vec::new(alloc);

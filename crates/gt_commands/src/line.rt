@@ -21,7 +21,37 @@ What a script may say:
   bytes of a script         at most 1048576
 A policy has at most 1048576 bytes, 256 types, 256 attributes and 65536 allow statements.";
 
+const ABOUT_RUN: &str =
+    "Runs each domain of a script in a thread of its own, and prints its answers in its order";
+
+const ABOUT_EXPLORE: &str =
+    "Finds each text that a script for run may give, over all orders of its domains' moves";
+
+const ABOUT_POLICY: &str =
+    "Lists what a policy allows: a line SOURCE TARGET PERMISSION for each allowed triple";
+
+const ABOUT_RULES: &str =
+    "Lists the rules by which calls are refused: its status, why, and what the caller may do";
+
+const RECORDS: &str = "Prints a line for each hypercall too, after all others";
+
+const REASONS: &str =
+    "Tells why on standard error: of a fault, and of what the policy refused; also -v";
+
 const ANSWERS_AS: &str = "How answers are written: as text, or as JSON, an object a line";
+
+const TRIPLES_AS: &str = "How triples are written: as text, or as JSON, an object a line";
+
+const ENTRIES_AS: &str = "How entries are written: as text, or as JSON, an object a line";
+
+const FINDINGS_AS: &str = "How findings are written: as compilers print them, or an object a line";
+
+const PERMISSIONS: &str = "One of map_read, map_write, unmap, transfer, setup, copy, query";
+
+const POLICY_FILE: &str = "The policy; standard input if it is left out";
+
+const LISTS_FILE: &str =
+    "The script, with the lines of each domain; standard input if it is left out";
 
 const MORE: &str =
     "A script says what the policy allows, which domains there are and what they call.
@@ -64,33 +94,21 @@ fn needed_option<'a>(alloc: Global, id: &'a str, name: &'a str, help: &'a str) -
     ensures rule { rule_of result ≡ needed_option id.entry.now }
     ensures local { result.global ≡ false }
 {
-    Arg::new(alloc, id)
-        .long(id)
-        .value_name(name)
-        .required(true)
-        .help(help)
+    free_option(alloc, id, name, help).required(true)
 }
 
 fn audit_flag<'a>(alloc: Global) -> Arg<'a>
     ensures rule { rule_of result ≡ flag_rule (codes "audit") }
     ensures local { result.global ≡ false }
 {
-    flag(
-        alloc,
-        "audit",
-        "Prints a line for each hypercall too, after all others",
-    )
+    flag(alloc, "audit", RECORDS)
 }
 
 fn verbose_flag<'a>(alloc: Global) -> Arg<'a>
     ensures rule { rule_of result ≡ flag_rule (codes "verbose") }
     ensures local { result.global ≡ false }
 {
-    flag(
-        alloc,
-        "verbose",
-        "Tells why on standard error: of a fault, and of what the policy refused; also -v",
-    )
+    flag(alloc, "verbose", REASONS)
 }
 
 fn format_option<'a>(alloc: Global, help: &'a str) -> Arg<'a>
@@ -114,15 +132,9 @@ fn play_command<'a>(alloc: Global) -> Result<Command<'a>, AllocError>
 fn run_command<'a>(alloc: Global) -> Result<Command<'a>, AllocError>
     ensures { IfOk result (λ c. (app_of c ≡ mode_app modes.Run) × ((fields_of c).has_globals ≡ false)) }
 {
-    let file = file_word(
-        alloc,
-        "The script, with the lines of each domain; standard input if it is left out",
-    );
     Command::new(alloc, "run")
-        .about(
-            "Runs each domain of a script in a thread of its own, and prints its answers in its order",
-        )
-        .arg(file)?
+        .about(ABOUT_RUN)
+        .arg(file_word(alloc, LISTS_FILE))?
         .arg(audit_flag(alloc))?
         .arg(verbose_flag(alloc))?
         .arg(format_option(alloc, ANSWERS_AS))
@@ -140,13 +152,8 @@ fn explore_of_script<'a>(alloc: Global) -> Result<Command<'a>, AllocError>
         "Prints only the texts with this word; the exit status is 1 if no text has it",
     );
     Command::new(alloc, "explore")
-        .about(
-            "Finds each text that a script for run may give, over all orders of its domains' moves",
-        )
-        .arg(file_word(
-            alloc,
-            "The script, with the lines of each domain; standard input if it is left out",
-        ))?
+        .about(ABOUT_EXPLORE)
+        .arg(file_word(alloc, LISTS_FILE))?
         .arg(find)
 }
 
@@ -172,14 +179,9 @@ fn policy_command<'a>(alloc: Global) -> Result<Command<'a>, AllocError>
     ensures { IfOk result (λ c. (app_of c ≡ mode_app modes.Policy) × ((fields_of c).has_globals ≡ false)) }
 {
     Command::new(alloc, "policy")
-        .about(
-            "Lists what a policy allows: a line SOURCE TARGET PERMISSION for each allowed triple",
-        )
-        .arg(file_word(alloc, "The policy; standard input if it is left out"))?
-        .arg(format_option(
-            alloc,
-            "How triples are written: as text, or as JSON, an object a line",
-        ))
+        .about(ABOUT_POLICY)
+        .arg(file_word(alloc, POLICY_FILE))?
+        .arg(format_option(alloc, TRIPLES_AS))
 }
 
 fn rules_command<'a>(alloc: Global) -> Result<Command<'a>, AllocError>
@@ -188,25 +190,17 @@ fn rules_command<'a>(alloc: Global) -> Result<Command<'a>, AllocError>
     let rule = Arg::new(alloc, "file")
         .value_name("RULE")
         .help("One rule, as N19; all of them if it is left out");
-    Command::new(alloc, "rules")
-        .about(
-            "Lists the rules by which calls are refused: its status, why, and what the caller may do",
-        )
-        .arg(rule)
+    Command::new(alloc, "rules").about(ABOUT_RULES).arg(rule)
 }
 
 fn check_command<'a>(alloc: Global) -> Result<Command<'a>, AllocError>
     ensures { IfOk result (λ c. (app_of c ≡ mode_app modes.Check) × ((fields_of c).has_globals ≡ false)) }
 {
-    let format = format_option(
-        alloc,
-        "How findings are written: as compilers print them, or an object a line",
-    );
     Command::new(alloc, "check")
         .about("Tells what is wrong or useless in a policy, with the line and the column")
-        .arg(file_word(alloc, "The policy; standard input if it is left out"))?
+        .arg(file_word(alloc, POLICY_FILE))?
         .arg(flag(alloc, "script", "FILE is a script, with its policy block"))?
-        .arg(format)
+        .arg(format_option(alloc, FINDINGS_AS))
 }
 
 // A word of a question.
@@ -244,16 +238,10 @@ fn why_of_types<'a>(alloc: Global) -> Result<Command<'a>, AllocError>
 fn why_command<'a>(alloc: Global) -> Result<Command<'a>, AllocError>
     ensures { IfOk result (λ c. (app_of c ≡ mode_app modes.Why) × ((fields_of c).has_globals ≡ false)) }
 {
-    let permission = needed_word(
-        alloc,
-        "permission",
-        "PERMISSION",
-        "One of map_read, map_write, unmap, transfer, setup, copy, query",
-    );
-    why_of_types(alloc)?.arg(permission)?.arg(file_word(
-        alloc,
-        "The policy; standard input if it is left out",
-    ))
+    let permission = needed_word(alloc, "permission", "PERMISSION", PERMISSIONS);
+    why_of_types(alloc)?
+        .arg(permission)?
+        .arg(file_word(alloc, POLICY_FILE))
 }
 
 // `entries` with its flags.
@@ -279,14 +267,10 @@ fn entries_command<'a>(alloc: Global) -> Result<Command<'a>, AllocError>
         "DOM",
         "Prints calls by which this domain grants the same, for play",
     );
-    let format = format_option(
-        alloc,
-        "How entries are written: as text, or as JSON, an object a line",
-    );
     entries_of_dump(alloc)?
         .arg(version)?
         .arg(script)?
-        .arg(format)
+        .arg(format_option(alloc, ENTRIES_AS))
 }
 
 // The program without its commands.

@@ -2,7 +2,7 @@
 ghost use Rattle.std.specs.Prelude.{◌≡◌, ◌==◌, ◌++◌, ℕ, List, OnOk};
 ghost use Rattle.std.specs.List.{list_all};
 ghost use Rattle.gt_entry.specs.Bytes.{entry_size};
-ghost use Rattle.gt_dump.specs.Dumps.{Decodes, IsEntryLine, TellsEntry, is_left_out, dump_line_text, field_text};
+ghost use Rattle.gt_dump.specs.Dumps.{Decodes, TellsEntry, is_left_out, dump_line_text, field_text};
 ghost use Rattle.gt_dump.specs.Live.{cleared};
 
 use crate::asked::Asked;
@@ -63,22 +63,6 @@ fn push_answered(
     }
 }
 
-// Appends the line of an entry.
-fn push_line(
-    alloc: Global,
-    out: &mut Vec<u8>,
-    asked: Asked,
-    gref: usize,
-    bytes: &[u8],
-) -> Result<(), AllocError>
-    ensures { OnOk result ((line : List ℕ) × IsEntryLine asked gref bytes.now line
-        × (out.new.items ≡ out.old.items ++ line)) }
-{
-    let plain = cleared(alloc, bytes)?;
-    let answer = answer_of(asked.version, plain.as_slice());
-    push_answered(alloc, out, asked, gref, bytes, plain, answer)
-}
-
 /// How many bytes an entry has in a table of this version.
 pub(crate) fn entry_size(version: u8) -> usize
     ensures { result ≡ entry_size version }
@@ -113,5 +97,7 @@ pub fn push_told(
     if is_left_out(asked, bytes) {
         return Ok(());
     }
-    push_line(alloc, out, asked, gref, bytes)
+    let plain = cleared(alloc, bytes)?;
+    let answer = answer_of(asked.version, plain.as_slice());
+    push_answered(alloc, out, asked, gref, bytes, plain, answer)
 }

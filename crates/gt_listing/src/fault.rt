@@ -1,7 +1,7 @@
 //! Why a listing did not end well.
 use gt_policy::{PolicyFault, PolicyFaultKind};
 use gt_streams::{ReadFault, WriteFault};
-use std::alloc::{AllocError, AllocFailed};
+use std::alloc::AllocError;
 use std::error::Error;
 use std::fmt;
 
@@ -46,17 +46,6 @@ impl From<AllocError> for ListingFault {
     ghost from_gives = { λ _ e. e ≡ faults.Memory };
 
     fn from(_error: AllocError) -> ListingFault {
-        ListingFault::Memory
-    }
-}
-
-impl<T: Drop> From<AllocFailed<T>> for ListingFault {
-    ghost use Rattle.std.specs.Prelude.{◌≡◌};
-    ghost use Rattle.gt_listing.specs.declared.fault.ListingFault.TheVariants as faults;
-
-    ghost from_gives = { λ _ e. e ≡ faults.Memory };
-
-    fn from(_error: AllocFailed<T>) -> ListingFault {
         ListingFault::Memory
     }
 }

@@ -156,15 +156,16 @@ explains_names : (file : List ℕ) (q : Question) (source target : Option (List 
 explains_names file q source target permission input old new r is (inl does) = inl (q, is, does)
 explains_names file q source target permission input old new r is (inr unopened) = inr unopened
 
-answered_by : (file : List ℕ) (q : Question) (source target : Option (List ℕ)) (permission : List ℕ) (known old new : Option (List ℕ)) (r : Ending) (status : ℕ) → IsQuestion source target permission q
-    → IfSome known (λ bytes. Does (Explains file q) bytes old new r) → status ≡ exit_status_of r → Works (AnswersQuestion file source target permission) known old new status
-answered_by file q source target permission None old new r status asks does is = tt
-answered_by file q source target permission (Some bytes) old new r status asks does is = (r, is, inl (explains_names file q source target permission bytes old new r asks does))
+answered_by : (file : List ℕ) (q : Question) (source target : Option (List ℕ)) (permission : List ℕ) (known old new : Option (List ℕ)) (status : ℕ) → IsQuestion source target permission q
+    → Works (Explains file q) known old new status → Works (AnswersQuestion file source target permission) known old new status
+answered_by file q source target permission None old new status asks works = tt
+answered_by file q source target permission (Some bytes) old new status asks (r, is, inl does) = (r, is, inl (explains_names file q source target permission bytes old new r asks does))
+answered_by file q source target permission (Some bytes) old new status asks (r, is, inr none) = (r, is, inr none)
 
-pub answered : (file same : List ℕ) (q : Question) (source target : Option (List ℕ)) (permission : List ℕ) (known old new : Option (List ℕ)) (r : Ending) (status : ℕ) → file ≡ same → IsQuestion source target permission q
-    → IfSome known (λ bytes. Does (Explains file q) bytes old new r) → status ≡ exit_status_of r → Works (AnswersQuestion same source target permission) known old new status
-answered file same q source target permission known old new r status shown asks does is =
-    subst (λ (f : List ℕ). Works (AnswersQuestion f source target permission) known old new status) shown (answered_by file q source target permission known old new r status asks does is)
+pub answered : (file same : List ℕ) (q : Question) (source target : Option (List ℕ)) (permission : List ℕ) (known old new : Option (List ℕ)) (status : ℕ) → file ≡ same → IsQuestion source target permission q
+    → Works (Explains file q) known old new status → Works (AnswersQuestion same source target permission) known old new status
+answered file same q source target permission known old new status shown asks works =
+    subst (λ (f : List ℕ). Works (AnswersQuestion f source target permission) known old new status) shown (answered_by file q source target permission known old new status asks works)
 
 -- a dump was told as it was asked
 tells_asked : (asked : Asked) (version : ℕ) (hex every : Bool) (script : Option ℕ) (format : Format) (input : List ℕ) (old new : Option (List ℕ)) (r : Ending) → IsAsked version hex every script asked
@@ -172,10 +173,11 @@ tells_asked : (asked : Asked) (version : ℕ) (hex every : Bool) (script : Optio
 tells_asked asked version hex every script format input old new r is (inl does) = inl (asked, is, does)
 tells_asked asked version hex every script format input old new r is (inr unopened) = inr unopened
 
-pub told : (asked : Asked) (version : ℕ) (hex every : Bool) (script : Option ℕ) (format : Format) (known old new : Option (List ℕ)) (r : Ending) (status : ℕ) → IsAsked version hex every script asked
-    → IfSome known (λ bytes. Does (AnswersEntries format asked) bytes old new r) → status ≡ exit_status_of r → Works (AnswersDump version hex every script format) known old new status
-told asked version hex every script format None old new r status asks does is = tt
-told asked version hex every script format (Some bytes) old new r status asks does is = (r, is, inl (tells_asked asked version hex every script format bytes old new r asks does))
+pub told : (asked : Asked) (version : ℕ) (hex every : Bool) (script : Option ℕ) (format : Format) (known old new : Option (List ℕ)) (status : ℕ) → IsAsked version hex every script asked
+    → Works (AnswersEntries format asked) known old new status → Works (AnswersDump version hex every script format) known old new status
+told asked version hex every script format None old new status asks works = tt
+told asked version hex every script format (Some bytes) old new status asks (r, is, inl does) = (r, is, inl (tells_asked asked version hex every script format bytes old new r asks does))
+told asked version hex every script format (Some bytes) old new status asks (r, is, inr none) = (r, is, inr none)
 
 -- the domain of a dump's script by its number
 pub of_number : (version : ℕ) (hex every : Bool) (one script : Option ℕ) (format : Format) (known old new : Option (List ℕ)) (status : ℕ) → one ≡ script
@@ -188,10 +190,11 @@ seeks_asked : (asked : Searched) (find : Option (List ℕ)) (witness : Option �
 seeks_asked asked find witness states input old new r is (inl does) = inl (asked, is, does)
 seeks_asked asked find witness states input old new r is (inr unopened) = inr unopened
 
-pub sought : (asked : Searched) (find : Option (List ℕ)) (witness : Option ℕ) (states : ℕ) (known old new : Option (List ℕ)) (r : Ending) (status : ℕ) → IsSearched find witness states asked
-    → IfSome known (λ bytes. Does (Searches asked) bytes old new r) → status ≡ exit_status_of r → Works (Seeks find witness states) known old new status
-sought asked find witness states None old new r status asks does is = tt
-sought asked find witness states (Some bytes) old new r status asks does is = (r, is, inl (seeks_asked asked find witness states bytes old new r asks does))
+pub sought : (asked : Searched) (find : Option (List ℕ)) (witness : Option ℕ) (states : ℕ) (known old new : Option (List ℕ)) (status : ℕ) → IsSearched find witness states asked
+    → Works (Searches asked) known old new status → Works (Seeks find witness states) known old new status
+sought asked find witness states None old new status asks works = tt
+sought asked find witness states (Some bytes) old new status asks (r, is, inl does) = (r, is, inl (seeks_asked asked find witness states bytes old new r asks does))
+sought asked find witness states (Some bytes) old new status asks (r, is, inr none) = (r, is, inr none)
 
 -- the work is the one that was asked for
 pub for_work : (known old new : Option (List ℕ)) (work other : Work) (r : Ending) → work ≡ other → OfInput known (λ input. Performs other input old new r) → OfInput known (λ input. Performs work input old new r)

@@ -1,6 +1,7 @@
 -- What a command line comes to: what is written, and the exit status.
 use Rattle.std.specs.Prelude.{◌≡◌, ◌⊎◌, ℕ, ◌≤◌, ◌++◌, Bool, true, false, List, Option, Some, None, Result, Ok, Err}
 use Rattle.std.specs.Prelude.{IfSome, codes}
+use Rattle.std.specs.Borrow.{Bor}
 use Rattle.gt_program.specs.Prelude.{Keeps, option_map, ErrorKind, DisplayHelp, DisplayVersion, OutOfMemory}
 use Rattle.gt_program.specs.Prelude.{source_asked, target_asked, Question, Explained, why_fault_text, Request, to_play}
 use Rattle.gt_program.specs.Prelude.{to_explore, Explored, explore_fault_text, RunTells, Searched, word_asked}
@@ -103,6 +104,10 @@ Does P input old new r = P input old new r ⊎ IsUnopened old new r
 abbrev pub known_text : (List ℕ → Option (List ℕ)) → Option (List ℕ) → Option (List ℕ) → Option (List ℕ)
 known_text file input None = input
 known_text file input (Some name) = file name
+
+-- the same, by a name that is borrowed
+abbrev pub known_input : (List ℕ → Option (List ℕ)) → Option (List ℕ) → Option (Bor (List ℕ)) → Option (List ℕ)
+known_input file input name = known_text file input (option_map (λ f. f.now) name)
 
 -- the name that lines begin with
 abbrev pub shown_name : Option (List ℕ) → List ℕ

@@ -1,15 +1,11 @@
 //! Each command, done with the text that it names.
 ghost use Rattle.std.specs.Prelude.{◌≡◌, IfSome, is_some};
-ghost use Rattle.std.specs.Option.{option_map};
-ghost use Rattle.gt_advice.specs.Why.{source_asked, target_asked};
-ghost use Rattle.gt_explore.specs.Exploring.{word_asked};
 ghost use Rattle.gt_streams.specs.Streams.{OfInput};
-ghost use Rattle.gt_program.specs.Obeying.{known_text, shown_name, AnswersDump, AnswersQuestion, Checks, Does, Lists};
-ghost use Rattle.gt_program.specs.Obeying.{Performs, Plays, RunsDomains, Seeks, Works};
+ghost use Rattle.gt_program.specs.Obeying.{known_input, Does, Performs, RunsDomains, Works};
 
 use crate::failure::Failure;
 use crate::formats::{check_as, entries_as, list_as};
-use crate::obeying::{report, shown_name};
+use crate::obeying::report;
 use crate::reasons::Reasons;
 use crate::texts::{Texts, read_fault};
 use crate::told::{RunSettings, play_told, run_told};
@@ -119,8 +115,7 @@ fn perform_on<R, T: Texts, W: Write, E>(
     out: &mut W,
     reasons: &mut Reasons,
 ) -> Result<bool, Failure>
-    ensures { IfSome (known_text (T.file context.now.texts.now) (T.input context.now.texts.now)
-        (option_map (λ f. f.now) name.entry))
+    ensures { IfSome (known_input (T.file context.now.texts.now) (T.input context.now.texts.now) name.entry)
         (λ input. Does (Performs work.entry) input (W.contents out.old) (W.contents out.new) result) }
 {
     let alloc = context.alloc;
@@ -184,8 +179,7 @@ fn run_on<R: Threads + Wait + Sync, T: Texts, W: Write, E>(
     out: &mut W,
     reasons: &mut Reasons,
 ) -> Result<bool, Failure>
-    ensures { IfSome (known_text (T.file context.now.texts.now) (T.input context.now.texts.now)
-        (option_map (λ f. f.now) name.entry))
+    ensures { IfSome (known_input (T.file context.now.texts.now) (T.input context.now.texts.now) name.entry)
         (λ input. Does (RunsDomains format audit) input (W.contents out.old) (W.contents out.new) result) }
 {
     let Some(name) = name else {
@@ -201,20 +195,18 @@ fn run_on<R: Threads + Wait + Sync, T: Texts, W: Write, E>(
     }
 }
 
-/// Plays a script.
-pub(crate) fn play_asked<R, T: Texts, W: Write, E: Eprint>(
+/// Does what is asked for with the text of the file that is named, or of the standard input.
+pub(crate) fn work_asked<R, T: Texts, W: Write, E: Eprint>(
     context: &Context<R, T, E>,
-    format: Format,
-    audit: bool,
+    work: Work,
     file: Option<&str>,
     out: &mut W,
     reasons: &mut Reasons,
 ) -> u8
-    ensures { Works (Plays format audit)
-        (known_text (T.file context.now.texts.now) (T.input context.now.texts.now)
-        (option_map (λ f. f.now) file.entry)) (W.contents out.old) (W.contents out.new) result }
+    ensures { Works (Performs work.entry)
+        (known_input (T.file context.now.texts.now) (T.input context.now.texts.now) file.entry)
+        (W.contents out.old) (W.contents out.new) result }
 {
-    let work = Work::Play { audit, format };
     report(context.err, perform_on(context, work, file, out, reasons))
 }
 
@@ -228,101 +220,11 @@ pub(crate) fn run_asked<R: Threads + Wait + Sync, T: Texts, W: Write, E: Eprint>
     reasons: &mut Reasons,
 ) -> u8
     ensures { Works (RunsDomains format audit)
-        (known_text (T.file context.now.texts.now) (T.input context.now.texts.now)
-        (option_map (λ f. f.now) file.entry)) (W.contents out.old) (W.contents out.new) result }
+        (known_input (T.file context.now.texts.now) (T.input context.now.texts.now) file.entry)
+        (W.contents out.old) (W.contents out.new) result }
 {
     report(
         context.err,
         run_on(context, format, audit, file, out, reasons),
     )
-}
-
-/// Explores a script.
-pub(crate) fn explore_asked<R, T: Texts, W: Write, E: Eprint>(
-    context: &Context<R, T, E>,
-    asked: Searched,
-    file: Option<&str>,
-    out: &mut W,
-    reasons: &mut Reasons,
-) -> u8
-    ensures { Works (Seeks (word_asked asked.entry) asked.entry.witness asked.entry.states)
-        (known_text (T.file context.now.texts.now) (T.input context.now.texts.now)
-        (option_map (λ f. f.now) file.entry)) (W.contents out.old) (W.contents out.new) result }
-{
-    let work = Work::Explore { asked };
-    report(context.err, perform_on(context, work, file, out, reasons))
-}
-
-/// Lists a policy.
-pub(crate) fn list_asked<R, T: Texts, W: Write, E: Eprint>(
-    context: &Context<R, T, E>,
-    format: Format,
-    file: Option<&str>,
-    out: &mut W,
-    reasons: &mut Reasons,
-) -> u8
-    ensures { Works (Lists format)
-        (known_text (T.file context.now.texts.now) (T.input context.now.texts.now)
-        (option_map (λ f. f.now) file.entry)) (W.contents out.old) (W.contents out.new) result }
-{
-    let work = Work::List { format };
-    report(context.err, perform_on(context, work, file, out, reasons))
-}
-
-/// Checks a policy, or a script.
-pub(crate) fn check_asked<R, T: Texts, W: Write, E: Eprint>(
-    context: &Context<R, T, E>,
-    format: Format,
-    script: bool,
-    file: Option<&str>,
-    out: &mut W,
-    reasons: &mut Reasons,
-) -> u8
-    ensures { Works (Checks script)
-        (known_text (T.file context.now.texts.now) (T.input context.now.texts.now)
-        (option_map (λ f. f.now) file.entry)) (W.contents out.old) (W.contents out.new) result }
-{
-    let work = Work::Check {
-        script,
-        file: shown_name(file),
-        json: matches!(format, Format::Json),
-    };
-    report(context.err, perform_on(context, work, file, out, reasons))
-}
-
-/// Answers a question about a policy.
-pub(crate) fn explain_asked<R, T: Texts, W: Write, E: Eprint>(
-    context: &Context<R, T, E>,
-    question: Question,
-    file: Option<&str>,
-    out: &mut W,
-    reasons: &mut Reasons,
-) -> u8
-    ensures { Works (AnswersQuestion (shown_name (option_map (λ f. f.now) file.entry)) (source_asked question.entry)
-        (target_asked question.entry) question.entry.perm.now)
-        (known_text (T.file context.now.texts.now) (T.input context.now.texts.now)
-        (option_map (λ f. f.now) file.entry)) (W.contents out.old) (W.contents out.new) result }
-{
-    let work = Work::Why {
-        file: shown_name(file),
-        question,
-    };
-    report(context.err, perform_on(context, work, file, out, reasons))
-}
-
-/// Tells the entries of a dump.
-pub(crate) fn entries_asked<R, T: Texts, W: Write, E: Eprint>(
-    context: &Context<R, T, E>,
-    asked: Asked,
-    format: Format,
-    file: Option<&str>,
-    out: &mut W,
-    reasons: &mut Reasons,
-) -> u8
-    ensures { Works (AnswersDump asked.version asked.hex asked.all (option_map (λ d. d.0) asked.script) format)
-        (known_text (T.file context.now.texts.now) (T.input context.now.texts.now)
-        (option_map (λ f. f.now) file.entry)) (W.contents out.old) (W.contents out.new) result }
-{
-    let work = Work::Entries { asked, format };
-    report(context.err, perform_on(context, work, file, out, reasons))
 }

@@ -1,15 +1,12 @@
 //! What a command line asks for, done.
-ghost use Rattle.std.specs.Prelude.{◌≡◌, ◌≤◌, drop, map, string_bytes};
+ghost use Rattle.std.specs.Prelude.{◌≡◌, ◌≤◌, ◌↔◌, IsTrue, drop, map, string_bytes};
 ghost use Rattle.std.specs.Option.{option_map};
 ghost use Rattle.clap.specs.Words.{kind_of};
 ghost use Rattle.gt_commands.specs.Commands.{request_in_words, asked_by_plan};
 ghost use Rattle.gt_commands.specs.Letters.{with_long_flags};
 ghost use Rattle.gt_program.specs.Obeying.{exit_status_of, shown_name, FitsKind, Obeys};
 
-use crate::commands::{
-    Context, check_asked, entries_asked, explain_asked, explore_asked, list_asked, play_asked,
-    run_asked,
-};
+use crate::commands::{Context, Work, run_asked, work_asked};
 use crate::failure::{Failure, exit_status};
 use crate::reasons::Reasons;
 use crate::rules::tell_rules;
@@ -17,7 +14,7 @@ use crate::texts::Texts;
 use clap::Error;
 use clap::error::ErrorKind;
 use gt_advice::Question;
-use gt_commands::{Invocation, plan, with_long_flags};
+use gt_commands::{Format, Invocation, plan, with_long_flags};
 use gt_dump::Asked;
 use gt_explore::Asked as Searched;
 use gt_streams::WriteFault;
@@ -85,6 +82,12 @@ fn domain(number: Option<u16>) -> Option<DomId>
     }
 }
 
+fn is_json(format: Format) -> bool
+    ensures { IsTrue result ↔ (format ≡ Format.Json) }
+{
+    matches!(format, Format::Json)
+}
+
 // Does what the plan says.
 fn follow<R: Threads + Wait + Sync, T: Texts, W: Write, E: Eprint>(
     context: &Context<R, T, E>,
@@ -101,7 +104,7 @@ fn follow<R: Threads + Wait + Sync, T: Texts, W: Write, E: Eprint>(
             format,
             file,
             verbose: _,
-        } => play_asked(context, format, audit, file, out, reasons),
+        } => work_asked(context, Work::Play { audit, format }, file, out, reasons),
         Invocation::Run {
             audit,
             format,
@@ -119,15 +122,24 @@ fn follow<R: Threads + Wait + Sync, T: Texts, W: Write, E: Eprint>(
                 witness,
                 states,
             };
-            explore_asked(context, asked, file, out, reasons)
+            work_asked(context, Work::Explore { asked }, file, out, reasons)
         }
-        Invocation::Policy { format, file } => list_asked(context, format, file, out, reasons),
+        Invocation::Policy { format, file } => {
+            work_asked(context, Work::List { format }, file, out, reasons)
+        }
         Invocation::Rules { rule } => tell_rules(out, context.err, rule),
         Invocation::Check {
             script,
             format,
             file,
-        } => check_asked(context, format, script, file, out, reasons),
+        } => {
+            let work = Work::Check {
+                script,
+                file: shown_name(file),
+                json: is_json(format),
+            };
+            work_asked(context, work, file, out, reasons)
+        }
         Invocation::Why {
             source,
             target,
@@ -139,54 +151,50 @@ fn follow<R: Threads + Wait + Sync, T: Texts, W: Write, E: Eprint>(
                 target,
                 perm,
             };
-            explain_asked(context, question, file, out, reasons)
+            let work = Work::Why {
+                file: shown_name(file),
+                question,
+            };
+            work_asked(context, work, file, out, reasons)
         }
         Invocation::Entries {
             version,
             hex,
             all,
-            script,
+            script: dom,
             format,
             file,
         } => {
-            let script = domain(script);
+            let script = domain(dom);
             let asked = Asked {
                 version,
                 hex,
                 all,
                 script,
             };
-            entries_asked(context, asked, format, file, out, reasons)
+            work_asked(context, Work::Entries { asked, format }, file, out, reasons)
         }
     }
 }
 
 // Does what words with long flags ask for.
 fn obey_long<R: Threads + Wait + Sync, T: Texts, W: Write, E: Eprint>(
-    rt: &R,
-    alloc: Global,
-    texts: &T,
+    context: &Context<R, T, E>,
     words: &[String],
     out: &mut W,
-    err: &E,
 ) -> u8
-    ensures { Obeys (request_in_words (drop 1 (map string_bytes words.now))) (T.file texts.now) (T.input texts.now)
+    ensures { Obeys (request_in_words (drop 1 (map string_bytes words.now)))
+        (T.file context.now.texts.now) (T.input context.now.texts.now)
         (W.contents out.old) (W.contents out.new) result }
 {
-    match plan(alloc, words) {
+    match plan(context.alloc, words) {
         Ok(invocation) => {
-            let mut reasons = Reasons::of(alloc, &invocation);
-            let context = Context {
-                rt,
-                alloc,
-                texts,
-                err,
-            };
-            let status = follow(&context, invocation, out, &mut reasons);
-            reasons.tell(err);
+            let mut reasons = Reasons::of(context.alloc, &invocation);
+            let status = follow(context, invocation, out, &mut reasons);
+            reasons.tell(context.err);
             status
         }
-        Err(error) => refuse(out, err, &error),
+        Err(error) => refuse(out, context.err, &error),
     }
 }
 
@@ -210,7 +218,15 @@ pub fn obey<R: Threads + Wait + Sync, T: Texts, W: Write, E: Eprint>(
         (T.file texts.now) (T.input texts.now) (W.contents out.old) (W.contents out.new) result }
 {
     match with_long_flags(alloc, words) {
-        Ok(words) => obey_long(rt, alloc, texts, words.as_slice(), out, err),
+        Ok(words) => {
+            let context = Context {
+                rt,
+                alloc,
+                texts,
+                err,
+            };
+            obey_long(&context, words.as_slice(), out)
+        }
         Err(_) => report(err, Err(Failure::Memory)),
     }
 }

@@ -1,5 +1,7 @@
 -- Reasons as lines.
-use Rattle.std.specs.Prelude.{◌≡◌, ℕ, ◌-◌, List, ◌++◌, codes, decimal}
+use Rattle.std.specs.Prelude.{◌≡◌, ℕ, ◌-◌, if◌then◌else◌, List, [], ◌∷◌, ◌++◌, codes, decimal}
+use Rattle.std.specs.Char.{is_ascii_control}
+use Rattle.std.specs.List.{flat_map}
 use Rattle.gt_types.specs.declared.limits.TheConstants.{DOMID_SELF, LAST_VERSION, MAX_DOMAINS, MAX_FRAMES}
 use Rattle.gt_types.specs.declared.limits.TheConstants.{MAX_TABLE_FRAMES}
 use Rattle.gt_types.specs.declared.config.ConfigFault.{ConfigFault}
@@ -10,9 +12,13 @@ abbrev pub reason_heading : List ℕ → ℕ → ℕ → List ℕ
 reason_heading file line column =
     file ++ codes ":" ++ decimal line ++ codes ":" ++ decimal column ++ codes ": "
 
+-- a byte as it is shown: the bytes of U+FFFD for a control character
+abbrev pub shown_byte : ℕ → List ℕ
+shown_byte byte = if is_ascii_control byte then 239 ∷ 191 ∷ 189 ∷ [] else byte ∷ []
+
 -- a word in quotes
 abbrev pub quoted_text : List ℕ → List ℕ
-quoted_text word = codes "\"" ++ word ++ codes "\""
+quoted_text word = codes "\"" ++ flat_map shown_byte word ++ codes "\""
 
 -- a line was added that tells a reason at this line of the file
 abbrev pub TellsAt : List ℕ → ℕ → List ℕ → List ℕ → Type 0

@@ -1,6 +1,6 @@
 //! Pieces of reasons.
 ghost use Rattle.std.specs.Prelude.{◌≡◌, ◌++◌, OnOk};
-ghost use Rattle.gt_reasons.specs.Reasons.{reason_heading, quoted_text};
+ghost use Rattle.gt_reasons.specs.Reasons.{reason_heading, quoted_text, shown_byte};
 
 use gt_texts::{push_number, push_text};
 use std::alloc::AllocError;
@@ -22,11 +22,26 @@ pub fn push_heading(
     push_text(out, ": ")
 }
 
-/// Appends a word in quotes. After an Err a part of it may be there.
+// The bytes of U+FFFD, which stands for a control character.
+const NOT_SHOWN: [u8; 3] = [0xEF, 0xBF, 0xBD];
+
+// Appends a byte. A control character could move the terminal's cursor, so another stands for it.
+fn push_shown(out: &mut Vec<u8>, byte: u8) -> Result<(), AllocError>
+    ensures { OnOk result (out.new.items ≡ out.old.items ++ shown_byte byte) }
+{
+    if byte.is_ascii_control() {
+        return out.extend_from_slice(&NOT_SHOWN);
+    }
+    out.extend_from_slice(&[byte])
+}
+
+/// Appends a word in quotes, with U+FFFD for each control character. After an Err a part of it may be there.
 pub fn push_word(out: &mut Vec<u8>, word: &[u8]) -> Result<(), AllocError>
     ensures { OnOk result (out.new.items ≡ out.old.items ++ quoted_text word.now) }
 {
     push_text(out, "\"")?;
-    out.extend_from_slice(word)?;
+    'bytes: for byte in word {
+        push_shown(out, *byte)?;
+    }
     push_text(out, "\"")
 }

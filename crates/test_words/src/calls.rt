@@ -3,7 +3,7 @@ ghost use Rattle.std.specs.Prelude.{◌≡◌, ◌≢◌, ◌+◌, ◌<◌, [], 
 ghost use Rattle.gt_words.specs.Views.{last_of, last_seen, record_seen};
 ghost use Rattle.gt_words.specs.Rule.{layout_of};
 ghost use Rattle.test_words.specs.Pinned.{IsPinned};
-ghost use Rattle.test_words.specs.Rows.{IsRowOf, HasRow, HasRowStill};
+ghost use Rattle.test_words.specs.Rows.{HasRow, HasRowStill, IsRowOf};
 ghost use Rattle.gt_words.specs.Conditions.{KeepsPins, IsSeatOf, IsSameSeat, HasLooked, HasDomain, IsEntryOf};
 ghost use Rattle.gt_words.specs.Conditions.{position_at};
 
@@ -16,7 +16,10 @@ use gt_words::{Pin, Seat, Words};
 use std::alloc::{AllocError, Global};
 use std::process::Abort;
 
-/// What an owner keeps of one of its entries.
+/// The entry that the owner uses.
+pub(crate) const ENTRY: GrantRef = GrantRef(0);
+
+/// What the owner keeps of it.
 #[derive(Drop)]
 pub(crate) struct Row {
     pub entry: Entry,
@@ -89,80 +92,63 @@ pub(crate) fn try_pin(
 pub(crate) fn publish(
     words: &Words,
     seat: &mut Seat,
-    gref: GrantRef,
     row: &mut Row,
     entry: Entry,
 ) -> Result<(), u64>
-    requires owner { HasRow words.now seat.old gref row.old.generation row.old.entry }
+    requires owner { HasRow words.now seat.old row.old.generation row.old.entry }
     requires given { entry ≢ Entry.Invalid }
-    ensures owner { HasRowStill seat.old seat.new gref row.new.generation row.new.entry }
+    ensures owner { HasRowStill seat.old seat.new row.new.generation row.new.entry }
 {
     if !row.entry.is_invalid() || row.generation >= LAST_GENERATION {
         return Err(0);
     }
-    words.store_body(seat, gref, Half::First, entry.first_body());
-    words.store_body(seat, gref, Half::Second, entry.second_body());
+    words.store_body(seat, ENTRY, Half::First, entry.first_body());
+    words.store_body(seat, ENTRY, Half::Second, entry.second_body());
     let word = Control::of_entry(Entry::Invalid, row.generation, 0, 0).pack();
-    words.grant(seat, gref, word, entry)?;
+    words.grant(seat, ENTRY, word, entry)?;
     row.entry = entry;
     row.generation += 1;
     Ok(())
 }
 
 // The owner revokes its entry, if it has no pins. Answers Ok if it is invalid already.
-pub(crate) fn revoke(
-    words: &Words,
-    seat: &mut Seat,
-    gref: GrantRef,
-    row: &mut Row,
-) -> Result<(), u64>
-    requires owner { HasRow words.now seat.old gref row.old.generation row.old.entry }
-    ensures owner { HasRowStill seat.old seat.new gref row.new.generation row.new.entry }
+pub(crate) fn revoke(words: &Words, seat: &mut Seat, row: &mut Row) -> Result<(), u64>
+    requires owner { HasRow words.now seat.old row.old.generation row.old.entry }
+    ensures owner { HasRowStill seat.old seat.new row.new.generation row.new.entry }
 {
     if row.entry.is_invalid() || row.generation > LAST_GENERATION {
         return Ok(());
     }
     let word = Control::of_entry(row.entry, row.generation, 0, 0).pack();
-    words.revoke(seat, gref, word)?;
+    words.revoke(seat, ENTRY, word)?;
     row.entry = Entry::Invalid;
     Ok(())
 }
 
 // The owner withdraws its entry with the pins that it has. Answers Ok if it is invalid already.
-pub(crate) fn withdraw(
-    words: &Words,
-    seat: &mut Seat,
-    gref: GrantRef,
-    row: &mut Row,
-) -> Result<(), u64>
-    requires owner { HasRow words.now seat.old gref row.old.generation row.old.entry }
+pub(crate) fn withdraw(words: &Words, seat: &mut Seat, row: &mut Row) -> Result<(), u64>
+    requires owner { HasRow words.now seat.old row.old.generation row.old.entry }
     requires entry { HasDomain words.now.layout seat.old.dom }
-    ensures owner { HasRowStill seat.old seat.new gref row.new.generation row.new.entry }
+    ensures owner { HasRowStill seat.old seat.new row.new.generation row.new.entry }
 {
     if row.entry.is_invalid() {
         return Ok(());
     }
     let owner = seat.dom();
-    let word = words.load_control(seat, owner, gref);
-    words.withdraw(seat, gref, word)?;
+    let word = words.load_control(seat, owner, ENTRY);
+    words.withdraw(seat, ENTRY, word)?;
     row.entry = Entry::Invalid;
     Ok(())
 }
 
 // The owner makes its entry read-only or writable, if it is the other and has no write pin that it must not have.
-pub(crate) fn turn(
-    words: &Words,
-    seat: &mut Seat,
-    gref: GrantRef,
-    row: &mut Row,
-    ro: bool,
-) -> Result<bool, u64>
-    requires owner { HasRow words.now seat.old gref row.old.generation row.old.entry }
+pub(crate) fn turn(words: &Words, seat: &mut Seat, row: &mut Row, ro: bool) -> Result<bool, u64>
+    requires owner { HasRow words.now seat.old row.old.generation row.old.entry }
     requires entry { HasDomain words.now.layout seat.old.dom }
-    ensures owner { HasRowStill seat.old seat.new gref row.new.generation row.new.entry }
+    ensures owner { HasRowStill seat.old seat.new row.new.generation row.new.entry }
 {
     let owner = seat.dom();
-    let word = words.load_control(seat, owner, gref);
+    let word = words.load_control(seat, owner, ENTRY);
     let control = Control::unpack(word);
     let turnable = !row.entry.is_invalid() && row.entry.is_read_only() != ro;
     if !turnable
@@ -173,9 +159,9 @@ pub(crate) fn turn(
         return Ok(false);
     }
     if ro {
-        words.demote(seat, gref, word)?;
+        words.demote(seat, ENTRY, word)?;
     } else {
-        words.promote(seat, gref, word)?;
+        words.promote(seat, ENTRY, word)?;
     }
     row.entry = row.entry.with_ro(ro);
     row.generation += 1;
@@ -188,23 +174,22 @@ pub(crate) fn revoke_pinned(
     words: &Words,
     owner: &mut Seat,
     other: &mut Seat,
-    gref: GrantRef,
     row: &mut Row,
     dir: Dir,
 ) -> Option<Result<(), u64>>
     requires owner { IsSeatOf words.now owner.old }
     requires other { IsSeatOf words.now other.old }
-    requires entry { IsEntryOf words.now owner.old.dom gref }
-    requires row { IsRowOf row.old.generation row.old.entry gref owner.old.view }
-    ensures owner { HasRowStill owner.old owner.new gref row.new.generation row.new.entry }
+    requires entry { IsEntryOf words.now owner.old.dom ENTRY }
+    requires row { IsRowOf row.old.generation row.old.entry owner.old.view }
+    ensures owner { HasRowStill owner.old owner.new row.new.generation row.new.entry }
     ensures other { IsSameSeat other.old other.new }
 {
     let dom = owner.dom();
-    let sight = look(words, other, dom, gref);
-    let Some(Ok(pin)) = try_pin(words, other, dom, gref, &sight, dir) else {
+    let sight = look(words, other, dom, ENTRY);
+    let Some(Ok(pin)) = try_pin(words, other, dom, ENTRY, &sight, dir) else {
         return None;
     };
-    let answer = revoke(words, owner, gref, row);
+    let answer = revoke(words, owner, row);
     words.unpin(other, pin);
     Some(answer)
 }
@@ -214,20 +199,19 @@ pub(crate) fn revoke_pinned(
 fn withdraw_and_grant(
     words: &Words,
     owner: &mut Seat,
-    gref: GrantRef,
     row: &mut Row,
     entry: Entry,
 ) -> (u64, Result<(), u64>)
     requires owner { IsSeatOf words.now owner.old }
-    requires entry { IsEntryOf words.now owner.old.dom gref }
-    requires row { IsRowOf row.old.generation row.old.entry gref owner.old.view }
+    requires entry { IsEntryOf words.now owner.old.dom ENTRY }
+    requires row { IsRowOf row.old.generation row.old.entry owner.old.view }
     requires given { entry ≢ Entry.Invalid }
-    ensures owner { HasRowStill owner.old owner.new gref row.new.generation row.new.entry }
+    ensures owner { HasRowStill owner.old owner.new row.new.generation row.new.entry }
 {
     let dom = owner.dom();
-    let _ = withdraw(words, owner, gref, row);
-    let word = words.load_control(owner, dom, gref);
-    let early = publish(words, owner, gref, row, entry);
+    let _ = withdraw(words, owner, row);
+    let word = words.load_control(owner, dom, ENTRY);
+    let early = publish(words, owner, row, entry);
     (word, early)
 }
 
@@ -238,26 +222,25 @@ pub(crate) fn withdraw_pinned(
     words: &Words,
     owner: &mut Seat,
     other: &mut Seat,
-    gref: GrantRef,
     row: &mut Row,
     entry: Entry,
 ) -> Option<(u64, Result<(), u64>, Result<(), u64>)>
     requires owner { IsSeatOf words.now owner.old }
     requires other { IsSeatOf words.now other.old }
-    requires entry { IsEntryOf words.now owner.old.dom gref }
-    requires row { IsRowOf row.old.generation row.old.entry gref owner.old.view }
+    requires entry { IsEntryOf words.now owner.old.dom ENTRY }
+    requires row { IsRowOf row.old.generation row.old.entry owner.old.view }
     requires given { entry ≢ Entry.Invalid }
-    ensures owner { HasRowStill owner.old owner.new gref row.new.generation row.new.entry }
+    ensures owner { HasRowStill owner.old owner.new row.new.generation row.new.entry }
     ensures other { IsSameSeat other.old other.new }
 {
     let dom = owner.dom();
-    let sight = look(words, other, dom, gref);
-    let Some(Ok(pin)) = try_pin(words, other, dom, gref, &sight, Dir::Write) else {
+    let sight = look(words, other, dom, ENTRY);
+    let Some(Ok(pin)) = try_pin(words, other, dom, ENTRY, &sight, Dir::Write) else {
         return None;
     };
-    let (word, early) = withdraw_and_grant(words, owner, gref, row, entry);
+    let (word, early) = withdraw_and_grant(words, owner, row, entry);
     words.unpin(other, pin);
-    let late = publish(words, owner, gref, row, entry);
+    let late = publish(words, owner, row, entry);
     Some((word, early, late))
 }
 
@@ -314,19 +297,13 @@ pub(crate) fn pin_twice(
 }
 
 // Grants a page and revokes it again, so many times.
-pub(crate) fn toggle(
-    words: &Words,
-    mut seat: Seat,
-    gref: GrantRef,
-    mut row: Row,
-    times: u32,
-) -> (Seat, Row)
-    requires owner { HasRow words.now seat gref row.generation row.entry }
-    ensures owner { HasRow words.now result.0 gref result.1.generation result.1.entry }
+pub(crate) fn toggle(words: &Words, mut seat: Seat, mut row: Row, times: u32) -> (Seat, Row)
+    requires owner { HasRow words.now seat row.generation row.entry }
+    ensures owner { HasRow words.now result.0 result.1.generation result.1.entry }
 {
     for _ in 0..times {
-        let _ = publish(words, &mut seat, gref, &mut row, page(5));
-        let _ = revoke(words, &mut seat, gref, &mut row);
+        let _ = publish(words, &mut seat, &mut row, page(5));
+        let _ = revoke(words, &mut seat, &mut row);
     }
     (seat, row)
 }
@@ -411,6 +388,6 @@ pub(crate) fn start_with_page(
     let (words, mut owner, other) = start(alloc)?;
     assert_eq!(rt; owner.dom(), DomId(1));
     let mut row = UNUSED;
-    let _ = publish(&words, &mut owner, GrantRef(0), &mut row, page(5));
+    let _ = publish(&words, &mut owner, &mut row, page(5));
     Ok((words, owner, other, row))
 }

@@ -1,10 +1,10 @@
 //! Worked runs of two domains, each written as one text. Words are in base 16, but inside an answer in base 10.
 use crate::calls::{
-    UNUSED, churn, look, page, pin_twice, publish, revoke, revoke_pinned, start, start_with_page,
-    toggle, try_pin, turn, withdraw_pinned,
+    ENTRY, UNUSED, churn, look, page, pin_twice, publish, revoke, revoke_pinned, start,
+    start_with_page, toggle, try_pin, turn, withdraw_pinned,
 };
 use gt_entry::{Control, Entry};
-use gt_types::{Dir, DomId, GrantRef};
+use gt_types::{Dir, DomId};
 use std::process::Abort;
 use std::test::Fail;
 use std::thread::join;
@@ -12,8 +12,6 @@ use std::thread::join;
 const OWNER: DomId = DomId(1);
 
 const OTHER: DomId = DomId(2);
-
-const ENTRY: GrantRef = GrantRef(0);
 
 // Compares what came of a run with what must.
 fn says(rt: &impl Abort, text: &String, wanted: &str) -> Result<(), Fail> {
@@ -28,9 +26,9 @@ const ANEW: &str = "100020000001 100000000000 Some(Err(35184908959745))";
 fn pins_no_entry_that_was_granted_anew(rt: HostRuntime) -> Result<(), Fail> {
     let (words, mut owner, mut other, mut row) = start_with_page(&rt, rt.alloc())?;
     let sight = look(&words, &mut other, OWNER, ENTRY);
-    let _ = revoke(&words, &mut owner, ENTRY, &mut row);
+    let _ = revoke(&words, &mut owner, &mut row);
     let idle = words.load_control(&mut owner, OWNER, ENTRY);
-    let _ = publish(&words, &mut owner, ENTRY, &mut row, page(6));
+    let _ = publish(&words, &mut owner, &mut row, page(6));
     let late = try_pin(&words, &mut other, OWNER, ENTRY, &sight, Dir::Read);
     let found = late.map(|r| r.map(|pin| pin.word));
     let text = format!(in rt.alloc(); "{:x} {idle:x} {found:?}", sight.word)?;
@@ -43,10 +41,10 @@ const PINNED: &str = "Some(Err(17592722915345)) Some(Err(17592722980865)) 100020
 #[test]
 fn refuses_to_revoke_a_pinned_entry(rt: HostRuntime) -> Result<(), Fail> {
     let (words, mut owner, mut other, mut row) = start_with_page(&rt, rt.alloc())?;
-    let read = revoke_pinned(&words, &mut owner, &mut other, ENTRY, &mut row, Dir::Read);
-    let write = revoke_pinned(&words, &mut owner, &mut other, ENTRY, &mut row, Dir::Write);
+    let read = revoke_pinned(&words, &mut owner, &mut other, &mut row, Dir::Read);
+    let write = revoke_pinned(&words, &mut owner, &mut other, &mut row, Dir::Write);
     let idle = words.load_control(&mut owner, OWNER, ENTRY);
-    let last = revoke(&words, &mut owner, ENTRY, &mut row);
+    let last = revoke(&words, &mut owner, &mut row);
     let text = format!(in rt.alloc(); "{read:?} {write:?} {idle:x} {last:?}")?;
     says(&rt, &text, PINNED)
 }
@@ -58,7 +56,7 @@ const WITHDRAWN: &str = "Some((17592186109952, Err(17592186109952), Ok(()))) 200
 #[test]
 fn grants_no_entry_over_pins(rt: HostRuntime) -> Result<(), Fail> {
     let (words, mut owner, mut other, mut row) = start_with_page(&rt, rt.alloc())?;
-    let done = withdraw_pinned(&words, &mut owner, &mut other, ENTRY, &mut row, page(6));
+    let done = withdraw_pinned(&words, &mut owner, &mut other, &mut row, page(6));
     let word = words.load_control(&mut owner, OWNER, ENTRY);
     let text = format!(in rt.alloc(); "{done:?} {word:x}")?;
     says(&rt, &text, WITHDRAWN)
@@ -106,12 +104,12 @@ const TURNED: &str = "Ok(true) 200020000005 Ok(true) 300020000001 Ok(false) Ok((
 #[test]
 fn turns_an_entry(rt: HostRuntime) -> Result<(), Fail> {
     let (words, mut owner, mut other, mut row) = start_with_page(&rt, rt.alloc())?;
-    let demoted = turn(&words, &mut owner, ENTRY, &mut row, true);
+    let demoted = turn(&words, &mut owner, &mut row, true);
     let read_only = look(&words, &mut other, OWNER, ENTRY).word;
-    let promoted = turn(&words, &mut owner, ENTRY, &mut row, false);
+    let promoted = turn(&words, &mut owner, &mut row, false);
     let writable = look(&words, &mut other, OWNER, ENTRY).word;
-    let again = turn(&words, &mut owner, ENTRY, &mut row, false);
-    let last = revoke(&words, &mut owner, ENTRY, &mut row);
+    let again = turn(&words, &mut owner, &mut row, false);
+    let last = revoke(&words, &mut owner, &mut row);
     let text = format!(in rt.alloc();
         "{demoted:?} {read_only:x} {promoted:?} {writable:x} {again:?} {last:?}"
     )?;
@@ -125,10 +123,10 @@ fn grants_beside_pins(rt: HostRuntime) -> Result<(), Fail> {
     let (shared, row) = (&words, UNUSED);
     let ((mut owner, mut row), ()) = join(
         &rt,
-        || toggle(shared, owner, ENTRY, row, 1_000),
+        || toggle(shared, owner, row, 1_000),
         || churn(shared, other, OWNER, ENTRY, 1_000),
     );
-    let last = revoke(&words, &mut owner, ENTRY, &mut row);
+    let last = revoke(&words, &mut owner, &mut row);
     let word = words.load_control(&mut owner, OWNER, ENTRY);
     let generation = Control::unpack(word).generation;
     let idle = Control::of_entry(Entry::Invalid, generation, 0, 0).pack();

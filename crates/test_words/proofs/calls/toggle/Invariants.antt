@@ -1,10 +1,9 @@
-use Rattle.std.proofs.Common.{◌≡◌}
 use Rattle.gt_words.specs.Conditions.{IsSeatOf}
-use Rattle.gt_words.specs.Views.{last_of}
+use Rattle.test_words.specs.Rows.{IsRowOf}
 use Rattle.test_words.proofs.calls.toggle.Given as goal
 
 abbrev pub invariant-loop : goal.invariant-loop
 invariant-loop l = record {
   seat : IsSeatOf l.words l.seat;
-  row : last_of l.gref.0 l.seat.view ≡ record { generation = l.row.generation; entry = l.row.entry };
+  row : IsRowOf l.row.generation l.row.entry l.seat.view;
 }
