@@ -1,9 +1,7 @@
 //! Scripts over readers and writers that fail.
-use crate::scripts::script_named;
 use gt_failing::{FailingReader, FailingWriter, failing_line};
 use gt_host::{PlayFault, play};
 use std::alloc::Global;
-use std::rt::Runtime;
 
 // Each read fails after so many bytes, for each number of them. The first number after which `play` answers another
 // fault, or writes something.
@@ -41,18 +39,12 @@ fn untold_write(alloc: Global, script: &[u8], text: &[u8], audit: bool) -> Optio
 }
 
 /// What a script prints, with or without its records, and whether each read and each write that fails is told.
-pub fn failing_said<R: Runtime + AllocGlobal>(
-    rt: &R,
-    alloc: Global,
-    name: &str,
-    audit: bool,
-) -> anyhow::Result<String> {
-    let script = script_named(rt, alloc, name)?;
+pub fn failing_said(alloc: Global, script: &[u8], audit: bool) -> anyhow::Result<String> {
     let mut text = Vec::new(alloc);
-    let mut reader = script.as_slice();
+    let mut reader = script;
     play(alloc, &mut reader, &mut text, audit)?;
-    let read = untold_read(alloc, script.as_slice(), audit);
-    let write = untold_write(alloc, script.as_slice(), text.as_slice(), audit);
+    let read = untold_read(alloc, script, audit);
+    let write = untold_write(alloc, script, text.as_slice(), audit);
     let mut out = String::from_utf8(text)?;
     out.push_str(failing_line(alloc, "read", read)?.as_str())?;
     out.push_str(failing_line(alloc, "write", write)?.as_str())?;

@@ -26,7 +26,7 @@ use beginnings::{policy_beginnings, script_beginnings};
 use failing::failing_said;
 use policies::policy_said;
 use refusing::{policy_refused, script_refused};
-use scripts::{Played, script_said};
+use scripts::{Played, script_named, script_said};
 
 // What is done with the names that follow.
 #[derive(Clone, Copy)]
@@ -77,7 +77,10 @@ fn main(rt: HostRuntime) -> anyhow::Result<()> {
         let said = match mode {
             Mode::Play => script_said(&rt, alloc, word.as_str(), false)?,
             Mode::Audit => script_said(&rt, alloc, word.as_str(), true)?,
-            Mode::Failing(audit) => whole(failing_said(&rt, alloc, word.as_str(), audit)?),
+            Mode::Failing(audit) => {
+                let script = script_named(&rt, alloc, word.as_str())?;
+                whole(failing_said(alloc, script.as_slice(), audit)?)
+            }
             Mode::Beginnings => whole(script_beginnings(&rt, alloc, word.as_str())?),
             Mode::Policy => whole(policy_said(&rt, alloc, word.as_str())?),
             Mode::PolicyBeginnings => whole(policy_beginnings(&rt, alloc, word.as_str())?),

@@ -53,6 +53,12 @@ answer_by w sources targets xs = if is_none (permission_of w) then NoPermission
     else (if length targets == 0 then NoTarget
     else (if list_any (λ x. gives_some w sources targets x.statement) xs then Allowed else Denied)))
 
+-- the statements that are listed under an answer: those that grant the permission if it is allowed, and else those that
+-- come near
+abbrev pub is_listed : Answer → List ℕ → List Member → List Member → Statement → Bool
+is_listed Allowed w sources targets = gives_some w sources targets
+is_listed answer w sources targets = near_some w sources targets
+
 -- the lines of an answer
 abbrev pub lines_with : Answer → List ℕ → List ℕ → List Member → List Member → List LinedStatement → List ℕ
 lines_with Allowed file w sources targets xs =

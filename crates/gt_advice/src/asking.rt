@@ -1,21 +1,20 @@
 //! Who allows what, and by which statements.
 ghost use Rattle.std.specs.Prelude.{◌≡◌, ◌++◌, List, IfOk, IfErr, OnOk, None, Some, Ok, Err};
 ghost use Rattle.std.specs.List.{list_any};
-ghost use Rattle.std.specs.Option.{option_map};
 ghost use Rattle.gt_policy.specs.Allowing.{Meaning};
 ghost use Rattle.gt_policy.specs.Lined.{IsLined};
 ghost use Rattle.gt_policy.specs.Shown.{fault_shown, out_of_memory};
 ghost use Rattle.gt_policy.specs.Whole.{Says};
 ghost use Rattle.gt_policy.specs.declared.fault.TokenFault.{TokenFault};
 ghost use Rattle.gt_policy.specs.declared.lined.LinedStatement.{LinedStatement};
-ghost use Rattle.gt_advice.specs.Granting.{gives_some, near_some};
+ghost use Rattle.gt_advice.specs.Granting.{gives_some};
 ghost use Rattle.gt_advice.specs.Members.{members_of};
-ghost use Rattle.gt_advice.specs.Why.{entry_if, entries_if, answer_by, lines_with, IsExplained};
+ghost use Rattle.gt_advice.specs.Why.{entries_if, is_listed, answer_by, lines_with, IsExplained};
 
 use crate::granting::{gives_some, near_some};
 use crate::members::{Member, members_of};
 use crate::texts::push_entry;
-use gt_policy::{LinedStatement, Policy, PolicyFault, PolicyFaultKind, statements_of};
+use gt_policy::{LinedStatement, Policy, PolicyFault, PolicyFaultKind, Statement, statements_of};
 use gt_streams::push_text;
 use gt_types::Perms;
 use std::alloc::{AllocError, Global};
@@ -84,76 +83,39 @@ fn answer_with(
     }
 }
 
-// Appends the line of a statement that grants the permission.
-fn push_giving(
-    out: &mut Vec<u8>,
-    file: &str,
-    stated: &LinedStatement,
+// Whether a statement is listed under an answer: it grants the permission if that is allowed, and else comes near.
+fn is_listed(
+    answer: Answer,
+    statement: &Statement,
     sources: &[Member],
     targets: &[Member],
     perm: &str,
-) -> Result<(), AllocError>
-    ensures { OnOk result (out.new.items ≡ out.old.items
-        ++ entry_if (gives_some perm.now sources.now targets.now) file.now sources.now targets.now stated.now) }
+) -> bool
+    ensures { result ≡ is_listed answer perm.now sources.now targets.now statement.now }
 {
-    if gives_some(&stated.statement, sources, targets, perm) {
-        push_entry(out, file, stated, sources, targets)
-    } else {
-        Ok(())
+    match answer {
+        Answer::Allowed => gives_some(statement, sources, targets, perm),
+        _ => near_some(statement, sources, targets, perm),
     }
 }
 
-// Appends the line of a statement that comes near.
-fn push_near(
+// Appends the lines of the statements that are listed under the answer.
+fn push_listed(
     out: &mut Vec<u8>,
-    file: &str,
-    stated: &LinedStatement,
-    sources: &[Member],
-    targets: &[Member],
-    perm: &str,
-) -> Result<(), AllocError>
-    ensures { OnOk result (out.new.items ≡ out.old.items
-        ++ entry_if (near_some perm.now sources.now targets.now) file.now sources.now targets.now stated.now) }
-{
-    if near_some(&stated.statement, sources, targets, perm) {
-        push_entry(out, file, stated, sources, targets)
-    } else {
-        Ok(())
-    }
-}
-
-// Appends the lines of the statements that grant the permission.
-fn push_all_giving(
-    out: &mut Vec<u8>,
+    answer: Answer,
     file: &str,
     statements: &[LinedStatement],
     sources: &[Member],
     targets: &[Member],
     perm: &str,
 ) -> Result<(), AllocError>
-    ensures { OnOk result (out.new.items ≡ out.old.items
-        ++ entries_if (gives_some perm.now sources.now targets.now) file.now sources.now targets.now statements.now) }
+    ensures { OnOk result (out.new.items ≡ out.old.items ++ entries_if
+        (is_listed answer perm.now sources.now targets.now) file.now sources.now targets.now statements.now) }
 {
     'statements: for stated in statements {
-        push_giving(out, file, stated, sources, targets, perm)?;
-    }
-    Ok(())
-}
-
-// Appends the lines of the statements that come near.
-fn push_all_near(
-    out: &mut Vec<u8>,
-    file: &str,
-    statements: &[LinedStatement],
-    sources: &[Member],
-    targets: &[Member],
-    perm: &str,
-) -> Result<(), AllocError>
-    ensures { OnOk result (out.new.items ≡ out.old.items
-        ++ entries_if (near_some perm.now sources.now targets.now) file.now sources.now targets.now statements.now) }
-{
-    'statements: for stated in statements {
-        push_near(out, file, stated, sources, targets, perm)?;
+        if is_listed(answer, &stated.statement, sources, targets, perm) {
+            push_entry(out, file, stated, sources, targets)?;
+        }
     }
     Ok(())
 }
@@ -174,11 +136,11 @@ fn push_lines(
     match answer {
         Answer::Allowed => {
             push_text(out, "allowed\n")?;
-            push_all_giving(out, file, statements, sources, targets, perm)
+            push_listed(out, answer, file, statements, sources, targets, perm)
         }
         Answer::Denied => {
             push_text(out, "denied\n")?;
-            push_all_near(out, file, statements, sources, targets, perm)
+            push_listed(out, answer, file, statements, sources, targets, perm)
         }
         _ => Ok(()),
     }

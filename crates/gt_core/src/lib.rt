@@ -35,4 +35,7 @@ pub use laws::{
     every_legal_trace_is_a_legal_history, every_open_call_can_access, every_open_call_can_go_on,
     every_page_taken_back_is_out_of_reach, every_run_can_start, no_pin_outlives_its_record,
 };
+pub use machine::answer_of;
+pub use pin_counts::{CountsChange, PinCounts};
+pub use sight::exchange_sees;
 pub use trace::{Answer, Bytes, Element, Event, Happened, Item, Trace};

@@ -67,8 +67,8 @@ fn answer_with(value: Value) -> Answer
     }
 }
 
-// The answer of a call that ends so, and gives no mapping and no bytes.
-fn answer_of(verdict: Verdict) -> Answer
+/// The answer of a call that ends so, if it gives no mapping and no bytes.
+pub fn answer_of(verdict: Verdict) -> Answer
     ensures { result ≡ answer_of verdict }
 {
     match verdict {

@@ -85,7 +85,8 @@ fn look_body(
     }
 }
 
-fn exchange(word: u64, looked: u64) -> Seen
+/// What an exchange sees that looked for one word where there was this one.
+pub fn exchange_sees(word: u64, looked: u64) -> Seen
     ensures { result ≡ exchange_sees word looked }
 {
     if word == looked {
@@ -106,12 +107,12 @@ pub fn see(config: &Roster, domains: &[DomainState], actor: DomId, step: Step) -
         Step::LookBody { dom, gref, half } => {
             Seen::Word(look_body(config, domains, dom, gref, half))
         }
-        Step::Pin { held } => exchange(
+        Step::Pin { held } => exchange_sees(
             look_control(config, domains, held.dom, held.gref),
             held.word,
         ),
         Step::Exchange { gref, looked, .. } => {
-            exchange(look_control(config, domains, actor, gref), looked)
+            exchange_sees(look_control(config, domains, actor, gref), looked)
         }
         Step::Unpin { .. }
         | Step::StoreBody { .. }

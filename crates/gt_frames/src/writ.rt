@@ -5,7 +5,7 @@ ghost use Rattle.gt_frames.specs.Frames.{permits_writing, covers};
 
 use crate::FrameBytes;
 use gt_entry::Entry;
-use gt_types::{Dir, DomId, GrantRef, Range, Use};
+use gt_types::{Dir, DomId, Range, Use};
 
 /// By what a domain may write to a frame.
 #[derive(Clone, Copy, Debug, PartialEq, Eq)]
@@ -72,75 +72,12 @@ fn is_domain(a: DomId, b: DomId) -> bool
     a.0 == b.0
 }
 
-fn is_reference(a: GrantRef, b: GrantRef) -> bool
-    ensures { IsTrue result → a ≡ b }
-{
-    a.0 == b.0
-}
-
-fn is_flag(a: bool, b: bool) -> bool
-    ensures { IsTrue result → a ≡ b }
-{
-    a == b
-}
-
 // Whether both are one entry.
 #[inline(always)]
 fn is_entry(a: &Entry, b: &Entry) -> bool
     ensures { IsTrue result → a.now ≡ b.now }
 {
-    match (a, b) {
-        (
-            Entry::Page { dom, ro, frame },
-            Entry::Page {
-                dom: dom_b,
-                ro: ro_b,
-                frame: frame_b,
-            },
-        ) => is_domain(*dom, *dom_b) && is_flag(*ro, *ro_b) && *frame == *frame_b,
-        (
-            Entry::Sub {
-                dom,
-                ro,
-                frame,
-                off,
-                len,
-            },
-            Entry::Sub {
-                dom: dom_b,
-                ro: ro_b,
-                frame: frame_b,
-                off: off_b,
-                len: len_b,
-            },
-        ) => {
-            is_domain(*dom, *dom_b)
-                && is_flag(*ro, *ro_b)
-                && *frame == *frame_b
-                && *off == *off_b
-                && *len == *len_b
-        }
-        (
-            Entry::Via {
-                dom,
-                ro,
-                dom2,
-                gref,
-            },
-            Entry::Via {
-                dom: dom_b,
-                ro: ro_b,
-                dom2: dom2_b,
-                gref: gref_b,
-            },
-        ) => {
-            is_domain(*dom, *dom_b)
-                && is_flag(*ro, *ro_b)
-                && is_domain(*dom2, *dom2_b)
-                && is_reference(*gref, *gref_b)
-        }
-        _ => false,
-    }
+    a == b
 }
 
 // Whether both are one basis.

@@ -1,7 +1,7 @@
 use Rattle.std.proofs.Common.{◌≡◌, ◌≢◌, ◌≤◌, Bool, true, false, cond, List, [], ◌∷◌, length, None, Some, ap, sym, ◌∙◌}
 use Rattle.std.proofs.Common.{inl, inr, arith, subst, Option}
-use Rattle.std.specs.Prelude.{◌==◌, ◌||◌, IsTrue}
-use Rattle.gt_types.specs.Config.{AreFaultless, IsFirstFault, is_taken}
+use Rattle.std.specs.Prelude.{◌==◌, ◌||◌, AllPairs, IsTrue}
+use Rattle.gt_types.specs.Config.{AreFaultless, IsFirstFault, IsWithinLimits, is_taken}
 use Rattle.gt_types.specs.Names.{domain_of}
 use Rattle.gt_types.specs.declared.DomId.{DomId}
 use Rattle.gt_types.specs.declared.config.DomainConfig.{DomainConfig}
@@ -35,6 +35,10 @@ starts_for c core config rights same_config same_rights stands domains generatio
   rights = ap may_by same_rights ∙ may;
   stands = subst (λ (s : Setting). CoreStands s [] core.state) (sym (same_setting may_by core.config config core.rights rights same_config same_rights)) stands;
 }
+
+-- no two domains of such a core have one number
+pub apart_in : (c : Contents) (config : Config) → IsWithinLimits config → config.domains.items ≡ c.domains → AllPairs (λ d e. d.id.0 ≢ e.id.0) c.domains
+apart_in c config fits domains = subst (λ (ds : List DomainConfig). AllPairs (λ d e. d.id.0 ≢ e.id.0) ds) domains fits.distinct
 
 known_here : (b rest : Bool) (d : DomainConfig) (more : Option DomainConfig) → (rest ≡ true → more ≢ None) → (b || rest) ≡ true → cond {A = Option DomainConfig} b (Some d) more ≢ None
 known_here true rest d more known taken = λ e. cc

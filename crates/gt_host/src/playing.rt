@@ -1,7 +1,8 @@
 //! A script in, and the lines of its run out.
-ghost use Rattle.std.specs.Prelude.{◌≡◌, ◌⊎◌, ◌++◌, ℕ, List, take, OnOk, OnErr, IfOk, IfErr};
+ghost use Rattle.std.specs.Prelude.{◌≡◌, ◌≢◌, ◌⊎◌, ◌++◌, ℕ, List, take, AllPairs, OnOk, OnErr, IfOk, IfErr, IsOk};
 ghost use Rattle.std.specs.Option.{option_map};
 ghost use Rattle.gt_script.specs.Contents.{contents_told};
+ghost use Rattle.gt_script.specs.RunScripts.{CanConfigure};
 ghost use Rattle.gt_script.specs.Script.{TellsScript};
 ghost use Rattle.gt_host.specs.declared.fault.Fault.TheVariants as faults;
 ghost use Rattle.gt_host.specs.OpenCalls.{call_in};
@@ -20,15 +21,18 @@ use crate::run::run_step;
 use gt_core::Core;
 use gt_script::{Script, parse};
 use gt_streams::{finish, read_text, send};
-use gt_types::{Config, DomId, DomainConfig, StartFault};
+use gt_types::{Config, DomId, DomainConfig, Memory, StartFault};
 use std::alloc::{AllocError, Global};
 use std::io::{Read, Write};
 
-// A core with the domains and the rights of the script.
-fn start<'s, 'a>(alloc: Global, script: &'s Script<'a>) -> Result<Core<Rights>, Fault>
-    requires { CanStart (contents_told script.now) }
-    ensures starts { IfOk result (StartsFor (contents_told script.entry.now)) }
-    ensures errors { IfErr result (λ e. e ≡ faults.Memory) }
+/// A core with the domains and the rights of a script, on which nothing has happened.
+///
+/// # Errors
+/// `Memory` if memory was refused.
+pub fn core_of(alloc: Global, script: &Script) -> Result<Core<Rights>, Memory>
+    requires { CanConfigure (contents_told script.now) }
+    ensures starts { IfOk result (StartsFor (contents_told script.now)) }
+    ensures apart { IsOk result → AllPairs (λ d e. d.id.0 ≢ e.id.0) (contents_told script.now).domains }
 {
     let config = Config {
         domains: Vec::from_slice(alloc, script.domains())?,
@@ -37,7 +41,7 @@ fn start<'s, 'a>(alloc: Global, script: &'s Script<'a>) -> Result<Core<Rights>, 
     let rights = Rights::of(alloc, script)?;
     match Core::new(alloc, config, rights) {
         Ok(core) => Ok(core),
-        Err(StartFault::Memory) => Err(Fault::Memory),
+        Err(StartFault::Memory) => Err(Memory),
         Err(StartFault::Config(_)) => unreachable!(),
     }
 }
@@ -111,7 +115,7 @@ fn run_script<W: Write>(
         (W.contents writer.old) (W.contents writer.new)) }
     ensures errors { IfErr result (λ e. (e ≡ faults.Memory) ⊎ (e ≡ faults.Write)) }
 {
-    let mut core = start(alloc, script)?;
+    let mut core = core_of(alloc, script)?;
     run_lines(alloc, &mut core, script, writer, audit)
 }
 

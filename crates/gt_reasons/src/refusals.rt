@@ -18,15 +18,17 @@ struct Refusal<'t> {
     perm: &'t str,
 }
 
-// The refusal that the object of an answer line tells (docs/FORMATS.md, 'JSON Lines').
-fn refusal_of_object<'t>(line: &'t str) -> Option<Refusal<'t>> {
-    let members = line.strip_prefix("{\"line\":")?.strip_suffix("\"}")?;
-    let (number, rest) = members.split_once(",\"domain\":")?;
-    let (_, facts) = rest.split_once(",\"rule\":\"N5\",\"status\":-8,\"source\":\"")?;
-    let (source, rest) = facts.split_once("\",\"target\":\"")?;
-    let (target, perm) = rest.split_once("\",\"perm\":\"")?;
+// The refusal of the call of this line, if these words stand between its facts.
+fn refusal_with<'t>(
+    line: &'t str,
+    facts: &'t str,
+    before_target: &str,
+    before_perm: &str,
+) -> Option<Refusal<'t>> {
+    let (source, rest) = facts.split_once(before_target)?;
+    let (target, perm) = rest.split_once(before_perm)?;
     Some(Refusal {
-        line: number,
+        line,
         facts,
         source,
         target,
@@ -34,22 +36,22 @@ fn refusal_of_object<'t>(line: &'t str) -> Option<Refusal<'t>> {
     })
 }
 
+// The refusal that the object of an answer line tells (docs/FORMATS.md, 'JSON Lines').
+fn refusal_of_object<'t>(line: &'t str) -> Option<Refusal<'t>> {
+    let members = line.strip_prefix("{\"line\":")?.strip_suffix("\"}")?;
+    let (number, rest) = members.split_once(",\"domain\":")?;
+    let (_, facts) = rest.split_once(",\"rule\":\"N5\",\"status\":-8,\"source\":\"")?;
+    refusal_with(number, facts, "\",\"target\":\"", "\",\"perm\":\"")
+}
+
 // The refusal that an answer line tells: none of a line with another answer, or of an audit line.
 fn refusal_of<'t>(line: &'t str) -> Option<Refusal<'t>> {
     let (call, facts) = line.split_once(" N5 -8 source=")?;
     let (number, domain) = call.split_once(' ')?;
-    let (source, rest) = facts.split_once(" target=")?;
-    let (target, perm) = rest.split_once(" perm=")?;
     if domain.contains(' ') {
         return None;
     }
-    Some(Refusal {
-        line: number,
-        facts,
-        source,
-        target,
-        perm,
-    })
+    refusal_with(number, facts, " target=", " perm=")
 }
 
 // Appends the lines of the statements that come near, and answers whether there is one.

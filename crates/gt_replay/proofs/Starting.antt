@@ -1,9 +1,8 @@
 -- How a run starts.
 use Rattle.std.proofs.Common.{◌≡◌, ◌<◌, ◌≤◌, ℕ, ◌+◌, zero, suc, Bool, true, false, List, [], ◌∷◌, ◌++◌, length, map, ap}
-use Rattle.std.proofs.Common.{sym, ◌∙◌, inl, inr, arith, subst, get_or, drop, take, Bor}
+use Rattle.std.proofs.Common.{sym, ◌∙◌, arith, subst, get_or, drop, take, Bor}
 use Rattle.std.specs.Prelude.{All}
 use Rattle.std.proofs.lemmas.Option.{none-some, get_or_from_slice_get, slice_get_within}
-use Rattle.gt_types.specs.Config.{AreFaultless, IsFirstFault, IsWithinLimits}
 use Rattle.std.proofs.lemmas.List.{map-append, map_more}
 use Rattle.std.proofs.lemmas.List.Elements.{All-push}
 use Rattle.gt_types.specs.declared.DomId.{DomId}
@@ -12,46 +11,20 @@ use Rattle.gt_replay.specs.declared.walker.Doing.TheVariants.{Nothing}
 use Rattle.gt_types.specs.declared.TypeId.{TypeId}
 use Rattle.gt_types.specs.declared.perms.Perms.{Perms}
 use Rattle.gt_types.specs.declared.config.DomainConfig.{DomainConfig}
-use Rattle.gt_types.specs.declared.config.Config.{Config}
-use Rattle.gt_types.specs.declared.config.ConfigFault.{ConfigFault}
-use Rattle.gt_types.specs.declared.limits.TheConstants.{LAST_GENERATION}
 use Rattle.gt_core.specs.History.{Setting}
 use Rattle.gt_core.specs.Standing.{CoreModel, CoreStands, setting_in}
-use Rattle.gt_core.specs.Acting.{setting_of}
 use Rattle.gt_script.specs.Contents.{Contents, first_gen, type_names}
 use Rattle.gt_script.specs.RunContents.{RunContents}
 use Rattle.gt_script.specs.RunScripts.{list_of}
 use Rattle.gt_script.specs.Lists.{Task}
 use Rattle.gt_host.specs.declared.rights.Rights.{Rights}
 use Rattle.gt_host.specs.Playing.{StartsFor, setting_of_script}
-use Rattle.gt_host.specs.Rights.{may_by, may_in}
+use Rattle.gt_host.specs.Rights.{may_by}
 use Rattle.gt_replay.specs.Orders.{FollowsList}
 use Rattle.gt_replay.specs.Walking.{HaveOwnIds, Continues, HasWalked, HasFollowed, StartsWalk, tasks_left_of}
 use Rattle.gt_replay.specs.declared.replay.Replay.{Replay}
 use Rattle.gt_replay.specs.declared.walker.Doing.{Doing}
 use Rattle.gt_replay.specs.declared.walker.Walker.{Walker}
-
--- domains without a fault, at least one of them, and a generation within the limit
-pub no_fault : (c : Config) (f : ConfigFault) → AreFaultless c.domains.items → 1 ≤ length c.domains.items → c.first_gen ≤ LAST_GENERATION → IsFirstFault c f → ⊥
-no_fault c f faultless some first (inl (is, none)) = let e = ap length none in omega arith
-no_fault c f faultless some first (inr (inl d)) = none-some f (sym (faultless.each d.at d.domain d.there) ∙ d.here)
-no_fault c f faultless some first (inr (inr (is, nonempty, all, late))) = omega arith
-
-same_setting : (a b : Config) (x y : Rights) → a ≡ b → x ≡ y → setting_of a (may_by x) ≡ setting_of b (may_by y)
-same_setting a b x y e f = ap (λ (c : Config). setting_of c (may_by x)) e ∙ ap (λ (r : Rights). setting_of b (may_by r)) f
-
--- a core that was made with the domains and the rights of a script
-pub starts_for : (c : Contents) (core : CoreModel Rights) (config : Config) (rights : Rights) → core.config ≡ config → core.rights ≡ rights → CoreStands (setting_of config (may_by rights)) [] core.state
-    → config.domains.items ≡ c.domains → config.first_gen ≡ first_gen c → may_by rights ≡ may_in c → StartsFor c core
-starts_for c core config rights same_config same_rights stands domains generation may = record {
-  domains = ap (λ (k : Config). k.domains.items) same_config ∙ domains;
-  generation = ap (λ (k : Config). k.first_gen) same_config ∙ generation;
-  rights = ap may_by same_rights ∙ may;
-  stands = subst (λ (s : Setting). CoreStands s [] core.state) (sym (same_setting core.config config core.rights rights same_config same_rights)) stands;
-}
-
-pub apart_in : (c : Contents) (config : Config) → IsWithinLimits config → config.domains.items ≡ c.domains → HaveOwnIds c.domains
-apart_in c config fits domains = subst HaveOwnIds domains fits.distinct
 
 -- the setting of such a core is that of the script
 pub setting_is : (c : Contents) (core : CoreModel Rights) → StartsFor c core → setting_in may_by core ≡ setting_of_script c

@@ -1,24 +1,23 @@
 //! One order of a script's run, move by move.
-ghost use Rattle.std.specs.Prelude.{◌≡◌, ◌<◌, ℕ, true, false, List, length, map, All, IfOk, IfSome, IsOk, IsTrue};
+ghost use Rattle.std.specs.Prelude.{◌≡◌, ◌<◌, ℕ, true, false, List, length, map, All, IfOk, IfSome, IsTrue};
 ghost use Rattle.std.specs.Prelude.{IfErr, slice_set, get_or};
 ghost use Rattle.std.specs.Option.{IsSomeAnd};
 ghost use Rattle.gt_script.specs.Contents.{contents_told};
 ghost use Rattle.gt_script.specs.RunContents.{run_told};
 ghost use Rattle.gt_script.specs.RunScripts.{CanConfigure};
 ghost use Rattle.gt_script.specs.Stuck.{AreNumbered};
-ghost use Rattle.gt_host.specs.Playing.{StartsFor};
 ghost use Rattle.gt_replay.specs.Courses.{IsTurnedBy};
 ghost use Rattle.gt_replay.specs.Orders.{Happening, MayGive};
-ghost use Rattle.gt_replay.specs.Walking.{HaveOwnIds, StartsWalk};
+ghost use Rattle.gt_replay.specs.Walking.{StartsWalk};
 ghost use Rattle.gt_replay.specs.declared.fault.ReplayFault.TheVariants as faults;
 
 use crate::fault::ReplayFault;
 use crate::walker::Walker;
 use gt_core::{Core, Seen, Step};
-use gt_host::Rights;
+use gt_host::{Rights, core_of};
 use gt_lines::Text;
-use gt_script::{Deed, RunScript, Script};
-use gt_types::{Config, DomainConfig, StartFault};
+use gt_script::{Deed, RunScript};
+use gt_types::DomainConfig;
 use std::alloc::{AllocError, Global};
 
 /// What a move did.
@@ -65,25 +64,6 @@ fn walkers_of<'s, 'a>(
         walkers.push(Walker::new(alloc, domain.id, tasks))?;
     }
     Ok(walkers)
-}
-
-// A core with the domains and the rights of a script.
-fn start(alloc: Global, script: &Script) -> Result<Core<Rights>, ReplayFault>
-    requires { CanConfigure (contents_told script.now) }
-    ensures starts { IfOk result (StartsFor (contents_told script.now)) }
-    ensures apart { IsOk result → HaveOwnIds (contents_told script.now).domains }
-    ensures memory { IfErr result (λ f. f ≡ faults.Memory) }
-{
-    let config = Config {
-        domains: Vec::from_slice(alloc, script.domains())?,
-        first_gen: script.first_gen(),
-    };
-    let rights = Rights::of(alloc, script)?;
-    match Core::new(alloc, config, rights) {
-        Ok(core) => Ok(core),
-        Err(StartFault::Memory) => Err(ReplayFault::Memory),
-        Err(StartFault::Config(_)) => unreachable!(),
-    }
 }
 
 // So many flags, of which none is raised.
@@ -144,7 +124,7 @@ impl<'s, 'a> Replay<'s, 'a> {
         let walkers = walkers_of(alloc, script, head.domains())?;
         let told = no_flags(alloc, script.flags())?;
         let types = head.type_names(alloc)?;
-        let core = start(alloc, head)?;
+        let core = core_of(alloc, head)?;
         Ok(Replay {
             alloc,
             core,

@@ -19,13 +19,13 @@ use Rattle.gt_core.proofs.{Steps.Observers.grown-count, Steps.Observers.exchange
 use Rattle.gt_core.proofs.{Steps.Observers.exchanged-live}
 use Rattle.gt_calls.specs.Rules.{entry_in, own_generation}
 use Rattle.gt_entry.specs.Changes.{changed_entry}
-use Rattle.gt_world.specs.Counts.{counts_after}
+use Rattle.gt_core.specs.Effects.{slot_after}
 use Rattle.gt_world.specs.Rows.{counts_in}
 use Rattle.gt_world.specs.Shows.{CountsShow, IsItemOf, IsSettingOf, LosesOne, StepFits, TableShows, TablesShow, unheld}
 use Rattle.gt_world.specs.Tables.{CountsChangeOf, HeaderStored, OneBecomes, OwnChangeOf, TablesAfter, place_of_domain}
-use Rattle.gt_world.specs.declared.counts.Counts.{Counts}
-use Rattle.gt_world.specs.declared.counts.CountsChange.{CountsChange}
-use Rattle.gt_world.specs.declared.counts.CountsChange.TheVariants.{Pinned, Unpinned, Stored}
+use Rattle.gt_core.specs.declared.pin_counts.PinCounts.{PinCounts}
+use Rattle.gt_core.specs.declared.pin_counts.CountsChange.{CountsChange}
+use Rattle.gt_core.specs.declared.pin_counts.CountsChange.TheVariants.{Pinned, Unpinned, Stored}
 use Rattle.gt_world.specs.declared.table.Table.{Table}
 use Rattle.gt_world.proofs.Becoming.{placed, numbered}
 use Rattle.std.specs.Prelude.{AllPairs}
@@ -34,18 +34,18 @@ use Rattle.std.specs.Prelude.{AllPairs}
 
 -- the counts of each entry, where those of entry r of domain t change so
 abbrev Moves : History → History → ℕ → ℕ → CountsChange → Type 0
-Moves h new t r change = (u q : ℕ) (c : Counts) → CountsShow h u q c → CountsShow new u q (cond ((t == u) && (r == q)) (counts_after change c) c)
+Moves h new t r change = (u q : ℕ) (c : PinCounts) → CountsShow h u q c → CountsShow new u q (cond ((t == u) && (r == q)) (slot_after change c) c)
 
-counted-up : (h new : History) (u q : ℕ) (dir : Dir) (b : Bool) (c : Counts) → CountsShow h u q c → ((which : Half) → body_at new u q which ≡ body_at h u q which)
+counted-up : (h new : History) (u q : ℕ) (dir : Dir) (b : Bool) (c : PinCounts) → CountsShow h u q c → ((which : Half) → body_at new u q which ≡ body_at h u q which)
     → ((k : Dir) → pins_at new u q k ≡ pins_at h u q k + cond (b && same_dir dir k) 1 0) → ((k : Dir) → (b && same_dir dir k) ≡ true → pins_at h u q k < MAX_PINS)
-    → CountsShow new u q (cond b (counts_after (Pinned dir) c) c)
+    → CountsShow new u q (cond b (slot_after (Pinned dir) c) c)
 counted-up h new u q dir b c a body now few = grind (arith, now Read, now Write, few Read, few Write, body FirstHalf, body SecondHalf)
 
-counted-down : (h new : History) (u q : ℕ) (dir : Dir) (b : Bool) (c : Counts) → CountsShow h u q c → ((which : Half) → body_at new u q which ≡ body_at h u q which)
-    → ((k : Dir) → pins_at h u q k ≡ cond (b && same_dir dir k) 1 0 + pins_at new u q k) → CountsShow new u q (cond b (counts_after (Unpinned dir) c) c)
+counted-down : (h new : History) (u q : ℕ) (dir : Dir) (b : Bool) (c : PinCounts) → CountsShow h u q c → ((which : Half) → body_at new u q which ≡ body_at h u q which)
+    → ((k : Dir) → pins_at h u q k ≡ cond (b && same_dir dir k) 1 0 + pins_at new u q k) → CountsShow new u q (cond b (slot_after (Unpinned dir) c) c)
 counted-down h new u q dir b c a body now = grind (arith, now Read, now Write, body FirstHalf, body SecondHalf)
 
-counts-kept : (h new : History) (u q : ℕ) (c : Counts) → ((which : Half) → body_at new u q which ≡ body_at h u q which) → live new ≡ live h → CountsShow h u q c → CountsShow new u q c
+counts-kept : (h new : History) (u q : ℕ) (c : PinCounts) → ((which : Half) → body_at new u q which ≡ body_at h u q which) → live new ≡ live h → CountsShow h u q c → CountsShow new u q c
 counts-kept h new u q c body same a = record {
   reads = a.reads ∙ ap (λ ps. count_by (is_pin_on u q Read) ps) (sym same);
   writes = a.writes ∙ ap (λ ps. count_by (is_pin_on u q Write) ps) (sym same);
@@ -91,7 +91,7 @@ module _ (s : Setting) (c-apart : AllPairs (λ d e. d.id.0 ≢ e.id.0) s.domains
   counts-shown : (i : Item) (place : Option ℕ) (t r : ℕ) (change : CountsChange) → place ≡ place_of_domain s.domains t → KeepsTables i → Moves h (i ∷ h) t r change → OneBecomes place (CountsChangeOf r change) old new → TablesShow s (i ∷ h) new
   counts-shown i place t r change is keeps moves becomes = record { many = becomes.many ∙ shows.many; each = λ k d x at here. by k d x at (becomes.each k x here) } where
     shown : (d : DomainConfig) (y x : Table) → TableShows s h d.id y → x.header ≡ y.header → x.own.items ≡ y.own.items
-        → ((q : ℕ) → counts_in x.counts.items q ≡ cond ((t == d.id.0) && (r == q)) (counts_after change (counts_in y.counts.items q)) (counts_in y.counts.items q)) → TableShows s (i ∷ h) d.id x
+        → ((q : ℕ) → counts_in x.counts.items q ≡ cond ((t == d.id.0) && (r == q)) (slot_after change (counts_in y.counts.items q)) (counts_in y.counts.items q)) → TableShows s (i ∷ h) d.id x
     shown d y x a header own counts = record {
       header = header ∙ a.header ∙ sym (kept-table s i h d.id keeps.header);
       entries = λ q. ap (λ l. entry_in l q) own ∙ a.entries q ∙ sym (kept-entry i h d.id.0 q keeps.changes);
@@ -102,17 +102,17 @@ module _ (s : Setting) (c-apart : AllPairs (λ d e. d.id.0 ≢ e.id.0) s.domains
     by : (k : ℕ) (d : DomainConfig) (x : Table) → slice_get s.domains k ≡ Some d → (y : Table) × (slice_get old k ≡ Some y) × (place ≡ Some k → CountsChangeOf r change y x) × (place ≢ Some k → x ≡ y) → TableShows s (i ∷ h) d.id x
     by k d x at (y, was, here, there) = cases (t == d.id.0) refl where
       counts : (b : Bool) → (q : ℕ) → CountsChangeOf r change y x → (r == q) ≡ b
-          → cond b (counts_after change (counts_in y.counts.items r)) (counts_in y.counts.items q) ≡ cond b (counts_after change (counts_in y.counts.items q)) (counts_in y.counts.items q)
-      counts true q z e = ap (λ (n : ℕ). counts_after change (counts_in y.counts.items n)) (eqb-true r q e)
+          → cond b (slot_after change (counts_in y.counts.items r)) (counts_in y.counts.items q) ≡ cond b (slot_after change (counts_in y.counts.items q)) (counts_in y.counts.items q)
+      counts true q z e = ap (λ (n : ℕ). slot_after change (counts_in y.counts.items n)) (eqb-true r q e)
       counts false q z e = refl
 
       cases : (b : Bool) → (t == d.id.0) ≡ b → TableShows s (i ∷ h) d.id x
       cases true e = let z = here (is ∙ ap (place_of_domain s.domains) (eqb-true t d.id.0 e) ∙ placed s.domains c-apart k d at) in
           shown d y x (shows.each k d y at was) z.header z.own
-          (λ q. z.counts q ∙ counts (r == q) q z refl ∙ ap (λ (b : Bool). cond (b && (r == q)) (counts_after change (counts_in y.counts.items q)) (counts_in y.counts.items q)) (sym e))
+          (λ q. z.counts q ∙ counts (r == q) q z refl ∙ ap (λ (b : Bool). cond (b && (r == q)) (slot_after change (counts_in y.counts.items q)) (counts_in y.counts.items q)) (sym e))
       cases false e = let same = there (λ f. false≢true (sym e ∙ eq-eqb t d.id.0 (sym (numbered s.domains t k d (sym is ∙ f) at)))) in
           shown d y x (shows.each k d y at was) (ap (λ (z : Table). z.header) same) (ap (λ (z : Table). z.own.items) same)
-          (λ q. ap (λ (z : Table). counts_in z.counts.items q) same ∙ ap (λ (b : Bool). cond (b && (r == q)) (counts_after change (counts_in y.counts.items q)) (counts_in y.counts.items q)) (sym e))
+          (λ q. ap (λ (z : Table). counts_in z.counts.items q) same ∙ ap (λ (b : Bool). cond (b && (r == q)) (slot_after change (counts_in y.counts.items q)) (counts_in y.counts.items q)) (sym e))
 
   -- nothing of the tables changes
   kept-shown : (i : Item) → KeepsTables i → live (i ∷ h) ≡ live h → ((u q : ℕ) (which : Half) → body_at (i ∷ h) u q which ≡ body_at h u q which) → new ≡ old → TablesShow s (i ∷ h) new

@@ -1,6 +1,4 @@
 pub mod Copies
-pub mod Counts
-pub mod CountsRow
 pub mod Likeness
 pub mod Pages
 pub mod Rows

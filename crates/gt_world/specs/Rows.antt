@@ -1,5 +1,5 @@
 -- The rows of a domain's entries, of which there are only as many as were touched.
-use Rattle.std.specs.Prelude.{◌≡◌, ◌==◌, ◌+◌, ℕ, List, slice_index_or, if◌then◌else◌, min}
+use Rattle.std.specs.Prelude.{◌≡◌, ◌==◌, ◌+◌, ℕ, List, Some, slice_index_or, if◌then◌else◌, min}
 use Rattle.gt_types.specs.declared.limits.TheConstants.{LAST_GENERATION}
 use Rattle.gt_entry.specs.declared.change.Change.{Change}
 use Rattle.gt_entry.specs.Changes.{changed_entry, raise_of}
@@ -7,22 +7,26 @@ use Rattle.gt_entry.specs.Words.{control_word}
 use Rattle.gt_entry.specs.Spelling.{control_with}
 use Rattle.gt_calls.specs.declared.known.Own.{Own}
 use Rattle.gt_calls.specs.Rules.{entry_in, own_generation}
+use Rattle.gt_core.specs.Sight.{slot_body}
 use Rattle.gt_entry.specs.declared.change.Half.{Half}
-use Rattle.gt_world.specs.Counts.{no_counts, body_of}
-use Rattle.gt_world.specs.declared.counts.Counts.{Counts}
+use Rattle.gt_core.specs.declared.pin_counts.PinCounts.{PinCounts}
+
+-- no pins, and body words of zero
+abbrev pub no_counts : PinCounts
+no_counts = record { reads = 0; writes = 0; first = 0; second = 0 }
 
 -- the counts of entry r
-abbrev pub counts_in : List Counts → ℕ → Counts
+abbrev pub counts_in : List PinCounts → ℕ → PinCounts
 counts_in counts r = slice_index_or counts r no_counts
 
 -- the control word of entry r
-abbrev pub word_in : ℕ → List Own → List Counts → ℕ → ℕ
+abbrev pub word_in : ℕ → List Own → List PinCounts → ℕ → ℕ
 word_in first own counts r =
     control_word
     (control_with (entry_in own r) (own_generation first own r) (counts_in counts r).reads (counts_in counts r).writes)
 
 -- the counts of each entry after entry at has these
-abbrev pub CountsBecome : List Counts → List Counts → ℕ → Counts → Type 0
+abbrev pub CountsBecome : List PinCounts → List PinCounts → ℕ → PinCounts → Type 0
 CountsBecome old new at c = (r : ℕ) → counts_in new r ≡ (if at == r then c else counts_in old r)
 
 -- what the owner knows of each entry after it changes entry at
@@ -33,5 +37,5 @@ pub record OwnBecomes (first : ℕ) (old new : List Own) (at : ℕ) (change : Ch
       else own_generation first old r)
 
 -- a body word of entry r
-abbrev pub body_in : List Counts → ℕ → Half → ℕ
-body_in counts r half = body_of half (counts_in counts r)
+abbrev pub body_in : List PinCounts → ℕ → Half → ℕ
+body_in counts r half = slot_body (Some (counts_in counts r)) half

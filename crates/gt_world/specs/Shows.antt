@@ -28,7 +28,7 @@ use Rattle.gt_core.specs.History.{History, Setting, Pin, live, without, is_pin_o
 use Rattle.gt_core.specs.History.{body_at, table_at, reads_at, writes_at, contents_at, given_in, open_call}
 use Rattle.gt_world.specs.Pages.{page_contents}
 use Rattle.gt_world.specs.Rows.{counts_in}
-use Rattle.gt_world.specs.declared.counts.Counts.{Counts}
+use Rattle.gt_core.specs.declared.pin_counts.PinCounts.{PinCounts}
 use Rattle.gt_world.specs.declared.pages.Page.{Page}
 use Rattle.gt_world.specs.declared.table.Table.{Table}
 
@@ -39,7 +39,7 @@ pub record IsSettingOf (c : Config) (s : Setting) : Type 0 where
   pub apart : AllPairs (λ d e. d.id.0 ≢ e.id.0) s.domains
 
 -- the counts are those of entry r of domain t after these items: its live pins and its body words
-pub record CountsShow (h : History) (t r : ℕ) (c : Counts) : Type 0 where
+pub record CountsShow (h : History) (t r : ℕ) (c : PinCounts) : Type 0 where
   pub reads : c.reads ≡ reads_at h t r
   pub writes : c.writes ≡ writes_at h t r
   pub first : c.first ≡ body_at h t r FirstHalf

@@ -14,10 +14,10 @@ use Rattle.gt_calls.specs.declared.action.Step.TheVariants.{Write as WriteBytes,
 use Rattle.gt_calls.specs.declared.action.Seen.{Seen}
 use Rattle.gt_calls.specs.declared.action.Seen.TheVariants.{Nothing, Word, Taken}
 use Rattle.gt_core.specs.History.{exchange_sees}
-use Rattle.gt_world.specs.Counts.{counts_after}
+use Rattle.gt_core.specs.Effects.{slot_after}
 use Rattle.gt_world.specs.Rows.{counts_in, word_in, body_in, CountsBecome, OwnBecomes}
-use Rattle.gt_world.specs.declared.counts.CountsChange.{CountsChange}
-use Rattle.gt_world.specs.declared.counts.CountsChange.TheVariants.{Pinned, Unpinned, Stored}
+use Rattle.gt_core.specs.declared.pin_counts.CountsChange.{CountsChange}
+use Rattle.gt_core.specs.declared.pin_counts.CountsChange.TheVariants.{Pinned, Unpinned, Stored}
 use Rattle.gt_world.specs.declared.table.Table.{Table}
 
 -- both tables have the same header and rows
@@ -30,7 +30,7 @@ pub record SameTable (one other : Table) : Type 0 where
 pub record CountsChangeOf (r : ℕ) (change : CountsChange) (old new : Table) : Type 0 where
   pub header : new.header ≡ old.header
   pub own : new.own.items ≡ old.own.items
-  pub counts : CountsBecome old.counts.items new.counts.items r (counts_after change (counts_in old.counts.items r))
+  pub counts : CountsBecome old.counts.items new.counts.items r (slot_after change (counts_in old.counts.items r))
 
 -- the owner changes one entry, and nothing else
 pub record OwnChangeOf (first r : ℕ) (change : Change) (old new : Table) : Type 0 where

@@ -2,9 +2,9 @@
 ghost use Rattle.std.specs.Prelude.{◌≡◌, OnOk, length};
 ghost use Rattle.gt_world.specs.Tables.{among, CountsChangeOf, HeaderStored, OneBecomes, OwnChangeOf, TablesAfter};
 
-use crate::counts::CountsChange;
 use crate::table::Table;
 use gt_calls::{Change, Seen, Step};
+use gt_core::CountsChange;
 use gt_positions::Roster;
 use gt_types::GrantRef;
 use std::alloc::AllocError;

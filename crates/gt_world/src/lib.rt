@@ -7,7 +7,6 @@
 #![tactic(auto)]
 
 mod copies;
-mod counts;
 mod effects;
 mod ground;
 mod laws;
@@ -19,7 +18,6 @@ mod sight;
 mod table;
 mod writing;
 
-pub use counts::{Counts, CountsChange};
 pub use ground::Ground;
 pub use laws::{
     every_beginning_changes_nothing, every_like_run_goes_on, every_like_run_starts,

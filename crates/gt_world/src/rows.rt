@@ -2,36 +2,43 @@
 ghost use Rattle.std.specs.Prelude.{◌≡◌, OnOk};
 ghost use Rattle.gt_world.specs.Rows.{counts_in, word_in, CountsBecome, OwnBecomes};
 
-use crate::counts::Counts;
 use crate::lists::put;
 use gt_calls::{Change, Own, own_at};
+use gt_core::PinCounts;
+use gt_entry::Control;
 use gt_types::GrantRef;
 use std::alloc::AllocError;
 
 /// The counts of an entry.
-pub fn counts_at(counts: &[Counts], gref: GrantRef) -> Counts
+pub fn counts_at(counts: &[PinCounts], gref: GrantRef) -> PinCounts
     ensures { result ≡ counts_in counts.now gref.0 }
 {
     let at = gref.0 as usize;
     if at < counts.len() {
         counts[at]
     } else {
-        Counts::new()
+        PinCounts::new()
     }
 }
 
 /// The control word of an entry.
-pub fn word_at(own: &[Own], counts: &[Counts], first_gen: u32, gref: GrantRef) -> u64
+pub fn word_at(own: &[Own], counts: &[PinCounts], first_gen: u32, gref: GrantRef) -> u64
     ensures { result ≡ word_in first_gen own.now counts.now gref.0 }
 {
-    counts_at(counts, gref).word(own_at(own, first_gen, gref))
+    let row = own_at(own, first_gen, gref);
+    let pins = counts_at(counts, gref);
+    Control::of_entry(row.entry(), row.generation(), pins.reads(), pins.writes()).pack()
 }
 
 /// An entry has these counts from now on.
-pub fn set_counts(counts: &mut Vec<Counts>, gref: GrantRef, new: Counts) -> Result<(), AllocError>
+pub fn set_counts(
+    counts: &mut Vec<PinCounts>,
+    gref: GrantRef,
+    new: PinCounts,
+) -> Result<(), AllocError>
     ensures { OnOk result (CountsBecome counts.old.items counts.new.items gref.0 new) }
 {
-    put(counts, gref.0 as usize, new, Counts::new())
+    put(counts, gref.0 as usize, new, PinCounts::new())
 }
 
 /// Its owner changes an entry.

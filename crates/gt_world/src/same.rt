@@ -3,10 +3,10 @@ ghost use Rattle.std.specs.Prelude.{◌≡◌, IsTrue};
 ghost use Rattle.gt_world.specs.Copies.{SamePage, SamePages, SameTables};
 ghost use Rattle.gt_world.specs.Tables.{SameTable};
 
-use crate::counts::Counts;
 use crate::pages::Page;
 use crate::table::Table;
-use gt_calls::Own;
+use gt_calls::{Half, Own};
+use gt_core::PinCounts;
 
 fn same_row(one: Own, other: Own) -> bool
     ensures { IsTrue result → other ≡ one }
@@ -28,14 +28,23 @@ fn same_own(one: &[Own], other: &[Own]) -> bool
     true
 }
 
-fn same_counts(one: &[Counts], other: &[Counts]) -> bool
+fn same_pins(one: PinCounts, other: PinCounts) -> bool
+    ensures { IsTrue result → other ≡ one }
+{
+    one.reads() == other.reads()
+        && one.writes() == other.writes()
+        && one.body(Half::First) == other.body(Half::First)
+        && one.body(Half::Second) == other.body(Half::Second)
+}
+
+fn same_counts(one: &[PinCounts], other: &[PinCounts]) -> bool
     ensures { IsTrue result → other.now ≡ one.now }
 {
     if one.len() != other.len() {
         return false;
     }
     'rows: for at in 0..one.len() {
-        if !one[at].is_same(other[at]) {
+        if !same_pins(one[at], other[at]) {
             return false;
         }
     }

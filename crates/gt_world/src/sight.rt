@@ -1,11 +1,11 @@
 //! What steps see.
 ghost use Rattle.std.specs.Prelude.{◌≡◌};
 ghost use Rattle.std.specs.Option.{option_copied};
-ghost use Rattle.gt_core.specs.History.{exchange_sees};
 ghost use Rattle.gt_world.specs.Tables.{table_in, header_seen, word_seen, body_seen, sees};
 
 use crate::table::Table;
 use gt_calls::{Half, Seen, Step};
+use gt_core::exchange_sees;
 use gt_positions::Roster;
 use gt_types::{DomId, GrantRef};
 
@@ -47,16 +47,6 @@ fn look_body(config: &Roster, tables: &[Table], dom: DomId, gref: GrantRef, half
     }
 }
 
-fn exchange(word: u64, looked: u64) -> Seen
-    ensures { result ≡ exchange_sees word looked }
-{
-    if word == looked {
-        Seen::Taken
-    } else {
-        Seen::Missed(word)
-    }
-}
-
 /// What a step of the domain sees.
 pub fn see_in(config: &Roster, tables: &[Table], actor: DomId, step: Step) -> Seen
     ensures { result ≡ sees config.now.domains.items config.now.first_gen tables.now actor step }
@@ -67,18 +57,13 @@ pub fn see_in(config: &Roster, tables: &[Table], actor: DomId, step: Step) -> Se
         Step::LookBody { dom, gref, half } => {
             Seen::Word(look_body(config, tables, dom, gref, half))
         }
-        Step::Pin { held } => exchange(
+        Step::Pin { held } => exchange_sees(
             look_control(config, tables, held.dom, held.gref),
             held.word,
         ),
         Step::Exchange { gref, looked, .. } => {
-            exchange(look_control(config, tables, actor, gref), looked)
+            exchange_sees(look_control(config, tables, actor, gref), looked)
         }
-        Step::Unpin { .. }
-        | Step::StoreBody { .. }
-        | Step::StoreHeader { .. }
-        | Step::Read { .. }
-        | Step::Write { .. }
-        | Step::Copy { .. } => Seen::Nothing,
+        _ => Seen::Nothing,
     }
 }

@@ -2,9 +2,9 @@
 ghost use Rattle.std.specs.Prelude.{◌≡◌};
 ghost use Rattle.gt_entry.specs.Words.{header_word};
 
-use crate::counts::{Counts, CountsChange};
 use crate::rows::{change_own, counts_at, set_counts, word_at};
 use gt_calls::{Change, Half, Own};
+use gt_core::{CountsChange, PinCounts};
 use gt_entry::Header;
 use gt_types::GrantRef;
 use std::alloc::{AllocError, Global};
@@ -14,7 +14,7 @@ use std::alloc::{AllocError, Global};
 pub struct Table {
     pub header: Header,
     pub own: Vec<Own>,
-    pub counts: Vec<Counts>,
+    pub counts: Vec<PinCounts>,
 }
 
 // The word of a header.

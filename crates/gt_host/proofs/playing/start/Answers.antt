@@ -1,9 +1,0 @@
-use Rattle.std.proofs.Common.{◌∙◌}
-use Rattle.gt_script.specs.Contents.{contents_told}
-use Rattle.gt_host.proofs.StartLemmas.{starts_for}
-use Rattle.gt_host.proofs.playing.start.Goals as goal
-
-pub returns-in-Ok-clause-starts : goal.returns-in-Ok-clause-starts
-returns-in-Ok-clause-starts c =
-    starts_for (contents_told c.args.script.now) c.in-Ok.core _ _ c.in-Ok.ensures.config c.in-Ok.ensures.rights c.in-Ok.ensures.stands
-    (c.in_ok-from_slice.ensures.items ∙ c.domains.ensures) c.first_gen.ensures c.in_ok-rights.ensures
