@@ -1,6 +1,5 @@
 -- From what was read to what was written.
-use Rattle.std.proofs.Common.{◌≡◌, ℕ, Bool, List, All, IfOk, map, Option, None, Result, Ok, Err, sym, subst}
-use Rattle.std.proofs.lemmas.List.Elements.{All-map}
+use Rattle.std.proofs.Common.{◌≡◌, ℕ, Bool, List, IfOk, Option, None, Result, Ok, Err, sym, subst}
 use Rattle.gt_host.specs.Faults.{fault_of, read_fault}
 use Rattle.gt_host.specs.declared.fault.PlayFault.{PlayFault}
 use Rattle.gt_host.specs.declared.fault.PlayFault.TheVariants as plays
@@ -13,23 +12,20 @@ use Rattle.gt_streams.specs.Laws.{keeps_same, of_any_input}
 use Rattle.gt_streams.specs.Streams.{OfInput}
 use Rattle.gt_streams.specs.declared.fault.ReadFault.{ReadFault}
 use Rattle.gt_streams.specs.declared.fault.ReadFault.TheVariants as reads
-use Rattle.gt_replay.specs.Orders.{MayGive}
-use Rattle.gt_explore.specs.Exploring.{Explored, Explores, IsMadeBy}
+use Rattle.gt_explore.specs.Exploring.{AreTextsOf, Explored, Explores, IsMadeBy}
 use Rattle.gt_explore.specs.Telling.{texts_told as told_of}
 use Rattle.gt_explore.specs.declared.exploring.Made.{Made}
 use Rattle.gt_explore.specs.declared.fault.TextsFault.{TextsFault}
-use Rattle.gt_explore.specs.declared.texts.Given.{Given}
 use Rattle.gt_explore.specs.declared.exploring.Asked.{Asked}
 use Rattle.gt_explore.specs.declared.fault.ExploreFault.{ExploreFault}
 use Rattle.gt_explore.specs.declared.fault.ExploreFault.TheVariants.{Play, Texts}
 
 -- the texts of a script are told
-pub made_texts : (c : RunContents) (witness : Option ℕ) (find : Option (List ℕ)) (texts : List Given) (states : ℕ) (r : Result Made TextsFault) → witness ≡ None
-    → All (λ given. MayGive c given.text.items) texts → IfOk r (λ made. made.text.items ≡ told_of find states (map (λ given. given.text.items) texts))
-    → IfOk r (λ made. IsMadeBy c witness find made.text.items)
-made_texts c witness find texts states (Ok made) is may told =
-    subst (λ (w : Option ℕ). IsMadeBy c w find made.text.items) (sym is) (map (λ given. given.text.items) texts, states, All-map (MayGive c) (λ given. given.text.items) texts may, told)
-made_texts c witness find texts states (Err fault) is may told = tt
+pub made_texts : (c : RunContents) (witness : Option ℕ) (find : Option (List ℕ)) (texts : List (List ℕ)) (states : ℕ) (r : Result Made TextsFault) → witness ≡ None
+    → AreTextsOf c texts → IfOk r (λ made. made.text.items ≡ told_of find states texts) → IfOk r (λ made. IsMadeBy c witness find made.text.items)
+made_texts c witness find texts states (Ok made) is are told =
+    subst (λ (w : Option ℕ). IsMadeBy c w find made.text.items) (sym is) (texts, states, are, told)
+made_texts c witness find texts states (Err fault) is are told = tt
 
 -- a script was explored
 pub explored_script : (asked : Asked) (Told : Result RunContents Wrong → Type 0) (c : RunContents) (r : Result Bool ExploreFault) (old new : Option (List ℕ)) → Told (Ok c)

@@ -8,6 +8,7 @@ use Rattle.gt_script.specs.Script.{Wrong, in_script, in_policy}
 use Rattle.gt_streams.specs.Streams.{AppendsBeginning}
 use Rattle.gt_host.specs.declared.fault.PlayFault.TheVariants.{Memory, Read, Write, Script, Policy}
 use Rattle.gt_replay.specs.Orders.{MayGive}
+use Rattle.gt_explore.specs.Adding.{AreApart, IsAmong}
 use Rattle.gt_explore.specs.Telling.{texts_told}
 use Rattle.gt_explore.specs.declared.exploring.Asked.{Asked}
 use Rattle.gt_explore.specs.declared.fault.ExploreFault.{ExploreFault}
@@ -17,10 +18,16 @@ use Rattle.gt_explore.specs.declared.fault.ExploreFault.TheVariants.{Play, Texts
 abbrev pub word_asked : Asked → Option (List ℕ)
 word_asked asked = option_map (λ word. word.now) asked.find
 
--- what is to be written of a script: texts that it may give, each under its number. Of a witness nothing is claimed
+-- these are the texts that a script may give: each of them, all of them, and each once
+pub record AreTextsOf (c : RunContents) (texts : List (List ℕ)) : Type 0 where
+  pub possible : All (MayGive c) texts
+  pub whole : (text : List ℕ) → MayGive c text → IsAmong text texts
+  pub apart : AreApart texts
+
+-- what is to be written of a script: the texts that it may give, each under its number. Of a witness nothing is claimed
 abbrev pub IsMadeBy : RunContents → Option ℕ → Option (List ℕ) → List ℕ → Type 0
 IsMadeBy c None find text =
-    (texts : List (List ℕ)) × (states : ℕ) × All (MayGive c) texts × (text ≡ texts_told find states texts)
+    (texts : List (List ℕ)) × (states : ℕ) × AreTextsOf c texts × (text ≡ texts_told find states texts)
 IsMadeBy c (Some number) find text = Unit {0}
 
 abbrev pub IsMade : RunContents → Asked → List ℕ → Type 0

@@ -1,10 +1,12 @@
 //! The command `explore`.
-ghost use Rattle.std.specs.Prelude.{◌≡◌, ℕ, List, IfOk, take, map};
+ghost use Rattle.std.specs.Prelude.{◌≡◌, ℕ, List, IfOk, take};
 ghost use Rattle.gt_script.specs.Contents.{contents_told};
 ghost use Rattle.gt_script.specs.RunContents.{run_told};
 ghost use Rattle.gt_script.specs.RunScripts.{CanConfigure, RunTells};
 ghost use Rattle.gt_streams.specs.Streams.{ConsumesAtMost, OfInput};
 ghost use Rattle.gt_streams.specs.declared.streams.TheConstants.{READ_LIMIT};
+ghost use Rattle.gt_script.specs.Stuck.{AreNumbered};
+ghost use Rattle.gt_explore.specs.Adding.{texts_in};
 ghost use Rattle.gt_explore.specs.Exploring.{Explored, Explores, IsMade, word_asked};
 ghost use Rattle.gt_explore.specs.Telling.{texts_told as told_of};
 
@@ -37,7 +39,7 @@ struct Made {
 // The texts that are asked for.
 fn texts_made(alloc: Global, asked: &Asked, all: &Texts) -> Result<Made, TextsFault>
     ensures { IfOk result (λ made. made.text.items
-        ≡ told_of (word_asked asked.now) all.now.states (map (λ given. given.text.items) all.now.texts.items)) }
+        ≡ told_of (word_asked asked.now) all.now.states (texts_in all.now.texts.items)) }
 {
     let mut text = Vec::new(alloc);
     let is_any = push_told(&mut text, asked.find, all.states, all.texts.as_slice())?;
@@ -67,7 +69,8 @@ fn witness_made(
 
 // What is to be written of a script.
 fn make(alloc: Global, asked: &Asked, source: &[u8], script: &RunScript) -> Result<Made, TextsFault>
-    requires { CanConfigure (contents_told script.now.head) }
+    requires fits { CanConfigure (contents_told script.now.head) }
+    requires numbered { AreNumbered script.now.flags script.now.tasks }
     ensures { IfOk result (λ made. IsMade (run_told script.now) asked.now made.text.items) }
 {
     let all = texts_of(alloc, script, asked.states)?;
@@ -85,7 +88,8 @@ fn explore_script<W: Write>(
     script: &RunScript,
     writer: &mut W,
 ) -> Result<bool, ExploreFault>
-    requires { CanConfigure (contents_told script.now.head) }
+    requires fits { CanConfigure (contents_told script.now.head) }
+    requires numbered { AreNumbered script.now.flags script.now.tasks }
     ensures { Explores (run_told script.now) asked.now (W.contents writer.old) (W.contents writer.new) result }
 {
     match make(alloc, asked, source, script) {

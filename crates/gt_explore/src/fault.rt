@@ -1,8 +1,8 @@
 //! Why a script was not explored.
 use gt_host::PlayFault;
 use gt_replay::ReplayFault;
-use gt_search::SearchFault;
 use gt_types::DomId;
+use gt_ways::SearchFault;
 use std::alloc::{AllocError, AllocFailed};
 use std::error::Error;
 use std::fmt;
@@ -16,7 +16,7 @@ pub enum TextsFault {
     States,
     /// In some order this domain comes to its end with a mapping that the policy does not let it unmap.
     Keeps(DomId),
-    /// The search found an order that the core does not follow.
+    /// The search found an order that the core does not follow to its text, or a run that came back to a state.
     Astray,
     /// No text has the number of the witness.
     Witness,
@@ -61,6 +61,7 @@ impl From<SearchFault> for TextsFault {
         match error {
             SearchFault::Memory => TextsFault::Memory,
             SearchFault::States => TextsFault::States,
+            SearchFault::Circle => TextsFault::Astray,
             SearchFault::Keeps(dom) => TextsFault::Keeps(dom),
         }
     }

@@ -3,8 +3,8 @@
 //! `texts_of` searches for orders (`gt_search`) and replays each of them on the core (`gt_replay`). `explore` reads a
 //! script and writes these texts, each with its number, or the lines of a script for `play` that gives one of them.
 //!
-//! What holds: each text that is answered or written is one that the script may give (`MayGive` of `gt_replay`). That
-//! all such texts are found is tested, and not proved.
+//! What holds: the texts that are answered or written are just those that the script may give (`MayGive` of
+//! `gt_replay`): each of them, all of them, and each once. Of a script for `play` nothing is claimed.
 #![tactic(auto)]
 
 mod exploring;
@@ -15,5 +15,5 @@ mod witness;
 
 pub use exploring::{Asked, explore};
 pub use fault::{ExploreFault, TextsFault};
-pub use texts::{Given, Texts, texts_of};
+pub use texts::{Texts, texts_of};
 pub use witness::push_witness;

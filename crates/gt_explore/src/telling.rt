@@ -1,13 +1,14 @@
 //! What is written of the texts that a script may give.
-ghost use Rattle.std.specs.Prelude.{◌≡◌, ◌++◌, OnOk, IfOk, map};
+ghost use Rattle.std.specs.Prelude.{◌≡◌, ◌++◌, OnOk, IfOk};
 ghost use Rattle.std.specs.Option.{option_map};
 ghost use Rattle.gt_explore.specs.Telling.{has_word, heading, is_between, is_wanted, text_shown, states_line};
 ghost use Rattle.gt_explore.specs.Telling.{texts_told};
+ghost use Rattle.gt_explore.specs.Adding.{texts_in};
 
-use crate::texts::Given;
 use gt_lines::is;
 use gt_streams::push_text;
 use gt_texts::push_number;
+use gt_ways::Order;
 use std::alloc::AllocError;
 
 fn is_between(byte: u8) -> bool
@@ -78,16 +79,16 @@ pub fn push_told(
     out: &mut Vec<u8>,
     find: Option<&str>,
     states: usize,
-    texts: &[Given],
+    texts: &[Order],
 ) -> Result<bool, AllocError>
     ensures text { OnOk result (out.new.items ≡ out.old.items
-        ++ texts_told (option_map (λ word. word.now) find.entry) states (map (λ given. given.text.items) texts.now)) }
+        ++ texts_told (option_map (λ word. word.now) find.entry) states (texts_in texts.now)) }
 {
     let mut is_any = false;
     let mut number = 0;
-    'texts: for given in texts {
+    'texts: for order in texts {
         number += 1;
-        if push_shown(out, find, texts.len(), number, given.text.as_slice())? {
+        if push_shown(out, find, texts.len(), number, order.text.as_slice())? {
             is_any = true;
         }
     }

@@ -1,38 +1,46 @@
 //! The texts that a script may give.
-ghost use Rattle.std.specs.Prelude.{◌≤◌, length, All, IfOk, IfSome, OnOk};
+ghost use Rattle.std.specs.Prelude.{◌≡◌, ◌≢◌, ◌≤◌, ℕ, List, Some, false, length, slice_get, All};
+ghost use Rattle.std.specs.Prelude.{IfNone, IfOk, IfSome, IsTrue, OnOk};
 ghost use Rattle.gt_script.specs.Contents.{contents_told};
 ghost use Rattle.gt_script.specs.RunContents.{run_told};
 ghost use Rattle.gt_script.specs.RunScripts.{CanConfigure};
+ghost use Rattle.gt_script.specs.Stuck.{AreNumbered};
 ghost use Rattle.gt_replay.specs.Orders.{MayGive};
-ghost use Rattle.gt_explore.specs.Adding.{IsAdded};
+ghost use Rattle.gt_ways.specs.declared.exploring.Order.{Order};
+ghost use Rattle.gt_explore.specs.Adding.{AddsOrder, AreApart, IsAmong, IsApart, texts_in};
 
 use crate::fault::TextsFault;
-use gt_replay::{Turn, text_of};
+use gt_replay::text_of;
 use gt_script::RunScript;
 use gt_search::search;
+use gt_ways::Order;
 use std::alloc::{AllocError, Global};
 
-/// A text, and turns that lead to it.
-#[derive(Drop)]
-pub struct Given {
-    pub text: Vec<u8>,
-    pub turns: Vec<Turn>,
-}
-
-/// Texts that a script may give, in the order of their bytes, and how many states the search met.
+/// Texts that a script may give, each with turns that lead to it, in the order of their bytes; and how many states the
+/// search met.
 #[derive(Drop)]
 pub struct Texts {
-    pub texts: Vec<Given>,
+    pub texts: Vec<Order>,
     pub states: usize,
 }
 
+// Whether the order has this text.
+fn is_text(order: &Order, text: &[u8]) -> bool
+    ensures same { IsTrue result → order.now.text.items ≡ text.now }
+    ensures other { (result ≡ false) → order.now.text.items ≢ text.now }
+{
+    order.text.as_slice() == text
+}
+
 // The place of a text among these, in the order of their bytes; none if it is there.
-fn place_of(texts: &[Given], text: &[u8]) -> Option<usize>
-    ensures { IfSome result (λ at. at ≤ length texts.now) }
+fn place_of(texts: &[Order], text: &[u8]) -> Option<usize>
+    ensures place { IfSome result (λ at. at ≤ length texts.now) }
+    ensures apart { IfSome result (λ at. IsApart text.now (texts_in texts.now)) }
+    ensures there { IfNone result (IsAmong text.now (texts_in texts.now)) }
 {
     let mut at = 0;
     'texts: for other in texts {
-        if other.text.as_slice() == text {
+        if is_text(other, text) {
             return None;
         }
         if other.text.as_slice() < text {
@@ -42,40 +50,64 @@ fn place_of(texts: &[Given], text: &[u8]) -> Option<usize>
     Some(at)
 }
 
-// Adds a text at its place, if it is not there.
-fn add(texts: &mut Vec<Given>, given: Given) -> Result<(), AllocError>
-    ensures { OnOk result (IsAdded texts.old.items given texts.new.items) }
+// Adds an order at the place of its text, if that is not there.
+fn add(texts: &mut Vec<Order>, order: Order) -> Result<(), AllocError>
+    ensures { OnOk result (AddsOrder texts.old.items order texts.new.items) }
 {
-    match place_of(texts.as_slice(), given.text.as_slice()) {
+    match place_of(texts.as_slice(), order.text.as_slice()) {
         Some(at) => {
-            texts.insert(at, given)?;
+            texts.insert(at, order)?;
             Ok(())
         }
         None => Ok(()),
     }
 }
 
-/// The texts that a script may give, as far as the search finds them among at most `limit` states.
+// The order, if the core follows it to its text.
+fn replayed(alloc: Global, script: &RunScript, order: Order) -> Result<Order, TextsFault>
+    requires { CanConfigure (contents_told script.now.head) }
+    ensures same { IfOk result (λ o. o ≡ order) }
+    ensures possible { IfOk result (λ o. MayGive (run_told script.now) o.text.items) }
+{
+    let Some(text) = text_of(alloc, script, order.turns.as_slice())? else {
+        return Err(TextsFault::Astray);
+    };
+    if !is_text(&order, text.as_slice()) {
+        return Err(TextsFault::Astray);
+    }
+    Ok(order)
+}
+
+// One order for each text that some of these orders have, in the order of their bytes.
+fn distinct(alloc: Global, script: &RunScript, orders: Vec<Order>) -> Result<Vec<Order>, TextsFault>
+    requires { CanConfigure (contents_told script.now.head) }
+    ensures possible { IfOk result (λ texts. All (MayGive (run_told script.now)) (texts_in texts.items)) }
+    ensures whole { (at : ℕ) (o : Order) → slice_get orders.items at ≡ Some o →
+        IfOk result (λ texts. IsAmong o.text.items (texts_in texts.items)) }
+    ensures apart { IfOk result (λ texts. AreApart (texts_in texts.items)) }
+{
+    let mut texts = Vec::new(alloc);
+    'orders: for order in orders {
+        add(&mut texts, replayed(alloc, script, order)?)?;
+    }
+    Ok(texts)
+}
+
+/// The texts that a script may give, if the search meets at most `limit` states. All of them, if the script's flags are
+/// numbered, as those of a script are that was read.
 ///
 /// # Errors
 /// `States` past the limit, `Keeps` if a domain can't give back what it has at its end, `Astray` if the search found an
-/// order that the core does not follow, and `Memory`.
-pub fn texts_of<'s, 'a>(
-    alloc: Global,
-    script: &'s RunScript<'a>,
-    limit: usize,
-) -> Result<Texts, TextsFault>
+/// order that the core does not follow to its text, and `Memory`.
+pub fn texts_of(alloc: Global, script: &RunScript, limit: usize) -> Result<Texts, TextsFault>
     requires { CanConfigure (contents_told script.now.head) }
-    ensures { IfOk result (λ all. All (λ given. MayGive (run_told script.now) given.text.items) all.texts.items) }
+    ensures possible { IfOk result (λ all. All (MayGive (run_told script.now)) (texts_in all.texts.items)) }
+    ensures whole { (text : List ℕ) → AreNumbered script.now.flags script.now.tasks →
+        MayGive (run_told script.now) text → IfOk result (λ all. IsAmong text (texts_in all.texts.items)) }
+    ensures apart { IfOk result (λ all. AreApart (texts_in all.texts.items)) }
 {
     let found = search(alloc, script, limit)?;
     let states = found.states;
-    let mut texts = Vec::new(alloc);
-    'orders: for turns in found.orders {
-        match text_of(alloc, script, turns.as_slice())? {
-            Some(text) => add(&mut texts, Given { text, turns })?,
-            None => return Err(TextsFault::Astray),
-        }
-    }
+    let texts = distinct(alloc, script, found.orders)?;
     Ok(Texts { texts, states })
 }

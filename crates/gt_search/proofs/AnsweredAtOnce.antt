@@ -39,9 +39,9 @@ use Rattle.gt_search.specs.Calls.{LabelsShow, Rise, ShowsCalls, ShowsOpen, handl
 use Rattle.gt_search.specs.Mappings.{labels_of}
 use Rattle.gt_search.specs.declared.actor.Actor.{Actor}
 use Rattle.gt_search.specs.declared.actor.Open.{Open}
-use Rattle.gt_search.proofs.Opened.{next-task}
+use Rattle.gt_search.proofs.CallOpened.{next-task}
 use Rattle.gt_search.specs.Continuing.{SameKnown}
-use Rattle.gt_search.proofs.Staying.{same-handles}
+use Rattle.gt_search.proofs.OthersStay.{same-handles}
 use Rattle.std.proofs.lemmas.Option.{none-some}
 
 -- how a beginning can end

@@ -18,7 +18,7 @@ use Rattle.gt_search.specs.declared.actor.Mapping.{Mapping}
 use Rattle.gt_search.specs.declared.actor.Open.{Open}
 use Rattle.gt_search.specs.declared.scene.Scene.{Scene}
 use Rattle.gt_search.specs.Ends.{turns_from}
-use Rattle.gt_search.proofs.Turning.{IsListed, turn-listed}
+use Rattle.gt_search.proofs.MovesListed.{IsListed, turn-listed}
 
 nothing-left : (n : ℕ) (xs : List Task) → drop n xs ≡ [] → length xs ≤ n
 nothing-left n [] e = omega arith

@@ -24,9 +24,9 @@ use Rattle.gt_search.specs.Calls.{LabelsShow, Rise, ShowsCalls, ShowsOpen, handl
 use Rattle.gt_search.specs.Mappings.{labels_of}
 use Rattle.gt_search.specs.declared.actor.Actor.{Actor}
 use Rattle.gt_search.specs.Starting.{giving_actor}
-use Rattle.gt_search.proofs.Finding.{rise-from}
-use Rattle.gt_search.proofs.Opened.{began, begun-same, rests}
-use Rattle.gt_search.proofs.Staying.{same-by-place, same-handles}
+use Rattle.gt_search.proofs.MappingFound.{rise-from}
+use Rattle.gt_search.proofs.CallOpened.{began, begun-same, rests}
+use Rattle.gt_search.proofs.OthersStay.{same-by-place, same-handles}
 
 -- all but one handle
 

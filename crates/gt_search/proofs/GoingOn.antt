@@ -28,7 +28,7 @@ use Rattle.gt_search.specs.Continuing.{SameKnown, stepped_call}
 use Rattle.gt_search.specs.Mappings.{labels_of}
 use Rattle.gt_search.specs.declared.actor.Actor.{Actor}
 use Rattle.gt_search.specs.declared.actor.Open.{Open}
-use Rattle.gt_search.proofs.Staying.{same-handles}
+use Rattle.gt_search.proofs.OthersStay.{same-handles}
 
 -- a step of a domain's call, which goes on
 abbrev pub went_on : DomId → Step → Seen → Item
@@ -68,7 +68,7 @@ opens-going : (s : Setting) (h g : History) (tasks : List Task) (k : Course) (ne
 opens-going s h g tasks k next resting c z o p same along task show = absurd show
 opens-going s h g tasks k next (calling line call lost) c z o p same along task show = (
   along,
-  subst (IsOfTask tasks next line call) (sym task) show.1,
+  subst (IsOfTask tasks next k.dom line call) (sym task) show.1,
   record { named = show.2.named; request = show.2.request; says = show.2.says; asks = show.2.asks; given = show.2.given; lost_is = show.2.lost_is },
   show.3 ∙ sym (same-handles s h g k.dom same),
 )

@@ -30,13 +30,13 @@ use Rattle.gt_search.specs.Starting.{BeginsAsRun, GivesAsRun, Grows, IsNextCall,
 use Rattle.gt_search.specs.Starting.{passed_actor}
 use Rattle.gt_search.specs.declared.actor.Actor.{Actor}
 use Rattle.gt_search.specs.declared.calls.Opening.TheVariants.{Open, Done}
-use Rattle.gt_search.specs.declared.moves.Led.{Led}
-use Rattle.gt_search.specs.declared.moves.Led.TheVariants.{Answered, On}
+use Rattle.gt_ways.specs.declared.spaces.Led.{Led}
+use Rattle.gt_ways.specs.declared.spaces.Led.TheVariants.{Answered, On}
 use Rattle.gt_search.specs.declared.scene.Scene.{Scene}
 use Rattle.gt_search.specs.declared.scene.World.{World}
 use Rattle.gt_search.proofs.AnsweredAtOnce.{answer-is, begins-of, shows-answered}
 use Rattle.gt_search.proofs.GivingBack.{shows-giving}
-use Rattle.gt_search.proofs.Opened.{shows-opened}
+use Rattle.gt_search.proofs.CallOpened.{shows-opened}
 
 short-lists : (lists : List (Vec (Bor Task) Global)) (place : ℕ) → length (get_or (map (λ (list : Vec (Bor Task) Global). map (λ (t : Bor Task). t.now) list.items) lists) place []) < 2 ^ 63
 short-lists [] zero = omega arith
@@ -66,7 +66,7 @@ done-answered : (s : Setting) (h : History) (d : DomId) (r : Asked) (v : Verdict
     → (z : Answer) × (answer ≡ Some z) × AnsweredBy s h d r None false (Some v) (Some z) against
 done-answered s h d r v answer against o e by = some-answered s h d r v answer against (subst (λ (x : Option Verdict). AnsweredBy s h d r None false x answer against) e by)
 
-grows-by : (led : Led) (line old new : List ℕ) → PrintsLine led line → new ≡ old ++ line → Grows led old new
+pub grows-by : (led : Led) (line old new : List ℕ) → PrintsLine led line → new ≡ old ++ line → Grows led old new
 grows-by (Answered text) line old new prints e = e ∙ ap (λ (l : List ℕ). old ++ l) (sym prints)
 grows-by led line old new prints e = absurd prints
 
@@ -86,7 +86,7 @@ module _ (s : Setting) (h : History) (scene : Scene) (place : ℕ) (texts : List
         actor = b;
         becomes = becomes;
         shows = subst (ShowsCalls s (beginning k.dom q None ∷ h) (tasks_at scene place) (course_after texts t.line call (given_up q) (record k { tasks = ts }) None)) (sym b-is)
-            (shows-opened s h (tasks_at scene place) ts k a t call q p handle now step show next.rest next.next next.deed says asks by_place is);
+            (shows-opened s h (tasks_at scene place) ts k a t call q p handle now step show next.rest next.next next.dom next.deed says asks by_place is);
         ground = ground;
         told = told;
       })

@@ -92,12 +92,14 @@ pub record GoesAlong (s : Setting) (h : History) (d : DomId) (c : Underway) (o :
   pub follows : path (known_by_place s h d) d o.call.request (values c) ≡ Some (Makes o.step)
 
 -- the open call is that of the last task that was begun
-pub record IsOfTask (tasks : List Task) (next : ℕ) (line : ℕ) (call : ScriptCall) (task : Option ℕ) : Type 0 where
+pub record IsOfTask (tasks : List Task) (next : ℕ) (d : DomId) (line : ℕ) (call : ScriptCall) (task : Option ℕ)
+    : Type 0 where
   pub place : ℕ
   pub task_is : task ≡ Some place
   pub last : suc place ≡ next
   pub of_task : Task
   pub there : slice_get tasks place ≡ Some of_task
+  pub dom_is : of_task.dom ≡ d
   pub line_is : of_task.line ≡ line
   pub deed_is : of_task.deed ≡ Do call
 
@@ -116,7 +118,7 @@ pub record IsOfLine (d : DomId) (call : ScriptCall) (lost : Option Handle) (c : 
 abbrev pub ShowsOpen : Setting → History → List Task → Course → ℕ → Opened → Option Underway → Option Open → Type 0
 ShowsOpen s h tasks k next resting None None = k.held ≡ handles_at h k.dom
 ShowsOpen s h tasks k next (calling line call lost) (Some c) (Some o) =
-    GoesAlong s h k.dom c o × IsOfTask tasks next line call o.task × IsOfLine k.dom call lost c
+    GoesAlong s h k.dom c o × IsOfTask tasks next k.dom line call o.task × IsOfLine k.dom call lost c
     × (k.held ≡ handles_at h k.dom)
 ShowsOpen s h tasks k next giving (Some c) (Some o) =
     GoesAlong s h k.dom c o × (o.task ≡ None)

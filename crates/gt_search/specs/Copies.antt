@@ -1,13 +1,21 @@
--- States of a search once more.
-use Rattle.std.specs.Prelude.{◌≡◌, List, [], ◌∷◌}
+-- States of a search once more, and domains at the start.
+use Rattle.std.specs.Prelude.{◌≡◌, List, [], ◌∷◌, None}
+use Rattle.gt_search.specs.Mappings.{labels_of, pins_of}
 use Rattle.gt_search.specs.declared.actor.Actor.{Actor}
 use Rattle.gt_search.specs.declared.scene.World.{World}
 use Rattle.gt_world.specs.Copies.{SamePages, SameTables}
 
--- the other domain is as far, with the same mappings and the same call open
+-- the domain is before the first task of its list, with no mapping and no call open
+pub record IsFirstActor (a : Actor) : Type 0 where
+  pub next : a.next ≡ 0
+  pub mappings : a.mappings.items ≡ []
+  pub open_call : a.«open» ≡ None
+
+-- the other domain is as far, with the same mappings under the same labels, and the same call open
 pub record SameActor (one other : Actor) : Type 0 where
   pub next : other.next ≡ one.next
-  pub mappings : other.mappings.items ≡ one.mappings.items
+  pub pins : pins_of other.mappings.items ≡ pins_of one.mappings.items
+  pub labels : labels_of other.mappings.items ≡ labels_of one.mappings.items
   pub open_call : other.«open» ≡ one.«open»
 
 -- each of the domains is the same as the one at its place

@@ -6,4 +6,7 @@ pub mod Ends
 pub mod Mappings
 pub mod Placing
 pub mod Renaming
+pub mod Scenes
+pub mod Spaces
 pub mod Starting
+pub mod Ticking

@@ -18,8 +18,8 @@ use Rattle.gt_search.specs.Renaming.{asked_under}
 use Rattle.gt_search.specs.declared.actor.Actor.{Actor}
 use Rattle.gt_search.specs.declared.calls.Opening.{Opening as Opened}
 use Rattle.gt_search.specs.declared.calls.Opening.TheVariants.{Open, Done}
-use Rattle.gt_search.specs.declared.moves.Led.{Led}
-use Rattle.gt_search.specs.declared.moves.Led.TheVariants.{Answered, Nowhere, On}
+use Rattle.gt_ways.specs.declared.spaces.Led.{Led}
+use Rattle.gt_ways.specs.declared.spaces.Led.TheVariants.{Answered, Nowhere, On}
 use Rattle.gt_search.specs.declared.scene.World.{World}
 
 -- a call began in a state as this request begins in the run: over, with the same verdict; or open, if it asks the same

@@ -2,7 +2,7 @@
 ghost use Rattle.std.specs.Prelude.{◌≡◌, ◌++◌, [], ◌∷◌, map};
 ghost use Rattle.gt_search.specs.Mappings.{labels_of, pins_of, apart_from, said, unless_given};
 
-use gt_calls::{Call, Held, Holder, Step};
+use gt_calls::{Call, Held, Holder, Step, Verdict};
 use std::alloc::{AllocError, Global};
 
 /// A mapping, and the label that names it.
@@ -58,10 +58,13 @@ impl<'a> Actor<'a> {
     ghost use Rattle.std.specs.Prelude.{◌≡◌, ◌+◌, ◌<◌, ◌^◌, ◌++◌, [], ◌∷◌, OnOk, IfOk};
     ghost use Rattle.gt_search.specs.Starting.{giving_actor, opened_actor, passed_actor};
     ghost use Rattle.gt_search.specs.Mappings.{labels_of, pins_of, apart_from, said, given_back};
-    ghost use Rattle.gt_search.specs.Copies.{SameActor};
+    ghost use Rattle.gt_search.specs.Copies.{IsFirstActor, SameActor};
+    ghost use Rattle.gt_search.specs.Ticking.{IsClosed, mappings_after};
 
     /// A domain before the first task of its list.
-    pub fn new(alloc: Global) -> Actor<'a> {
+    pub fn new(alloc: Global) -> Actor<'a>
+        ensures { IsFirstActor result }
+    {
         Actor {
             next: 0,
             mappings: Vec::new(alloc),
@@ -126,6 +129,27 @@ impl<'a> Actor<'a> {
             if at < self.mappings.len() {
                 self.mappings.remove(at);
             }
+        }
+    }
+
+    /// It makes this step: what mapping the step gives up, it has no more.
+    pub fn make(&mut self, step: Step)
+        ensures mappings { self.new.mappings.items ≡ mappings_after step self.old.mappings.items }
+        ensures rest { self.new ≡ record self.old { mappings = self.new.mappings } }
+    {
+        if let Step::Unpin { holder, .. } = step {
+            self.forget(holder);
+        }
+    }
+
+    /// Its call is over with this verdict. A mapping that it gets so has this label.
+    pub fn close(&mut self, label: Option<&'a [u8]>, verdict: Verdict) -> Result<(), AllocError>
+        ensures { OnOk result (IsClosed (said label.entry) verdict self.old self.new) }
+    {
+        self.open = None;
+        match verdict {
+            Verdict::Mapped(held) => self.map(label, held),
+            _ => Ok(()),
         }
     }
 }

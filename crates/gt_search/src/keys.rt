@@ -1,4 +1,4 @@
-//! The bytes that tell a state from all others.
+//! The bytes by which a state is found again.
 use crate::actor::{Actor, Mapping, Open};
 use crate::phases::{push, push_held, push_phase};
 use crate::scene::{Scene, World};
@@ -106,20 +106,31 @@ fn push_told(key: &mut Vec<u8>, told: &[bool]) -> Result<(), AllocError> {
     Ok(())
 }
 
+// A number of these bytes (FNV-1a). Few other bytes have the same.
+fn digest(bytes: &[u8]) -> u64 {
+    let mut digest: u64 = 0xcbf2_9ce4_8422_2325;
+    for byte in bytes {
+        digest = (digest ^ u64::from(*byte)).wrapping_mul(0x0000_0100_0000_01b3);
+    }
+    digest
+}
+
 impl<'s, 'a> Scene<'s, 'a> {
-    /// The bytes that tell a state from all others.
+    /// Bytes that states which are the same have in common, and few others have.
     pub fn key(&self, world: &World<'a>) -> Result<Vec<u8>, AllocError> {
-        let mut key = Vec::new(self.alloc);
-        push_told(&mut key, world.told.as_slice())?;
+        let mut whole = Vec::new(self.alloc);
+        push_told(&mut whole, world.told.as_slice())?;
         for actor in world.actors.as_slice() {
-            push_actor(&mut key, actor)?;
+            push_actor(&mut whole, actor)?;
         }
         for table in world.ground.tables.as_slice() {
-            push_table(&mut key, self.roster.config().first_gen, table)?;
+            push_table(&mut whole, self.roster.config().first_gen, table)?;
         }
         for page in world.ground.pages.as_slice() {
-            push_page(&mut key, page)?;
+            push_page(&mut whole, page)?;
         }
+        let mut key = Vec::new(self.alloc);
+        push(&mut key, digest(whole.as_slice()))?;
         Ok(key)
     }
 }

@@ -1,26 +1,28 @@
-//! A search for the orders in which a script's domains can move.
+//! A search for the texts that a script's domains can print, in all orders of their moves.
 //!
-//! `search` goes through the states that a run of a script can come to, each once, and answers for each list of answers
-//! that it meets one list of turns that leads to it. A state is small: the entries that were touched, the bytes that
-//! were written, the mappings, the open calls and the places of the domains in their lists.
+//! `search` goes through the states that a run of a script can come to, each once, and answers an order with its text
+//! for each list of answers that it meets. A state is small: the entries that were touched, the bytes that were
+//! written, the mappings, the open calls and the places of the domains in their lists. The states are a space of
+//! `gt_ways`, whose search it is.
 //!
-//! What holds: it is safe and ends. Nothing is claimed of the turns: whoever uses them replays them on the core
+//! What holds: each text that an order of the script gives is that of one of the orders that `search` answers
+//! (`FindsAll` in specs/Spaces.antt). Nothing is claimed of the turns: whoever uses them replays them on the core
 //! (`gt_replay`), which says what they lead to.
 //!
-//! It uses `gt_calls` (what calls do next), `gt_world` (words and bytes), `gt_host` (what lines ask and print),
-//! `gt_script` and `gt_replay` (turns).
+//! It uses `gt_ways` (the search), `gt_calls` (what calls do next), `gt_world` (words and bytes), `gt_host` (what lines
+//! ask and print), `gt_script` and `gt_replay` (orders and turns).
 #![tactic(auto)]
 
 mod actor;
 mod calls;
-mod exploring;
-mod fault;
 mod keys;
 mod moves;
 mod names;
 mod phases;
+mod same;
 mod scene;
-mod suffixes;
+mod searching;
+mod space;
 
-pub use exploring::{Found, search};
-pub use fault::SearchFault;
+pub use gt_ways::{Found, Order, SearchFault};
+pub use searching::search;

@@ -1,57 +1,52 @@
 //! The moves of the domains.
-ghost use Rattle.std.specs.Prelude.{◌≡◌, ◌++◌, false, get_or, OnOk};
-ghost use Rattle.gt_core.specs.Acting.{answer_of, answer_with};
+ghost use Rattle.std.specs.Prelude.{◌≡◌, ◌++◌, false, get_or, IfOk, List, OnOk};
+ghost use Rattle.std.specs.Option.{option_map};
+ghost use Rattle.gt_calls.specs.Asking.{FitsAsked, asked};
+ghost use Rattle.gt_calls.specs.declared.request.Request.{Request};
+ghost use Rattle.gt_core.specs.Acting.{answer_of};
+ghost use Rattle.gt_entry.specs.Entries.{IsEntry};
+ghost use Rattle.gt_host.specs.Runs.{Named, SaysRequest};
 ghost use Rattle.gt_search.specs.Ends.{choices};
+ghost use Rattle.gt_search.specs.Mappings.{said};
+ghost use Rattle.gt_search.specs.Ticking.{bytes_by, label_in};
+ghost use Rattle.gt_types.specs.declared.DomId.{DomId};
 
 use crate::actor::{Actor, Open};
 use crate::calls::{Opening, go_on, open_call};
-use crate::fault::SearchFault;
 use crate::names::names_of;
 use crate::scene::{Scene, World};
-use gt_calls::{Action, Call, Handles, Held, Known, Request, Seen, Step, Value, Verdict};
-use gt_core::{Answer, Bytes};
+use gt_calls::{Action, Call, Handles, Held, Known, Request, Seen, Step, Verdict};
+use gt_core::{Answer, Bytes, answer_of};
+use gt_entry::Entry;
 use gt_host::{Rights, bytes_said, label_given, push_answer_line, request_of};
 use gt_lines::ScriptCall;
 use gt_replay::Turn;
 use gt_script::{Deed, Task};
 use gt_types::DomId;
-use gt_world::Table;
+use gt_ways::{Led, SearchFault};
+use gt_world::{Ground, Table};
 use std::alloc::{AllocError, Global};
 
-/// What a move led to.
-#[derive(Drop)]
-pub enum Led {
-    /// There is no such move.
-    Nowhere,
-    /// No call was answered.
-    On,
-    /// A call was answered, which prints this line.
-    Answered(Vec<u8>),
-}
+// A law: each number of an entry fits its type.
+fn entry_fits(entry: Entry)
+    ensures { IsEntry entry }
+{}
 
-fn value_answer(value: Value) -> Answer
-    ensures { result ≡ answer_with value }
+// A law: what the call of a line asks fits its types.
+fn said_fits(call: &ScriptCall<'_>)
+    ensures { (named : List Named) (dom : DomId) (request : Request) →
+        SaysRequest named dom call.now request → FitsAsked (asked request) }
 {
-    match value {
-        Value::Frames(frames) => Answer::Frames(frames),
-        Value::Size(size) => Answer::Size(size),
-        Value::Version(version) => Answer::Version(version),
-    }
-}
-
-// The answer of a call that ends so, if it gives no bytes. A handle is not printed.
-fn answer_of(verdict: Verdict) -> Answer
-    ensures { result ≡ answer_of verdict }
-{
-    match verdict {
-        Verdict::Granted | Verdict::Mapped(_) => Answer::Done,
-        Verdict::Given(value) => value_answer(value),
-        Verdict::Refused(denial) => Answer::Denied(denial),
+    match call {
+        ScriptCall::Grant { entry, .. } => entry_fits(*entry),
+        _ => {}
     }
 }
 
 // The bytes that the call of a task says.
-fn said(alloc: Global, task: Option<&Task>) -> Result<Vec<u8>, SearchFault> {
+fn said(alloc: Global, task: Option<&Task>) -> Result<Vec<u8>, SearchFault>
+    ensures { IfOk result (λ bytes. bytes.items ≡ bytes_by (option_map (λ t. t.now) task.entry)) }
+{
     match task {
         Some(task) => match &task.deed {
             Deed::Do(call) => Ok(bytes_said(alloc, call)?),
@@ -62,7 +57,9 @@ fn said(alloc: Global, task: Option<&Task>) -> Result<Vec<u8>, SearchFault> {
 }
 
 // The label to which a task gives its mapping.
-fn label_of<'a>(task: &Task<'a>) -> Option<&'a [u8]> {
+fn label_of<'a>(task: &Task<'a>) -> Option<&'a [u8]>
+    ensures { said result ≡ label_in task.now.deed }
+{
     match &task.deed {
         Deed::Do(call) => label_given(call),
         _ => None,
@@ -87,7 +84,8 @@ fn is_told(told: &[bool], flag: usize) -> bool
 }
 
 impl<'s, 'a> Scene<'s, 'a> {
-    ghost use Rattle.std.specs.Prelude.{◌≡◌, ◌<◌, ◌^◌, List, ◌∷◌, Option, Some, true, length, slice_get, slice_set, IfOk, IsTrue};
+    ghost use Rattle.std.specs.Prelude.{◌≡◌, ◌<◌, ◌^◌, ℕ, List, ◌∷◌, Option, Some, None, true, length, slice_get};
+    ghost use Rattle.std.specs.Prelude.{slice_set, IfOk, IsTrue};
     ghost use Rattle.gt_core.specs.GoingOn.{beginning};
     ghost use Rattle.gt_core.specs.Legal.{BeginsRight};
     ghost use Rattle.gt_core.specs.declared.trace.Answer.{Answer};
@@ -112,6 +110,14 @@ impl<'s, 'a> Scene<'s, 'a> {
     ghost use Rattle.gt_search.specs.Beginnings.{BeginsAlike, OpensSo};
     ghost use Rattle.gt_search.specs.Calls.{GoesAlong, KnowsTable, Rise, ShowsCalls, handles_at, known_in, no_mappings};
     ghost use Rattle.gt_search.specs.Ends.{AreDone, choices_at, is_done, is_ended, tasks_at, turns_from};
+    ghost use Rattle.gt_core.specs.Legal.{IsItemOf, IsRight};
+    ghost use Rattle.gt_core.specs.declared.trace.Event.TheVariants.{Tick};
+    ghost use Rattle.gt_core.specs.declared.trace.Item.{Item};
+    ghost use Rattle.gt_search.specs.Scenes.{MovesAlong};
+    ghost use Rattle.gt_search.specs.Ticking.{Closes, ClosesBack, IsMade, IsTick, ReadsInFrame, ShowsAt, TellsEnd};
+    ghost use Rattle.gt_search.specs.Ticking.{TickLeads, TicksTo, bytes_by, task_in};
+    ghost use Rattle.gt_search.specs.declared.scene.World.{World};
+    ghost use Rattle.gt_world.specs.Shows.{PagesShow};
 
     // What a domain knows, if these are its mappings.
     fn known<'k>(&'k self, table: &'k Table, mappings: &'k Handles<Held>) -> Known<'k, Rights>
@@ -277,7 +283,9 @@ impl<'s, 'a> Scene<'s, 'a> {
     }
 
     // The bytes that were given to an open call.
-    fn given(&self, at: usize, open: Open) -> Result<Vec<u8>, SearchFault> {
+    fn given(&self, at: usize, open: Open) -> Result<Vec<u8>, SearchFault>
+        ensures { IfOk result (λ bytes. bytes.items ≡ bytes_by (task_in (tasks_at self.now at) «open».task)) }
+    {
         let task = match open.task {
             Some(place) => self.task(at, place),
             None => None,
@@ -285,13 +293,24 @@ impl<'s, 'a> Scene<'s, 'a> {
         said(self.alloc, task)
     }
 
+    // The open call of a domain makes its step, in tables and pages. This is what the step saw.
+    fn make(&self, ground: &mut Ground, at: usize, open: Open) -> Result<Seen, SearchFault>
+        ensures { (s : Setting) (h : History) (before : World) (k : Course) (a : Actor) (i : Item) →
+            IsTick s h self.now before at k a «open» i → ground.old ≡ before.ground →
+            IfOk result (λ seen. IsMade s h k i «open» seen ground.new.tables.items ground.new.pages.items) }
+    {
+        let given = self.given(at, open)?;
+        ground.write(self.alloc, open.step, given.as_slice())?;
+        let seen = ground.see(&self.roster, open.call.caller, open.step);
+        ground.apply(&self.roster, at, open.step, seen)?;
+        Ok(seen)
+    }
+
     // The answer of a call that ends so after this step.
-    fn answer(
-        &self,
-        world: &World<'a>,
-        last: Step,
-        verdict: Verdict,
-    ) -> Result<Answer, SearchFault> {
+    fn answer(&self, ground: &Ground, last: Step, verdict: Verdict) -> Result<Answer, SearchFault>
+        ensures { (h : History) → PagesShow h ground.now.pages.items → ReadsInFrame last →
+            IfOk result (TellsEnd h last verdict) }
+    {
         match (verdict, last) {
             (
                 Verdict::Granted,
@@ -302,10 +321,54 @@ impl<'s, 'a> Scene<'s, 'a> {
                     len,
                 },
             ) => {
-                let bytes = world.ground.read(self.alloc, dom, frame, off, len)?;
+                let bytes = ground.read(self.alloc, dom, frame, off, len)?;
                 Ok(Answer::Bytes(Bytes { bytes }))
             }
             _ => Ok(answer_of(verdict)),
+        }
+    }
+
+    // The open call of a task ends so.
+    fn close_line(
+        &self,
+        world: &mut World<'a>,
+        at: usize,
+        task: &'s Task<'a>,
+        last: Step,
+        verdict: Verdict,
+    ) -> Result<Led, SearchFault>
+        ensures { (h : History) (a : Actor) → slice_get world.old.actors.items at ≡ Some a →
+            PagesShow h world.old.ground.pages.items → ReadsInFrame last →
+            IfOk result (Closes h self.now.types.items task.now last verdict a world.old world.new at) }
+    {
+        let answer = self.answer(&world.ground, last, verdict)?;
+        let Some(actor) = world.actors.get_mut(at) else {
+            return Ok(Led::Nowhere);
+        };
+        actor.close(label_of(task), verdict)?;
+        self.line(task, &answer)
+    }
+
+    // An unmap at the end of a domain's list ends so.
+    fn close_back(
+        &self,
+        world: &mut World<'a>,
+        at: usize,
+        dom: DomId,
+        verdict: Verdict,
+    ) -> Result<Led, SearchFault>
+        ensures { (a : Actor) → slice_get world.old.actors.items at ≡ Some a →
+            IfOk result (ClosesBack verdict a world.old world.new at) }
+    {
+        let Some(actor) = world.actors.get_mut(at) else {
+            return Ok(Led::Nowhere);
+        };
+        match verdict {
+            Verdict::Granted => {
+                actor.open = None;
+                Ok(Led::On)
+            }
+            _ => Err(SearchFault::Keeps(dom)),
         }
     }
 
@@ -316,41 +379,44 @@ impl<'s, 'a> Scene<'s, 'a> {
         at: usize,
         open: Open,
         verdict: Verdict,
-    ) -> Result<Led, SearchFault> {
-        let answer = self.answer(world, open.step, verdict)?;
-        let Some(actor) = world.actors.get_mut(at) else {
-            return Ok(Led::Nowhere);
-        };
-        actor.open = None;
+    ) -> Result<Led, SearchFault>
+        ensures line { (h : History) (a : Actor) (place : ℕ) (t : Task) →
+            slice_get world.old.actors.items at ≡ Some a → PagesShow h world.old.ground.pages.items →
+            ReadsInFrame «open».step → «open».task ≡ Some place → slice_get (tasks_at self.now at) place ≡ Some t →
+            IfOk result (Closes h self.now.types.items t «open».step verdict a world.old world.new at) }
+        ensures back { (a : Actor) → slice_get world.old.actors.items at ≡ Some a → «open».task ≡ None →
+            IfOk result (ClosesBack verdict a world.old world.new at) }
+    {
         let Some(place) = open.task else {
-            return match verdict {
-                Verdict::Granted => Ok(Led::On),
-                _ => Err(SearchFault::Keeps(open.call.caller)),
-            };
+            return self.close_back(world, at, open.call.caller, verdict);
         };
         let Some(task) = self.task(at, place) else {
             return Ok(Led::Nowhere);
         };
-        if let Verdict::Mapped(held) = verdict {
-            actor.map(label_of(task), held)?;
-        }
-        self.line(task, &answer)
+        self.close_line(world, at, task, open.step, verdict)
     }
 
-    // The open call of a domain makes its next step.
-    fn tick(&self, world: &mut World<'a>, at: usize, open: Open) -> Result<Led, SearchFault> {
-        let given = self.given(at, open)?;
-        let ground = &mut world.ground;
-        ground.write(self.alloc, open.step, given.as_slice())?;
-        let seen = ground.see(&self.roster, open.call.caller, open.step);
-        ground.apply(&self.roster, at, open.step, seen)?;
-        let (Some(actor), Some(table)) = (world.actors.get_mut(at), world.ground.tables.get(at))
-        else {
+    // The open call of a domain goes on after its step, which saw this, or ends.
+    fn settle(
+        &self,
+        world: &mut World<'a>,
+        at: usize,
+        open: Open,
+        seen: Seen,
+    ) -> Result<Led, SearchFault>
+        ensures { (s : Setting) (h : History) (before : World) (k j : Course) (a : Actor) (i : Item) →
+            IsTick s h self.now before at k a «open» i → TickLeads self.now.types.items k k.opened i j →
+            world.old.actors ≡ before.actors →
+            IsMade s h k i «open» seen world.old.ground.tables.items world.old.ground.pages.items →
+            IfOk result (TicksTo s (i ∷ h) (tasks_at self.now at) k j world.old world.new at) }
+    {
+        let Some(actor) = world.actors.get_mut(at) else {
             return Ok(Led::Nowhere);
         };
-        if let Step::Unpin { holder, .. } = open.step {
-            actor.forget(holder);
-        }
+        let Some(table) = world.ground.tables.get(at) else {
+            return Ok(Led::Nowhere);
+        };
+        actor.make(open.step);
         let (call, action) = self.next(table, open, seen);
         match action {
             Action::Step(step) => {
@@ -360,6 +426,17 @@ impl<'s, 'a> Scene<'s, 'a> {
             }
             Action::Done(verdict) => self.close(world, at, open, verdict),
         }
+    }
+
+    // The open call of a domain makes its next step.
+    fn tick(&self, world: &mut World<'a>, at: usize, open: Open) -> Result<Led, SearchFault>
+        ensures { (s : Setting) (h : History) (k j : Course) (a : Actor) (i : Item) →
+            ShowsAt s h self.now world.old at k a → a.«open» ≡ Some «open» → IsItemOf (Tick k.dom) i → IsRight s h i →
+            TickLeads self.now.types.items k k.opened i j →
+            IfOk result (TicksTo s (i ∷ h) (tasks_at self.now at) k j world.old world.new at) }
+    {
+        let seen = self.make(&mut world.ground, at, open)?;
+        self.settle(world, at, open, seen)
     }
 
     // A domain raises a flag.
@@ -402,7 +479,9 @@ impl<'s, 'a> Scene<'s, 'a> {
     }
 
     /// The move of a domain.
-    pub fn advance(&self, world: &mut World<'a>, turn: Turn) -> Result<Led, SearchFault> {
+    pub fn advance(&self, world: &mut World<'a>, turn: Turn) -> Result<Led, SearchFault>
+        ensures { IfOk result (λ led. MovesAlong self.now turn.place turn.choice world.old led world.new) }
+    {
         let at = turn.place;
         let Some(actor) = world.actors.get(at) else {
             return Ok(Led::Nowhere);
@@ -414,7 +493,10 @@ impl<'s, 'a> Scene<'s, 'a> {
             return self.give_back(world, turn);
         };
         match &task.deed {
-            Deed::Do(call) => self.begin(world, at, task, call),
+            Deed::Do(call) => {
+                said_fits(call);
+                self.begin(world, at, task, call)
+            }
             Deed::Tell(flag) => Ok(self.raise(world, at, *flag)),
             Deed::Await(flag) => Ok(self.go_past(world, at, *flag)),
         }

@@ -3,11 +3,11 @@ ghost use Rattle.std.specs.Prelude.{IfOk};
 ghost use Rattle.gt_search.specs.Placing.{ArePlaced};
 
 use crate::actor::Mapping;
-use crate::fault::SearchFault;
 use gt_calls::{Handle, Handles, Held};
 use gt_core::Answer;
 use gt_host::{Labels, name_mapping};
 use gt_types::DomId;
+use gt_ways::SearchFault;
 use std::alloc::Global;
 
 /// The mappings of a domain under handles, whose serials are their places, and its labels.

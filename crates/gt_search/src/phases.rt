@@ -10,13 +10,14 @@ pub fn push(key: &mut Vec<u8>, number: u64) -> Result<(), AllocError> {
     key.extend_from_slice(&number.to_le_bytes())
 }
 
-/// Appends a pin: what it is of, and what it reaches.
+/// Appends a pin: what it is of, what it reaches, and the word that it was taken from.
 pub fn push_held(key: &mut Vec<u8>, held: &Held) -> Result<(), AllocError> {
     let writes = matches!(held.dir, Dir::Write);
     push(key, u64::from(held.dom.0) * 2 + u64::from(writes))?;
     push(key, u64::from(held.gref.0))?;
     push(key, held.entry.first_body())?;
-    push(key, held.entry.second_body())
+    push(key, held.entry.second_body())?;
+    push(key, held.word)
 }
 
 fn push_via(key: &mut Vec<u8>, via: Option<&Held>) -> Result<(), AllocError> {

@@ -1,16 +1,19 @@
 //! What all states of a search have in common, and a state.
-ghost use Rattle.std.specs.Prelude.{IfOk};
+ghost use Rattle.std.specs.Prelude.{◌≡◌, map, length, All, IfOk};
+ghost use Rattle.gt_host.specs.Playing.{setting_of_script};
 ghost use Rattle.gt_script.specs.Contents.{contents_told};
-ghost use Rattle.gt_script.specs.RunScripts.{CanConfigure};
-ghost use Rattle.gt_search.specs.Copies.{SameActors};
+ghost use Rattle.gt_script.specs.RunScripts.{CanConfigure, list_of};
+ghost use Rattle.gt_search.specs.Copies.{IsFirstActor, SameActors};
+ghost use Rattle.gt_types.specs.Config.{IsWithinLimits};
+ghost use Rattle.gt_world.specs.Shows.{IsSettingOf};
 
 use crate::actor::Actor;
-use crate::fault::SearchFault;
 use gt_host::Rights;
 use gt_lines::Text;
 use gt_positions::Roster;
 use gt_script::{RunScript, Script, Task};
-use gt_types::{Config, StartFault};
+use gt_types::{Config, DomainConfig, StartFault};
+use gt_ways::SearchFault;
 use gt_world::Ground;
 use std::alloc::{AllocError, Global};
 
@@ -23,6 +26,8 @@ pub struct Scene<'s, 'a> {
     pub types: Vec<Text<'s>>,
     /// The list of each domain, in the order of the domains.
     pub lists: Vec<Vec<&'s Task<'a>>>,
+    /// How many flags there are.
+    pub flags: usize,
 }
 
 /// A state: where the run has come to, but for what was answered.
@@ -67,6 +72,8 @@ impl<'a> World<'a> {
 // The domains of a script, found by their numbers.
 fn roster_of(alloc: Global, script: &Script) -> Result<Roster, SearchFault>
     requires { CanConfigure (contents_told script.now) }
+    ensures setting { IfOk result (λ roster. IsSettingOf roster (setting_of_script (contents_told script.now))) }
+    ensures limits { IfOk result (λ roster. IsWithinLimits roster) }
 {
     let config = Config {
         domains: Vec::from_slice(alloc, script.domains())?,
@@ -79,48 +86,80 @@ fn roster_of(alloc: Global, script: &Script) -> Result<Roster, SearchFault>
     }
 }
 
+// The list of each of these domains.
+fn lists_of<'s, 'a>(
+    alloc: Global,
+    script: &'s RunScript<'a>,
+    domains: &[DomainConfig],
+) -> Result<Vec<Vec<&'s Task<'a>>>, AllocError>
+    ensures { IfOk result (λ lists. map (λ list. map (λ t. t.now) list.items) lists.items
+        ≡ map (λ d. list_of script.entry.now.tasks d.id) domains.now) }
+{
+    let mut lists = Vec::new(alloc);
+    'domains: for domain in domains {
+        lists.push(script.list_of(alloc, domain.id)?)?;
+    }
+    Ok(lists)
+}
+
+// So many domains before the first tasks of their lists.
+fn first_actors<'a>(alloc: Global, count: usize) -> Result<Vec<Actor<'a>>, AllocError>
+    ensures many { IfOk result (λ actors. length actors.items ≡ count) }
+    ensures first { IfOk result (λ actors. All IsFirstActor actors.items) }
+{
+    let mut actors = Vec::new(alloc);
+    'actors: for _number in 0..count {
+        actors.push(Actor::new(alloc))?;
+    }
+    Ok(actors)
+}
+
+// So many flags, of which none is raised.
+fn no_flags(alloc: Global, count: usize) -> Result<Vec<bool>, AllocError>
+    ensures { IfOk result (λ told. length told.items ≡ count) }
+{
+    vec![in alloc; false; count]
+}
+
 impl<'s, 'a> Scene<'s, 'a> {
     ghost use Rattle.std.specs.Prelude.{◌≡◌, slice_get, [], IfOk};
     ghost use Rattle.std.specs.Option.{option_map};
+    ghost use Rattle.gt_replay.specs.Courses.{first_courses};
+    ghost use Rattle.gt_script.specs.RunContents.{RunContents, run_told};
+    ghost use Rattle.gt_script.specs.Stuck.{AreNumbered};
     ghost use Rattle.gt_search.specs.Ends.{tasks_at};
-    ghost use Rattle.gt_core.specs.History.{Setting};
-    ghost use Rattle.gt_types.specs.Config.{IsWithinLimits};
-    ghost use Rattle.gt_types.specs.declared.config.Config.{Config};
-    ghost use Rattle.gt_world.specs.Shows.{IsSettingOf, PagesShow, TablesShow};
+    ghost use Rattle.gt_search.specs.Scenes.{IsSceneOf, Shows};
 
     /// The common part of the states of a script.
     pub fn new(alloc: Global, script: &'s RunScript<'a>) -> Result<Scene<'s, 'a>, SearchFault>
         requires { CanConfigure (contents_told script.now.head) }
+        ensures { AreNumbered script.entry.now.flags script.entry.now.tasks →
+            IfOk result (IsSceneOf (run_told script.entry.now)) }
     {
         let head = script.head();
-        let mut lists = Vec::new(alloc);
-        for domain in head.domains() {
-            lists.push(script.list_of(alloc, domain.id)?)?;
-        }
+        let lists = lists_of(alloc, script, head.domains())?;
         Ok(Scene {
             alloc,
             roster: roster_of(alloc, head)?,
             rights: Rights::of(alloc, head)?,
             types: head.type_names(alloc)?,
             lists,
+            flags: script.flags(),
         })
     }
 
     /// The state in which nothing has happened.
-    pub fn start(&self, script: &RunScript<'a>) -> Result<World<'a>, AllocError>
-        ensures tables { (c : Config) (s : Setting) → IsSettingOf c s → IsWithinLimits c →
-            c.domains.items ≡ script.now.head.domains → IfOk result (λ w. TablesShow s [] w.ground.tables.items) }
-        ensures pages { IfOk result (λ w. PagesShow [] w.ground.pages.items) }
+    pub fn start(&self) -> Result<World<'a>, AllocError>
+        ensures { (c : RunContents) → IsSceneOf c self.now → IfOk result (Shows c self.now [] (first_courses c)) }
     {
-        let mut actors = Vec::new(self.alloc);
-        for _ in script.head().domains() {
-            actors.push(Actor::new(self.alloc))?;
-        }
-        let ground = Ground::new(self.alloc, script.head().domains())?;
+        let domains = self.roster.config().domains.as_slice();
+        let actors = first_actors(self.alloc, domains.len())?;
+        let ground = Ground::new(self.alloc, domains)?;
+        let told = no_flags(self.alloc, self.flags)?;
         Ok(World {
             actors,
             ground,
-            told: vec![in self.alloc; false; script.flags()]?,
+            told,
         })
     }
 

@@ -1,7 +1,7 @@
 use Rattle.std.proofs.Common.{◌≡◌, ◌++◌, ℕ, sym, ap, ◌∙◌, arith}
 use Rattle.std.proofs.lemmas.List.{append-nil}
 use Rattle.gt_search.specs.Ends.{choices}
-use Rattle.gt_search.proofs.Turning.{choices-step}
+use Rattle.gt_search.proofs.MovesListed.{choices-step}
 use Rattle.gt_search.proofs.moves.push_choices.Goals as goal
 
 pub loop-choice-init : goal.loop-choice-init

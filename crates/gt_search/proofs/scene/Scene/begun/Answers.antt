@@ -1,7 +1,7 @@
 use Rattle.std.proofs.Common.{List, ◌∙◌, subst}
 use Rattle.gt_search.specs.Placing.{ArePlaced}
 use Rattle.gt_search.specs.declared.actor.Mapping.{Mapping}
-use Rattle.gt_search.proofs.Begun.{begun-line}
+use Rattle.gt_search.proofs.CallBegins.{begun-line}
 use Rattle.gt_search.proofs.scene.Scene.begun.Goals as goal
 
 pub returns : goal.returns

@@ -1,4 +1,4 @@
-use Rattle.gt_search.proofs.Turning.{AreDoneTo}
+use Rattle.gt_search.proofs.MovesListed.{AreDoneTo}
 use Rattle.gt_search.proofs.scene.Scene.is_finished.Given as goal
 
 abbrev pub invariant-loop-place : goal.invariant-loop-place

@@ -2,7 +2,7 @@ use Rattle.std.proofs.Common.{sym, ap, ◌∙◌, subst}
 use Rattle.gt_calls.specs.Following.{IsLeftAlike}
 use Rattle.gt_calls.specs.Rules.{CallerKnowledge}
 use Rattle.gt_search.specs.Calls.{known_in}
-use Rattle.gt_search.proofs.Along.{goes-on-as-run}
+use Rattle.gt_search.proofs.OpenAlong.{goes-on-as-run}
 use Rattle.gt_search.proofs.scene.Scene.next.Goals as goal
 
 pub returns-clause-goes : goal.returns-clause-goes

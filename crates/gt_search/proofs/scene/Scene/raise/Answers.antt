@@ -3,7 +3,7 @@ use Rattle.std.proofs.lemmas.Option.{get_or_from_slice_get}
 use Rattle.std.specs.Vec.{with_item}
 use Rattle.gt_search.specs.Starting.{passed_actor}
 use Rattle.gt_search.specs.declared.actor.Actor.{Actor}
-use Rattle.gt_search.proofs.Passing.{passes}
+use Rattle.gt_search.proofs.FlagLines.{passes}
 use Rattle.gt_search.proofs.scene.Scene.raise.Goals as goal
 
 pub returns : goal.returns

@@ -1,7 +1,7 @@
 use Rattle.std.proofs.Common.{◌≡◌, ◌+◌, List, sym, ap, ◌∙◌, subst, take}
 use Rattle.gt_search.specs.Ends.{turns_from}
 use Rattle.gt_search.specs.declared.actor.Actor.{Actor}
-use Rattle.gt_search.proofs.Turning.{turns-step}
+use Rattle.gt_search.proofs.MovesListed.{turns-step}
 use Rattle.gt_search.proofs.scene.Scene.turns.Goals as goal
 
 pub loop-place-preserved : goal.loop-place-preserved

@@ -4,8 +4,8 @@ use Rattle.std.proofs.Common.{ap, ◌∙◌, sym}
 use Rattle.gt_handles.specs.declared.handles.Handle.{Handle}
 use Rattle.gt_search.specs.Placing.{ArePlaced}
 use Rattle.gt_search.specs.declared.actor.Mapping.{Mapping}
-use Rattle.gt_search.proofs.Begun.{given-line}
-use Rattle.gt_search.proofs.Finding.{at-copied}
+use Rattle.gt_search.proofs.CallBegins.{given-line}
+use Rattle.gt_search.proofs.MappingFound.{at-copied}
 use Rattle.gt_search.proofs.scene.Scene.unmapping.Goals as goal
 
 pub returns : goal.returns

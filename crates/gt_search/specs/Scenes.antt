@@ -1,0 +1,60 @@
+-- When a state of a search shows a run of a script that has come some way.
+use Rattle.std.specs.Prelude.{◌≡◌, ◌++◌, ℕ, true, List, [], ◌∷◌, length, map, Some, slice_get, slice_set}
+use Rattle.gt_types.specs.Config.{IsWithinLimits}
+use Rattle.gt_core.specs.History.{History}
+use Rattle.gt_host.specs.Playing.{setting_of_script}
+use Rattle.gt_host.specs.Rights.{may_by, may_in}
+use Rattle.gt_replay.specs.Abreast.{CanComeNext, HaveAnswered, WereAnswered, history_in}
+use Rattle.gt_replay.specs.Courses.{Course, CourseLeads}
+use Rattle.gt_replay.specs.Orders.{Happening, IsRaisedBefore}
+use Rattle.gt_script.specs.Contents.{type_names}
+use Rattle.gt_script.specs.RunContents.{RunContents}
+use Rattle.gt_script.specs.RunScripts.{list_of}
+use Rattle.gt_script.specs.Stuck.{AreNumbered}
+use Rattle.gt_search.specs.Calls.{ShowsCalls}
+use Rattle.gt_search.specs.Ends.{tasks_at}
+use Rattle.gt_search.specs.Starting.{Grows}
+use Rattle.gt_search.specs.declared.actor.Actor.{Actor}
+use Rattle.gt_ways.specs.declared.spaces.Led.{Led}
+use Rattle.gt_search.specs.declared.scene.Scene.{Scene}
+use Rattle.gt_search.specs.declared.scene.World.{World}
+use Rattle.gt_world.specs.Likeness.{IsLikeReached}
+use Rattle.gt_world.specs.Shows.{IsSettingOf, PagesShow, TablesShow}
+
+-- what all states have in common is of this script
+pub record IsSceneOf (c : RunContents) (scene : Scene) : Type 0 where
+  pub setting : IsSettingOf scene.roster (setting_of_script c.head)
+  pub limits : IsWithinLimits scene.roster
+  pub may : may_by scene.rights ≡ may_in c.head
+  pub types : scene.types.items ≡ type_names c.head
+  pub lists : map (λ list. map (λ t. t.now) list.items) scene.lists.items
+      ≡ map (λ d. list_of c.tasks d.id) c.head.domains
+  pub flags : scene.flags ≡ c.flags
+  pub numbered : AreNumbered c.flags c.tasks
+
+-- the domain of a course was answered each handle that its labels name, and each that it holds
+pub record WasAnsweredAll (h : History) (k : Course) : Type 0 where
+  pub named : HaveAnswered h k.named
+  pub held : WereAnswered h k.dom.0 k.held
+
+-- the state shows a run of the script in which this happened, with its domains at these points of their courses
+pub record Shows (c : RunContents) (scene : Scene) (hs : List Happening) (ks : List Course) (w : World) : Type 0 where
+  pub domains : map (λ k. k.dom) ks ≡ map (λ d. d.id) c.head.domains
+  pub many : length w.actors.items ≡ length ks
+  pub each : (at : ℕ) (k : Course) (a : Actor) → slice_get ks at ≡ Some k → slice_get w.actors.items at ≡ Some a
+      → ShowsCalls (setting_of_script c.head) (history_in hs) (tasks_at scene at) k a
+  pub answered : (at : ℕ) (k : Course) → slice_get ks at ≡ Some k → WasAnsweredAll (history_in hs) k
+  pub tables : TablesShow (setting_of_script c.head) (history_in hs) w.ground.tables.items
+  pub pages : PagesShow (history_in hs) w.ground.pages.items
+  pub like : IsLikeReached (setting_of_script c.head) (history_in hs)
+  pub flags : length w.told.items ≡ c.flags
+  pub told : (flag : ℕ) → IsRaisedBefore (length hs) flag hs → slice_get w.told.items flag ≡ Some true
+
+-- if the domain at this place goes on with this choice in a run that the state shows, its move prints what its course's
+-- text grows by, and the new state shows the run that has come so far
+abbrev pub MovesAlong : Scene → ℕ → ℕ → World → Led → World → Type 0
+MovesAlong scene place choice old led new =
+    (c : RunContents) (hs : List Happening) (ks : List Course) (k j : Course) (x : Happening)
+    → IsSceneOf c scene → Shows c scene hs ks old → slice_get ks place ≡ Some k
+    → CourseLeads (type_names c.head) k choice x j → CanComeNext (setting_of_script c.head) hs x
+    → Grows led k.text j.text × Shows c scene (hs ++ x ∷ []) (slice_set ks place j) new
