@@ -1,0 +1,125 @@
+#!/usr/bin/env python3
+"""Runs a command, and prints before its last line what each crate's proof, tests and edits cost.
+
+The costs are processor seconds (user and system) of the kit's processes, as /proc shows them twice a second while they
+run, so each process may cost up to half a second more. The status is that of the command.
+
+usage: tools/gate_costs.py COMMAND [WORD..]        in .ci/run: tools/gate_costs.py rt ci
+"""
+
+import glob
+import os
+import re
+import subprocess
+import sys
+import threading
+import time
+
+TICKS = os.sysconf("SC_CLK_TCK")
+PAUSE = 0.5
+COLUMNS = ("proof", "tests", "edits")
+
+
+def read(path):
+    with open(path, "rb") as it:
+        return it.read()
+
+
+def part_of(pid):
+    """The crate and the column of a process of the kit, or None of another."""
+    words = read(f"/proc/{pid}/cmdline").decode(errors="replace").split("\0")
+    if not words[0].endswith("/rattle") or "--crate-name" not in words:
+        return None
+    crate = words[words.index("--crate-name") + 1]
+    if "/rt-edit" in os.readlink(f"/proc/{pid}/cwd") or "/rt-edit" in " ".join(words):
+        return crate, "edits"
+    return crate, "tests" if "--test" in words else "proof"
+
+
+class Costs:
+    def __init__(self):
+        self.parts = {}  # (pid, start) of each process seen: its crate and column, or None
+        self.seconds = {}  # (pid, start): what it took so far
+        self.memory = 0  # the most that one process held, in KiB
+
+    def look(self):
+        """Notes what each process of the kit has taken so far."""
+        for folder in glob.glob("/proc/[0-9]*"):
+            pid = folder[6:]
+            try:
+                fields = read(f"{folder}/stat").decode(errors="replace").rpartition(")")[2].split()
+                key = (pid, fields[19])
+                if self.parts.get(key) is None:
+                    # A process begins as a copy of the one that starts it, so a new one is looked at more than once.
+                    self.parts[key] = part_of(pid)
+                if self.parts[key]:
+                    self.seconds[key] = (int(fields[11]) + int(fields[12])) / TICKS
+                    self.memory = max(self.memory, int(fields[21]) * os.sysconf("SC_PAGE_SIZE") // 1024)
+            except (OSError, ValueError, IndexError):
+                continue
+
+    def table(self):
+        """The costs of each crate, a column each."""
+        table = {}
+        for key, seconds in self.seconds.items():
+            crate, column = self.parts[key]
+            row = table.setdefault(crate, dict.fromkeys(COLUMNS, 0.0))
+            row[column] += seconds
+        return table
+
+
+def show(costs, seconds):
+    table = costs.table()
+    sums = [0.0, 0.0, 0, 0.0, 0.0]
+    print("| crate | proof | tests | edits | their seconds | all |")
+    print("|---|---|---|---|---|---|")
+    for crate in in_order(table):
+        row = table[crate]
+        count = len(glob.glob(f"crates/{crate}/must-fail/*.edit"))
+        cells = [row["proof"], row["tests"], count, row["edits"], sum(row.values())]
+        sums = [one + other for one, other in zip(sums, cells)]
+        print(f"| {crate} | " + " | ".join(f"{cell:.0f}" if cell >= 0.5 else "" for cell in cells) + " |")
+    print("| all | " + " | ".join(f"{cell:.0f}" for cell in sums) + " |")
+    print(f"{seconds / 60:.0f} minutes on {os.cpu_count()} processors; {costs.memory / 1024 / 1024:.1f} GiB in the largest process")
+
+
+def in_order(table):
+    """The crates as crates.txt lists them, and after them any others."""
+    try:
+        listed = re.findall(r"^([a-z0-9_]+)[ :]", read("crates.txt").decode(), re.M)
+    except OSError:
+        listed = []
+    return [crate for crate in listed if crate in table] + sorted(set(table) - set(listed))
+
+
+def watch(costs, is_over):
+    while not is_over.wait(PAUSE):
+        costs.look()
+
+
+def main(words):
+    if not words:
+        print(__doc__.strip().splitlines()[-1], file=sys.stderr)
+        return 2
+    began = time.monotonic()
+    costs, is_over = Costs(), threading.Event()
+    watcher = threading.Thread(target=watch, args=(costs, is_over), daemon=True)
+    command = subprocess.Popen(words, stdout=subprocess.PIPE)
+    watcher.start()
+    last = b""
+    for line in command.stdout:
+        sys.stdout.buffer.write(last)
+        sys.stdout.buffer.flush()
+        last = line
+    status = command.wait()
+    is_over.set()
+    watcher.join()
+    show(costs, time.monotonic() - began)
+    sys.stdout.flush()
+    sys.stdout.buffer.write(last)
+    sys.stdout.buffer.flush()
+    return status if status >= 0 else 128 - status
+
+
+if __name__ == "__main__":
+    sys.exit(main(sys.argv[1:]))
