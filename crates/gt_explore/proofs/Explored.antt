@@ -1,5 +1,5 @@
 -- From what was read to what was written.
-use Rattle.std.proofs.Common.{◌≡◌, ℕ, Bool, List, IfOk, Option, None, Result, Ok, Err, sym, subst}
+use Rattle.std.proofs.Common.{◌≡◌, ◌||◌, ◌∙◌, ℕ, Bool, true, refl, ap, List, [], ◌∷◌, IfOk, Option, None, Some, Result, Ok, Err, sym, subst}
 use Rattle.gt_host.specs.Faults.{fault_of, read_fault}
 use Rattle.gt_host.specs.declared.fault.PlayFault.{PlayFault}
 use Rattle.gt_host.specs.declared.fault.PlayFault.TheVariants as plays
@@ -12,20 +12,38 @@ use Rattle.gt_streams.specs.Laws.{keeps_same, of_any_input}
 use Rattle.gt_streams.specs.Streams.{OfInput}
 use Rattle.gt_streams.specs.declared.fault.ReadFault.{ReadFault}
 use Rattle.gt_streams.specs.declared.fault.ReadFault.TheVariants as reads
+use Rattle.gt_ways.specs.declared.exploring.Order.{Order}
+use Rattle.gt_explore.specs.Adding.{texts_in}
 use Rattle.gt_explore.specs.Exploring.{AreTextsOf, Explored, Explores, IsMadeBy}
-use Rattle.gt_explore.specs.Telling.{texts_told as told_of}
+use Rattle.gt_explore.specs.Telling.{is_wanted, texts_told as told_of}
+use Rattle.std.specs.List.{list_any}
+use Rattle.gt_explore.specs.Witness.{IsWitness}
 use Rattle.gt_explore.specs.declared.exploring.Made.{Made}
 use Rattle.gt_explore.specs.declared.fault.TextsFault.{TextsFault}
 use Rattle.gt_explore.specs.declared.exploring.Asked.{Asked}
 use Rattle.gt_explore.specs.declared.fault.ExploreFault.{ExploreFault}
 use Rattle.gt_explore.specs.declared.fault.ExploreFault.TheVariants.{Play, Texts}
 
+-- one of the texts of these orders passes a test
+any_text : (test : List ℕ → Bool) (os : List Order) → list_any (λ (o : Order). test o.text.items) os ≡ list_any test (texts_in os)
+any_text test [] = refl
+any_text test (o ∷ os) = ap (λ (b : Bool). test o.text.items || b) (any_text test os)
+
 -- the texts of a script are told
-pub made_texts : (c : RunContents) (witness : Option ℕ) (find : Option (List ℕ)) (texts : List (List ℕ)) (states : ℕ) (r : Result Made TextsFault) → witness ≡ None
-    → AreTextsOf c texts → IfOk r (λ made. made.text.items ≡ told_of find states texts) → IfOk r (λ made. IsMadeBy c witness find made.text.items)
-made_texts c witness find texts states (Ok made) is are told =
-    subst (λ (w : Option ℕ). IsMadeBy c w find made.text.items) (sym is) (texts, states, are, told)
-made_texts c witness find texts states (Err fault) is are told = tt
+pub made_texts : (c : RunContents) (witness : Option ℕ) (find : Option (List ℕ)) (os : List Order) (states : ℕ) (r : Result Made TextsFault) → witness ≡ None
+    → AreTextsOf c (texts_in os) → IfOk r (λ made. made.text.items ≡ told_of find states (texts_in os)) → IfOk r (λ made. made.is_any ≡ list_any (λ o. is_wanted find o.text.items) os)
+    → IfOk r (λ made. IsMadeBy c witness find made.text.items made.is_any)
+made_texts c witness find os states (Ok made) is are told any =
+    subst (λ (w : Option ℕ). IsMadeBy c w find made.text.items made.is_any) (sym is) (texts_in os, states, are, told, any ∙ any_text (is_wanted find) os)
+made_texts c witness find os states (Err fault) is are told any = tt
+
+-- a script for `play` is written that gives one of them
+pub made_witness : (c : RunContents) (witness : Option ℕ) (find : Option (List ℕ)) (number : ℕ) (texts : List (List ℕ)) (r : Result Made TextsFault) → witness ≡ Some number
+    → AreTextsOf c texts → IfOk r (λ made. IsWitness c.head.domains texts number made.text.items) → IfOk r (λ made. made.is_any ≡ true)
+    → IfOk r (λ made. IsMadeBy c witness find made.text.items made.is_any)
+made_witness c witness find number texts (Ok made) is are gives any =
+    subst (λ (w : Option ℕ). IsMadeBy c w find made.text.items made.is_any) (sym is) (texts, are, gives, any)
+made_witness c witness find number texts (Err fault) is are gives any = tt
 
 -- a script was explored
 pub explored_script : (asked : Asked) (Told : Result RunContents Wrong → Type 0) (c : RunContents) (r : Result Bool ExploreFault) (old new : Option (List ℕ)) → Told (Ok c)

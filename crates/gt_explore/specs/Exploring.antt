@@ -1,5 +1,6 @@
 -- What is written for a script that is explored.
-use Rattle.std.specs.Prelude.{◌≡◌, ℕ, Bool, List, All, Option, Some, None, Result, Ok, Err, option_map}
+use Rattle.std.specs.Prelude.{◌≡◌, ℕ, Bool, true, List, All, Option, Some, None, Result, Ok, Err, option_map}
+use Rattle.std.specs.List.{list_any}
 use Rattle.std.specs.Io.KnownBytes.{Appends, Keeps}
 use Rattle.gt_policy.specs.declared.fault.TokenFault as policy
 use Rattle.gt_script.specs.Blocks.{block_fault_shown}
@@ -9,7 +10,8 @@ use Rattle.gt_streams.specs.Streams.{AppendsBeginning}
 use Rattle.gt_host.specs.declared.fault.PlayFault.TheVariants.{Memory, Read, Write, Script, Policy}
 use Rattle.gt_replay.specs.Orders.{MayGive}
 use Rattle.gt_explore.specs.Adding.{AreApart, IsAmong}
-use Rattle.gt_explore.specs.Telling.{texts_told}
+use Rattle.gt_explore.specs.Telling.{is_wanted, texts_told}
+use Rattle.gt_explore.specs.Witness.{IsWitness}
 use Rattle.gt_explore.specs.declared.exploring.Asked.{Asked}
 use Rattle.gt_explore.specs.declared.fault.ExploreFault.{ExploreFault}
 use Rattle.gt_explore.specs.declared.fault.ExploreFault.TheVariants.{Play, Texts}
@@ -24,20 +26,24 @@ pub record AreTextsOf (c : RunContents) (texts : List (List ℕ)) : Type 0 where
   pub whole : (text : List ℕ) → MayGive c text → IsAmong text texts
   pub apart : AreApart texts
 
--- what is to be written of a script: the texts that it may give, each under its number. Of a witness nothing is claimed
-abbrev pub IsMadeBy : RunContents → Option ℕ → Option (List ℕ) → List ℕ → Type 0
-IsMadeBy c None find text =
+-- what is to be written of a script: the texts that it may give, each under its number; or a script for `play` that
+-- gives the answers of one of them; and whether a text is asked for
+abbrev pub IsMadeBy : RunContents → Option ℕ → Option (List ℕ) → List ℕ → Bool → Type 0
+IsMadeBy c None find text is_any =
     (texts : List (List ℕ)) × (states : ℕ) × AreTextsOf c texts × (text ≡ texts_told find states texts)
-IsMadeBy c (Some number) find text = Unit {0}
+    × (is_any ≡ list_any (is_wanted find) texts)
+IsMadeBy c (Some number) find text is_any =
+    (texts : List (List ℕ)) × AreTextsOf c texts × IsWitness c.head.domains texts number text × (is_any ≡ true)
 
-abbrev pub IsMade : RunContents → Asked → List ℕ → Type 0
-IsMade c asked text = IsMadeBy c asked.witness (word_asked asked) text
+abbrev pub IsMade : RunContents → Asked → List ℕ → Bool → Type 0
+IsMade c asked text is_any = IsMadeBy c asked.witness (word_asked asked) text is_any
 
 -- what was written of a script
 abbrev pub Explores : RunContents → Asked → Option (List ℕ) → Option (List ℕ) → Result Bool ExploreFault → Type 0
-Explores c asked old new (Ok is_any) = (text : List ℕ) × IsMade c asked text × Appends old new text
+Explores c asked old new (Ok is_any) = (text : List ℕ) × IsMade c asked text is_any × Appends old new text
 Explores c asked old new (Err (Texts fault)) = Keeps old new
-Explores c asked old new (Err (Play Write)) = (text : List ℕ) × IsMade c asked text × AppendsBeginning old new text
+Explores c asked old new (Err (Play Write)) =
+    (text : List ℕ) × (is_any : Bool) × IsMade c asked text is_any × AppendsBeginning old new text
 Explores c asked old new (Err (Play Memory)) = ⊥
 Explores c asked old new (Err (Play Read)) = ⊥
 Explores c asked old new (Err (Play (Script fault))) = ⊥

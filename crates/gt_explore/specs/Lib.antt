@@ -2,3 +2,4 @@ pub mod Adding
 pub mod Exploring
 pub mod Faults
 pub mod Telling
+pub mod Witness

@@ -1,5 +1,6 @@
 //! The command `explore`.
-ghost use Rattle.std.specs.Prelude.{◌≡◌, ℕ, List, IfOk, take};
+ghost use Rattle.std.specs.Prelude.{◌≡◌, ℕ, List, true, IfOk, take};
+ghost use Rattle.std.specs.List.{list_any};
 ghost use Rattle.gt_script.specs.Contents.{contents_told};
 ghost use Rattle.gt_script.specs.RunContents.{run_told};
 ghost use Rattle.gt_script.specs.RunScripts.{CanConfigure, RunTells};
@@ -8,15 +9,18 @@ ghost use Rattle.gt_streams.specs.declared.streams.TheConstants.{READ_LIMIT};
 ghost use Rattle.gt_script.specs.Stuck.{AreNumbered};
 ghost use Rattle.gt_explore.specs.Adding.{texts_in};
 ghost use Rattle.gt_explore.specs.Exploring.{Explored, Explores, IsMade, word_asked};
-ghost use Rattle.gt_explore.specs.Telling.{texts_told as told_of};
+ghost use Rattle.gt_explore.specs.Telling.{is_wanted, texts_told as told_of};
+ghost use Rattle.gt_explore.specs.Witness.{GivesAnswers, IsWitness};
 
+use crate::checked::gives_answers;
 use crate::fault::{ExploreFault, TextsFault};
-use crate::telling::push_told;
+use crate::telling::{is_any_wanted, push_told};
 use crate::texts::{Texts, texts_of};
 use crate::witness::push_witness;
 use gt_host::PlayFault;
 use gt_script::{RunScript, parse_run};
 use gt_streams::{read_text, text_of, write_text};
+use gt_ways::Order;
 use std::alloc::Global;
 use std::io::{Read, Write};
 
@@ -38,12 +42,37 @@ struct Made {
 
 // The texts that are asked for.
 fn texts_made(alloc: Global, asked: &Asked, all: &Texts) -> Result<Made, TextsFault>
-    ensures { IfOk result (λ made. made.text.items
+    ensures text { IfOk result (λ made. made.text.items
         ≡ told_of (word_asked asked.now) all.now.states (texts_in all.now.texts.items)) }
+    ensures any { IfOk result (λ made. made.is_any
+        ≡ list_any (λ o. is_wanted (word_asked asked.now) o.text.items) all.now.texts.items) }
 {
     let mut text = Vec::new(alloc);
-    let is_any = push_told(&mut text, asked.find, all.states, all.texts.as_slice())?;
+    push_told(&mut text, asked.find, all.states, all.texts.as_slice())?;
+    let is_any = is_any_wanted(all.texts.as_slice(), asked.find);
     Ok(Made { text, is_any })
+}
+
+// The lines of a script for `play` that gives the text of an order: it was played, and gave it.
+fn script_of(
+    alloc: Global,
+    source: &[u8],
+    script: &RunScript,
+    order: &Order,
+) -> Result<Vec<u8>, TextsFault>
+    requires { CanConfigure (contents_told script.now.head) }
+    ensures { IfOk result (λ text. GivesAnswers script.now.head.domains text.items order.now.text.items) }
+{
+    let Ok(source) = text_of(source) else {
+        return Err(TextsFault::Astray);
+    };
+    let mut text = Vec::new(alloc);
+    push_witness(alloc, &mut text, source, script, order.turns.as_slice())?;
+    let domains = script.head().domains();
+    if !gives_answers(alloc, domains, text.as_slice(), order.text.as_slice())? {
+        return Err(TextsFault::Astray);
+    }
+    Ok(text)
 }
 
 // A script for `play` that gives the text of this number.
@@ -55,14 +84,17 @@ fn witness_made(
     number: usize,
 ) -> Result<Made, TextsFault>
     requires { CanConfigure (contents_told script.now.head) }
+    ensures text { IfOk result (λ made.
+        IsWitness script.now.head.domains (texts_in all.now.texts.items) number made.text.items) }
+    ensures any { IfOk result (λ made. made.is_any ≡ true) }
 {
-    let Some(given) = all.texts.get(number.wrapping_sub(1)) else {
+    let Some(at) = number.checked_sub(1) else {
         return Err(TextsFault::Witness);
     };
-    let mut text = Vec::new(alloc);
-    if let Ok(source) = text_of(source) {
-        push_witness(alloc, &mut text, source, script, given.turns.as_slice())?;
-    }
+    let Some(order) = all.texts.get(at) else {
+        return Err(TextsFault::Witness);
+    };
+    let text = script_of(alloc, source, script, order)?;
     let is_any = true;
     Ok(Made { text, is_any })
 }
@@ -71,7 +103,7 @@ fn witness_made(
 fn make(alloc: Global, asked: &Asked, source: &[u8], script: &RunScript) -> Result<Made, TextsFault>
     requires fits { CanConfigure (contents_told script.now.head) }
     requires numbered { AreNumbered script.now.flags script.now.tasks }
-    ensures { IfOk result (λ made. IsMade (run_told script.now) asked.now made.text.items) }
+    ensures { IfOk result (λ made. IsMade (run_told script.now) asked.now made.text.items made.is_any) }
 {
     let all = texts_of(alloc, script, asked.states)?;
     match asked.witness {
@@ -118,11 +150,12 @@ fn explore_bytes<W: Write>(
 }
 
 /// Writes the texts that the script of a reader may give, each under a line `text K of M`, in the order of their bytes,
-/// and at the end a line `states S`. Answers whether one is asked for. With a witness it writes the script for `play`
-/// that gives the text of this number instead.
+/// and at the end a line `states S`. Answers whether one is asked for. With a witness it writes a script for `play`
+/// instead. That one was played before, and each domain had the answers that it has in the text of this number.
 ///
 /// # Errors
-/// The script's first fault; that its texts were not found; memory that was refused; or a read or a write that failed.
+/// The script's first fault; that its texts were not found, or no script for `play` that gives the one that is asked
+/// for; memory that was refused; or a read or a write that failed.
 /// Only after a failed write a beginning of the text was written.
 pub fn explore<R: Read, W: Write>(
     alloc: Global,

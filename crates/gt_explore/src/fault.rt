@@ -16,7 +16,8 @@ pub enum TextsFault {
     States,
     /// In some order this domain comes to its end with a mapping that the policy does not let it unmap.
     Keeps(DomId),
-    /// The search found an order that the core does not follow to its text, or a run that came back to a state.
+    /// The search found an order that the core does not follow to its text, a run that came back to a state, or a
+    /// witness that does not give its text.
     Astray,
     /// No text has the number of the witness.
     Witness,

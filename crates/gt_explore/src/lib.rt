@@ -4,9 +4,11 @@
 //! script and writes these texts, each with its number, or the lines of a script for `play` that gives one of them.
 //!
 //! What holds: the texts that are answered or written are just those that the script may give (`MayGive` of
-//! `gt_replay`): each of them, all of them, and each once. Of a script for `play` nothing is claimed.
+//! `gt_replay`): each of them, all of them, and each once. A script for `play` that is written gives the answers of its
+//! text: it was played before, and they were compared.
 #![tactic(auto)]
 
+mod checked;
 mod exploring;
 mod fault;
 mod telling;

@@ -1,5 +1,6 @@
 //! What is written of the texts that a script may give.
 ghost use Rattle.std.specs.Prelude.{◌≡◌, ◌++◌, OnOk, IfOk};
+ghost use Rattle.std.specs.List.{list_any};
 ghost use Rattle.std.specs.Option.{option_map};
 ghost use Rattle.gt_explore.specs.Telling.{has_word, heading, is_between, is_wanted, text_shown, states_line};
 ghost use Rattle.gt_explore.specs.Telling.{texts_told};
@@ -45,24 +46,22 @@ fn push_heading(out: &mut Vec<u8>, number: usize, count: usize) -> Result<(), Al
     push_text(out, "\n")
 }
 
-// Appends a text under its number, if it is asked for. Answers whether it is.
+// Appends a text under its number, if it is asked for.
 fn push_shown(
     out: &mut Vec<u8>,
     find: Option<&str>,
     count: usize,
     number: usize,
     text: &[u8],
-) -> Result<bool, AllocError>
-    ensures text { OnOk result (out.new.items
+) -> Result<(), AllocError>
+    ensures { OnOk result (out.new.items
         ≡ out.old.items ++ text_shown (option_map (λ word. word.now) find.entry) count number text.now) }
-    ensures wanted { IfOk result (λ b. b ≡ is_wanted (option_map (λ word. word.now) find.entry) text.now) }
 {
     if !is_wanted(text, find) {
-        return Ok(false);
+        return Ok(());
     }
     push_heading(out, number, count)?;
-    out.extend_from_slice(text)?;
-    Ok(true)
+    out.extend_from_slice(text)
 }
 
 // Appends the last line.
@@ -74,24 +73,29 @@ fn push_states(out: &mut Vec<u8>, states: usize) -> Result<(), AllocError>
     push_text(out, "\n")
 }
 
-/// Appends all that is written of these texts. Answers whether one is asked for.
+/// Whether one of these texts is asked for.
+pub fn is_any_wanted(texts: &[Order], find: Option<&str>) -> bool
+    ensures { result ≡ list_any (λ o. is_wanted (option_map (λ word. word.now) find.entry) o.text.items) texts.now }
+{
+    texts
+        .iter()
+        .any(|order| is_wanted(order.text.as_slice(), find))
+}
+
+/// Appends all that is written of these texts.
 pub fn push_told(
     out: &mut Vec<u8>,
     find: Option<&str>,
     states: usize,
     texts: &[Order],
-) -> Result<bool, AllocError>
-    ensures text { OnOk result (out.new.items ≡ out.old.items
+) -> Result<(), AllocError>
+    ensures { OnOk result (out.new.items ≡ out.old.items
         ++ texts_told (option_map (λ word. word.now) find.entry) states (texts_in texts.now)) }
 {
-    let mut is_any = false;
     let mut number = 0;
     'texts: for order in texts {
         number += 1;
-        if push_shown(out, find, texts.len(), number, order.text.as_slice())? {
-            is_any = true;
-        }
+        push_shown(out, find, texts.len(), number, order.text.as_slice())?;
     }
-    push_states(out, states)?;
-    Ok(is_any)
+    push_states(out, states)
 }

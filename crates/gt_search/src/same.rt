@@ -89,43 +89,13 @@ fn same_held(one: Held, other: Held) -> bool
 fn same_value(one: Value, other: Value) -> bool
     ensures { IsTrue result → other ≡ one }
 {
-    match (one, other) {
-        (Value::Frames(frames), Value::Frames(f)) => frames == f,
-        (Value::Size(size), Value::Size(s)) => size == s,
-        (Value::Version(version), Value::Version(v)) => version == v,
-        _ => false,
-    }
+    one == other
 }
 
 fn same_facts(one: Facts, other: Facts) -> bool
     ensures { IsTrue result → other ≡ one }
 {
-    match (one, other) {
-        (Facts::None, Facts::None) => true,
-        (
-            Facts::Policy {
-                source,
-                target,
-                perm,
-            },
-            Facts::Policy {
-                source: s,
-                target: t,
-                perm: p,
-            },
-        ) => source == s && target == t && perm == p,
-        (Facts::Field(field), Facts::Field(f)) => field == f,
-        (Facts::Header { dom, word }, Facts::Header { dom: d, word: w }) => dom == d && word == w,
-        (
-            Facts::Entry { dom, gref, word },
-            Facts::Entry {
-                dom: d,
-                gref: g,
-                word: w,
-            },
-        ) => dom == d && gref == g && word == w,
-        _ => false,
-    }
+    one == other
 }
 
 fn same_denial(one: Denial, other: Denial) -> bool

@@ -1,6 +1,4 @@
-use Rattle.std.proofs.Common.{◌≡◌, List, Some, sym, ap, ◌∙◌}
-use Rattle.std.specs.Prelude.{slice_get}
-use Rattle.gt_search.specs.declared.actor.Actor.{Actor}
+use Rattle.std.proofs.Common.{sym}
 use Rattle.gt_search.proofs.MovesAlong.{actor-at, begin-along, give-along, pass-along, raise-along, tick-along}
 use Rattle.gt_search.proofs.scene.Scene.advance.Goals as goal
 

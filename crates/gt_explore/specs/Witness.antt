@@ -1,0 +1,48 @@
+-- A script for `play` that gives the answers of a text.
+use Rattle.std.specs.Prelude.{◌≡◌, ◌+◌, ◌++◌, ◌==◌, ℕ, Bool, false, List, [], All, filter, map, take, length}
+use Rattle.std.specs.Prelude.{Some, Ok, codes, decimal, slice_get}
+use Rattle.std.specs.List.{after_first, slice_split}
+use Rattle.std.specs.Str.{bytes_eq}
+use Rattle.gt_types.specs.declared.config.DomainConfig.{DomainConfig}
+use Rattle.gt_script.specs.Script.{TellsScript}
+use Rattle.gt_host.specs.Playing.{Played}
+
+-- a line without its number: what comes after its first space
+abbrev pub without_number : List ℕ → List ℕ
+without_number line = after_first (λ b. b == 32) line
+
+-- what the answers of a domain begin with, after the number of the line
+abbrev pub domain_word : ℕ → List ℕ
+domain_word dom = decimal dom ++ codes " "
+
+-- a line begins so
+abbrev pub begins_with : List ℕ → List ℕ → Bool
+begins_with word line = bytes_eq word (take (length word) line)
+
+-- the end of a line
+abbrev pub is_end : ℕ → Bool
+is_end b = b == 10
+
+-- the answers of a domain in a text, in their order, without the numbers of their lines
+abbrev pub answers_of : ℕ → List ℕ → List (List ℕ)
+answers_of dom text = filter (begins_with (domain_word dom)) (map without_number (slice_split is_end text))
+
+-- two texts have the same answers of each of these domains
+abbrev pub SameAnswers : List DomainConfig → List ℕ → List ℕ → Type 0
+SameAnswers domains one other = All (λ domain. answers_of domain.id.0 one ≡ answers_of domain.id.0 other) domains
+
+-- the script is one for `play`, whose run prints the answers of the text
+pub record GivesAnswers (domains : List DomainConfig) (script text : List ℕ) : Type 0 where
+  pub out : List ℕ
+  pub played : Played (TellsScript script) false (Some []) (Some out) (Ok tt)
+  pub same : SameAnswers domains text out
+
+-- the text of this number among these, of which the first has the number 1
+abbrev pub IsNumbered : List (List ℕ) → ℕ → List ℕ → Type 0
+IsNumbered texts number text = (at : ℕ) × (number ≡ at + 1) × (slice_get texts at ≡ Some text)
+
+-- a script for `play` that gives the answers of the text of this number
+pub record IsWitness (domains : List DomainConfig) (texts : List (List ℕ)) (number : ℕ) (script : List ℕ) : Type 0 where
+  pub text : List ℕ
+  pub numbered : IsNumbered texts number text
+  pub gives : GivesAnswers domains script text
