@@ -116,7 +116,8 @@ fn same_verdict(one: Verdict, other: Verdict) -> bool
     }
 }
 
-fn same_step(one: Step, other: Step) -> bool
+// Of steps that look at a word. Others are not the same by this test.
+fn same_look(one: Step, other: Step) -> bool
     ensures { IsTrue result → other ≡ one }
 {
     match (one, other) {
@@ -132,6 +133,15 @@ fn same_step(one: Step, other: Step) -> bool
                 half: h,
             },
         ) => dom == d && gref == g && half == h,
+        _ => false,
+    }
+}
+
+// Of steps that change a word.
+fn same_change(one: Step, other: Step) -> bool
+    ensures { IsTrue result → other ≡ one }
+{
+    match (one, other) {
         (Step::Pin { held }, Step::Pin { held: h }) => same_held(held, h),
         (Step::Unpin { held, holder }, Step::Unpin { held: h, holder: o }) => {
             same_held(held, h) && holder == o
@@ -163,6 +173,15 @@ fn same_step(one: Step, other: Step) -> bool
                 frames: f,
             },
         ) => version == v && frames == f,
+        _ => false,
+    }
+}
+
+// Of steps on bytes.
+fn same_access(one: Step, other: Step) -> bool
+    ensures { IsTrue result → other ≡ one }
+{
+    match (one, other) {
         (
             Step::Read {
                 dom,
@@ -201,6 +220,12 @@ fn same_step(one: Step, other: Step) -> bool
         ) => from == f && to == t && len == l,
         _ => false,
     }
+}
+
+fn same_step(one: Step, other: Step) -> bool
+    ensures { IsTrue result → other ≡ one }
+{
+    same_look(one, other) || same_change(one, other) || same_access(one, other)
 }
 
 fn same_via(one: Option<Held>, other: Option<Held>) -> bool
