@@ -60,9 +60,9 @@ fn reason(rule: Rule) -> &'static str {
         Rule::N3 => "offset plus length is above 4096",
         Rule::N4 => "the copy names a frame of another domain by its number",
         Rule::N5 => "the policy has no allow rule for these types and this permission",
-        Rule::N6 => "the handle is that of no mapping of the caller",
+        Rule::N6 => "the caller has no mapping with this handle",
         Rule::N7 => "the store goes through a read-only mapping",
-        Rule::N8 => "the caller has 8192 mappings, or has had all serials of handles",
+        Rule::N8 => "the caller has 8192 mappings, or has used up its handles",
         Rule::N9 => "the reference is past the table",
         Rule::N10 => "the entry is invalid",
         Rule::N11 => "the entry names another domain",
@@ -73,15 +73,15 @@ fn reason(rule: Rule) -> &'static str {
         Rule::N16 => "the frame number is not one of its owner's frames",
         Rule::N17 => "4095 pins of that kind are live on the entry",
         Rule::N18 =>
-            "four tries of a pin, demotion, promotion or withdrawal met another change of the entry each",
+            "the entry changed during all four tries of a pin, demotion, promotion or withdrawal",
         Rule::N19 =>
             "the entry to be revoked or granted has live pins, or the one to be demoted live write pins",
-        Rule::N20 => "the entry is not invalid",
+        Rule::N20 => "the entry is valid already",
         Rule::N21 => "the entry given is invalid, or needs a table of version 2",
-        Rule::N22 => "the entry has had its last generation",
+        Rule::N22 => "the entry is at its last generation",
         Rule::N23 => "more than 16 table frames are asked",
-        Rule::N24 => "some entry of the table is not invalid",
-        Rule::N25 => "the bytes spell no entry in a table of this version",
+        Rule::N24 => "the table has valid entries",
+        Rule::N25 => "the bytes are no entry of a table of this version",
         Rule::N26 => "memory was refused",
     }
 }
@@ -105,16 +105,17 @@ fn remedy(rule: Rule) -> &'static str {
         Rule::N14 => "ask for a range inside the sub-page",
         Rule::N15 => "ask the middle domain for a grant of its own page",
         Rule::N16 => "name a frame that the owner has",
-        Rule::N17 => "try again once others unmapped",
+        Rule::N17 => "try again after others have unmapped",
         Rule::N18 => "try again",
-        Rule::N19 => "withdraw it to close it now, or try again once the other domains unmapped",
+        Rule::N19 =>
+            "withdraw it to close it now, or try again after the other domains have unmapped",
         Rule::N20 => "revoke it first, or use another reference",
         Rule::N21 => "set version 2, or grant a whole page",
         Rule::N22 => "use another reference",
         Rule::N23 => "ask for at most 16",
         Rule::N24 => "revoke or withdraw all entries first",
-        Rule::N25 => "mend the field named",
-        Rule::N26 => "try again once memory is there",
+        Rule::N25 => "fix the field named",
+        Rule::N26 => "try again when there is memory",
     }
 }
 
