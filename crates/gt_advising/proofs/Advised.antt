@@ -13,6 +13,7 @@ use Rattle.gt_advice.specs.declared.asking.Question.{Question}
 use Rattle.gt_advice.specs.declared.findings.Finding.{Finding}
 use Rattle.gt_advising.specs.Checking.{Checked, CheckedText, IsCleanText}
 use Rattle.gt_advising.specs.Explaining.{AnswersWhy, AskedOf, Explained, WritesLines, answer_for}
+use Rattle.gt_advising.specs.Telling.{TellsFindings}
 use Rattle.gt_advising.specs.declared.fault.WhyFault.{WhyFault}
 use Rattle.gt_advising.specs.declared.fault.WhyFault.TheVariants.{Text, NoSource, NoTarget, NoPermission}
 use Rattle.gt_listing.specs.Faults.{listing_fault_of, listing_read_fault}
@@ -59,10 +60,17 @@ clean : (text : List ℕ) (found : List Finding) → Judges text found → IsCle
 clean text found (faulty f _ says line) = rw (some_error found f.line line) (f, says)
 clean text found (sound m xs _ says lined none _ _) = rw (no_error found none) (m, says)
 
+told : (text : List ℕ) (found : List Finding) (old new : Option (List ℕ)) (r : Result Bool ListingFault) → Judges text found → TellsFindings found old new r → CheckedText text old new r
+told text found old new (Ok answer) judges (is, (report, went)) = (found, report, judges, subst (IsCleanText text) (sym is) (clean text found judges), went)
+told text found old new (Err faults.Write) judges t = t
+told text found old new (Err faults.Memory) judges t = t
+told text found old new (Err faults.Read) judges t = absurd t
+told text found old new (Err (faults.Utf8 line)) judges t = absurd t
+told text found old new (Err (faults.Policy shown)) judges t = absurd t
+
 -- the findings went out
-pub checked_text : (text : List ℕ) (found : List Finding) (report : List ℕ) (old new : Option (List ℕ)) (answer : Bool) → Judges text found → answer ≡ not (errs found) → Appends old new report
-    → CheckedText text old new (Ok answer)
-checked_text text found report old new answer judges is went = (found, report, judges, subst (IsCleanText text) (sym is) (clean text found judges), went)
+pub checked_text : (text : List ℕ) (found given : List Finding) (old new : Option (List ℕ)) (r : Result Bool ListingFault) → Judges text found → given ≡ found → TellsFindings given old new r → CheckedText text old new r
+checked_text text found given old new r judges same t = told text found old new r judges (subst (λ (l : List Finding). TellsFindings l old new r) same t)
 
 take_shorter : (n : ℕ) (xs : List ℕ) → length (take n xs) ≤ length xs
 take_shorter n xs = rw length-take (omega arith)

@@ -2,7 +2,8 @@
 use Rattle.std.proofs.Common.{◌≡◌, ℕ, List, Option, Result, Ok, Err, Bool, not, sym, subst, inl, inr}
 use Rattle.gt_advice.specs.declared.findings.Finding.{Finding}
 use Rattle.gt_advising.proofs.Advised.{errs, no_error, some_error}
-use Rattle.gt_advising.specs.Scripts.{CheckedScript, IsScript, TellsFindings}
+use Rattle.gt_advising.specs.Scripts.{CheckedScript, IsScript}
+use Rattle.gt_advising.specs.Telling.{TellsFindings}
 use Rattle.gt_listing.specs.Faults.{listing_read_fault}
 use Rattle.gt_listing.specs.declared.fault.ListingFault.{ListingFault}
 use Rattle.gt_listing.specs.declared.fault.ListingFault.TheVariants as faults

@@ -2,3 +2,4 @@ pub mod Checking
 pub mod Explaining
 pub mod Faults
 pub mod Scripts
+pub mod Telling

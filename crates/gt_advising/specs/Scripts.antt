@@ -1,8 +1,6 @@
 -- What is written for a script that is checked.
-use Rattle.std.specs.Prelude.{◌≡◌, ◌⊎◌, ℕ, Bool, true, false, not, List, Option, Result, Ok, Err}
-use Rattle.std.specs.List.{list_any}
+use Rattle.std.specs.Prelude.{◌≡◌, ◌⊎◌, ℕ, Bool, true, false, List, Option, Result, Ok, Err}
 use Rattle.std.specs.Io.KnownBytes.{Appends, Keeps}
-use Rattle.gt_advice.specs.Check.{is_error}
 use Rattle.gt_advice.specs.declared.findings.Finding.{Finding}
 use Rattle.gt_listing.specs.declared.fault.ListingFault.{ListingFault}
 use Rattle.gt_listing.specs.declared.fault.ListingFault.TheVariants.{Utf8, Policy, Memory, Read, Write}
@@ -17,16 +15,6 @@ use Rattle.gt_streams.specs.Streams.{AppendsBeginning}
 abbrev pub IsScript : List ℕ → Bool → Type 0
 IsScript bytes true = ((c : Contents) × TellsScript bytes (Ok c)) ⊎ ((c : RunContents) × RunTells bytes (Ok c))
 IsScript bytes false = (play : Wrong) × (run : Wrong) × TellsScript bytes (Err play) × RunTells bytes (Err run)
-
--- findings went out, or a beginning of them; the answer is that none is an error
-abbrev pub TellsFindings : List Finding → Option (List ℕ) → Option (List ℕ) → Result Bool ListingFault → Type 0
-TellsFindings found old new (Ok clean) =
-    (clean ≡ not (list_any (λ x. is_error x.kind) found)) × ((report : List ℕ) × Appends old new report)
-TellsFindings found old new (Err Write) = (report : List ℕ) × AppendsBeginning old new report
-TellsFindings found old new (Err Memory) = Keeps old new
-TellsFindings found old new (Err Read) = ⊥
-TellsFindings found old new (Err (Utf8 line)) = ⊥
-TellsFindings found old new (Err (Policy shown)) = ⊥
 
 -- what was written for a script: at Ok what was found in it, and whether it is one; after a failed write a beginning;
 -- nothing where memory is refused or the text is not read

@@ -1,42 +1,14 @@
 //! A policy in, and what is wrong or useless in it out.
 ghost use Rattle.std.specs.Prelude.{◌≡◌, ◌+◌, ℕ, List, take};
-ghost use Rattle.std.specs.List.{list_any};
 ghost use Rattle.gt_types.specs.declared.limits.TheConstants.{LONGEST_TEXT};
 ghost use Rattle.gt_streams.specs.Streams.{OfInput};
-ghost use Rattle.gt_advice.specs.Check.{is_error};
 ghost use Rattle.gt_advising.specs.Checking.{Checked, CheckedText};
 
-use gt_advice::{Finding, Kind, push_json, push_report};
+use crate::telling::tell_findings;
 use gt_listing::{ListingFault, policy_text};
-use gt_streams::{finish, read_text};
-use std::alloc::{AllocError, Global};
+use gt_streams::read_text;
+use std::alloc::Global;
 use std::io::{Read, Write};
-
-/// Whether some finding is an error.
-pub(crate) fn has_error(found: &[Finding]) -> bool
-    ensures { result ≡ list_any (λ x. is_error x.kind) found.now }
-{
-    found
-        .iter()
-        .any(|finding| matches!(finding.kind, Kind::Fault))
-}
-
-/// The findings as they are written.
-pub(crate) fn report(
-    alloc: Global,
-    file: &str,
-    json: bool,
-    text: &str,
-    found: &[Finding],
-) -> Result<Vec<u8>, AllocError> {
-    let mut out = Vec::new(alloc);
-    if json {
-        push_json(&mut out, file, found)?;
-    } else {
-        push_report(&mut out, file, text, found)?;
-    }
-    Ok(out)
-}
 
 // Checks a text.
 fn check_text<W: Write>(
@@ -48,15 +20,9 @@ fn check_text<W: Write>(
 ) -> Result<bool, ListingFault>
     ensures { CheckedText text.now (W.contents writer.old) (W.contents writer.new) result }
 {
-    let Ok(found) = gt_advice::check(alloc, text) else {
-        return Err(ListingFault::Memory);
-    };
-    let Ok(said) = report(alloc, file, json, text, found.as_slice()) else {
-        return Err(ListingFault::Memory);
-    };
-    match finish(writer, said.as_slice()) {
-        Ok(()) => Ok(!has_error(found.as_slice())),
-        Err(_) => Err(ListingFault::Write),
+    match gt_advice::check(alloc, text) {
+        Ok(found) => tell_findings(alloc, file, json, text, found.as_slice(), writer),
+        Err(_) => Err(ListingFault::Memory),
     }
 }
 

@@ -16,6 +16,7 @@ mod checking;
 mod explaining;
 mod fault;
 mod scripts;
+mod telling;
 
 pub use checking::check;
 pub use explaining::why;

@@ -2,13 +2,12 @@
 ghost use Rattle.std.specs.Prelude.{◌≡◌, ◌+◌, ℕ, List, take};
 ghost use Rattle.gt_types.specs.declared.limits.TheConstants.{LONGEST_TEXT};
 ghost use Rattle.gt_streams.specs.Streams.{OfInput};
-ghost use Rattle.gt_advising.specs.Scripts.{CheckedScript, TellsFindings};
+ghost use Rattle.gt_advising.specs.Scripts.{CheckedScript};
 
-use crate::checking::{has_error, report};
-use gt_advice::Finding;
+use crate::telling::tell_findings;
 use gt_listing::ListingFault;
 use gt_script_advice::judge;
-use gt_streams::{finish, read_text, text_of};
+use gt_streams::{read_text, text_of};
 use std::alloc::Global;
 use std::io::{Read, Write};
 
@@ -17,26 +16,6 @@ fn shown_text<'a>(input: &'a [u8]) -> &'a str {
     match text_of(input) {
         Ok(text) => text,
         Err(_) => "",
-    }
-}
-
-// Writes findings, and answers whether none of them is an error.
-fn tell_findings<W: Write>(
-    alloc: Global,
-    file: &str,
-    json: bool,
-    text: &str,
-    found: &[Finding],
-    writer: &mut W,
-) -> Result<bool, ListingFault>
-    ensures { TellsFindings found.now (W.contents writer.old) (W.contents writer.new) result }
-{
-    let Ok(said) = report(alloc, file, json, text, found) else {
-        return Err(ListingFault::Memory);
-    };
-    match finish(writer, said.as_slice()) {
-        Ok(()) => Ok(!has_error(found)),
-        Err(_) => Err(ListingFault::Write),
     }
 }
 
