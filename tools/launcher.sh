@@ -13,8 +13,8 @@ tried=0 failed=0
 
 # A copy of what the launcher reads, and of what it installs.
 checkout="$work/checkout"
-mkdir -p "$checkout/crates/gthost/src" "$checkout/crates/cases_program" "$work/bin" "$work/other"
-cp -r "$top/gthost" "$top/crates.txt" "$top/gthost.1" "$top/contrib" "$checkout/"
+mkdir -p "$checkout/crates/gthost/src" "$checkout/crates/gt_explore" "$checkout/crates/cases_program" "$work/bin" "$work/other"
+cp -r "$top/gthost" "$top/HANDLES" "$top/crates.txt" "$top/gthost.1" "$top/contrib" "$checkout/"
 cp "$top/crates/cases_program/stdout" "$checkout/crates/cases_program/"
 cp "$top/crates/gthost/src/main.rt" "$checkout/crates/gthost/src/"
 out="$checkout/crates/gthost/out"
@@ -38,7 +38,7 @@ case "$1" in
     echo run >>"$WORK/builds"
     echo "logic=proved functions=1"
     case "$STUB" in
-      slow) sleep 300 & echo "$$ $!" >"$WORK/children"; wait ;;
+      slow) sleep 300 & echo "$$ $!" >>"$WORK/children"; wait ;;
       brief) sleep 2 ;;
       fails) echo "error: a goal is open"; exit 1 ;;
       fails_once) sleep 2; if [ ! -e "$WORK/failed" ]; then : >"$WORK/failed"; exit 1; fi ;;
@@ -46,6 +46,11 @@ case "$1" in
     esac
     printf '#!/bin/sh\necho "the program: $*"\nexit 3\n' >out/gthost
     chmod 755 out/gthost
+    ;;
+  lib)
+    mkdir -p out/incremental && : >out/incremental/kept
+    echo "$PWD" >>"$WORK/libs"
+    if [ "$STUB" = slow ]; then sleep 300 & echo "$$ $!" >>"$WORK/children"; wait; fi
     ;;
 esac
 STUB
@@ -78,7 +83,7 @@ same() { cmp -s "$work/$2" "$3" || wrong "$1: another text"; }
 unbuilt() { [ ! -e "$out" ] || wrong "$1: something was built"; }
 builds() { [ "$(wc -l <"$work/builds")" -eq "$2" ] || wrong "$1: other than $2 builds"; }
 is_alive() { for child in $(cat "$work/children"); do if kill -0 "$child" 2>/dev/null; then return 0; fi; done; return 1; }
-anew() { chmod -R u+w "$checkout"; rm -rf "$out" "$work/builds" "$work/failed"; : >"$work/builds"; STUB=good; }
+anew() { chmod -R u+w "$checkout"; rm -rf "$out" "$checkout/crates/gt_explore/out" "$work/builds" "$work/libs" "$work/failed"; : >"$work/builds"; STUB=good; }
 
 stored() { LINE="\$ gthost $1" awk '$0 == ENVIRON["LINE"] { f = 1; next } f && /^status / { exit } f' "$top/crates/cases_program/stdout" >"$work/stored"; }
 
@@ -115,7 +120,7 @@ unbuilt 'no kit'
 # The first run, and later ones.
 try 'a first run' 3 play "$script" --audit
 has 'a first run' out "^the program: play $script --audit$"
-has 'a first run' err 'the first run\): .* minutes.*log: .*/build-[0-9]+\.log; .*--unproved'
+has 'a first run' err 'the first run\): .* four cores.*log: .*/build-[0-9]+\.log; .*--unproved'
 lines 'a first run' 2
 try 'a second run' 3 play x; lines 'a second run' 0
 as=(env "PATH=$work/plain"); try 'a run without a kit' 3 play x; lines 'a run without a kit' 0; as=(env)
@@ -130,6 +135,20 @@ KIT="$(sed -n 's/^for //p' "$work/stored" "$top/crates/cases_program/stdout" | h
 rm "$out/gthost"; touch "$work/bin/rt"; try 'a program that is gone' 3 play x
 builds 'each of them' 4
 
+# A first build is two runs, if there are processors and memory for it; what the second one kept is moved.
+if [ "$(nproc)" -ge 4 ] && awk '/^MemAvailable:/ { exit $2 < 8000000 }' /proc/meminfo; then
+  both=2
+  anew; STUB=brief; try 'a build in two runs' 3 play
+  [ "$(cat "$work/libs")" = "$out/beside/crates/gt_explore" ] || wrong 'no second run'
+  [ -e "$checkout/crates/gt_explore/out/incremental/kept" ] || wrong 'nothing is kept of the second run'
+  [ ! -e "$out/beside" ] || wrong 'a copy is left'
+  rm "$work/libs"; echo '// more' >>"$checkout/crates/gthost/src/main.rt"
+  try 'a later build' 3 play; [ ! -e "$work/libs" ] || wrong 'a later build in two runs'
+else
+  both=1
+  echo "not tried: a build in two runs (four processors and 8 GB are wanted)"
+fi
+
 # Builds that do not end well.
 anew; STUB=fails; try 'an open goal' 1 play; has 'an open goal' err 'a goal is open'; has 'an open goal' err 'not built; log: '
 [ ! -e "$out/built" ] || wrong 'an open goal has a stamp'
@@ -141,7 +160,7 @@ for signal in INT TERM HUP; do
   anew; STUB=slow; tried=$((tried + 1)); rm -f "$work/children"
   env --default-signal="$signal" "$checkout/gthost" play >"$work/out" 2>"$work/err" </dev/null &
   launcher=$! status=0
-  until [ -s "$work/children" ]; do sleep 0.1; done
+  until [ -e "$work/children" ] && [ "$(wc -l <"$work/children")" -eq "$both" ]; do sleep 0.1; done
   kill -s "$signal" "$launcher"
   wait "$launcher" || status=$?
   [ "$status" -eq $((128 + $(kill -l "$signal"))) ] || wrong "$signal: status $status"

@@ -32,8 +32,8 @@ struct Worker<'m, P: Allows> {
     gref: GrantRef,
 }
 
-// What a thread does in a round: it reads over its buffer, reads so many bytes into fresh memory, writes these, or makes
-// this copy.
+// What a thread does in a round: it reads over its buffer, reads so many bytes into fresh memory, writes these, or
+// makes this copy.
 #[derive(Clone, Copy)]
 enum Access<'a> {
     Load,

@@ -9,8 +9,8 @@
 //! The loads of bytes are `load-64`, `load-4096`, `store-64`, `store-4096`, `copy-64` and `copy-4096`: each thread has
 //! a page of its own that the owner granted to it, and a round is one access of so many bytes, through its mapping or
 //! as a copy by reference to a frame of its own. A load reads over a buffer of the thread's, and one of `fresh-64` or
-//! `fresh-4096` answers fresh memory. A round of `forward-64` or `forward-4096` is a copy from one page of the owner's to
-//! another, by way of a transitive entry at each end.
+//! `fresh-4096` answers fresh memory. A round of `forward-64` or `forward-4096` is a copy from one page of the owner's
+//! to another, by way of a transitive entry at each end.
 //!
 //! The calls are recorded; with a fourth word `off` they are not, with `ahead` each domain makes room for its records
 //! before its first call, and with `taken` each mapper's records are taken while it runs. A fifth word is the number of

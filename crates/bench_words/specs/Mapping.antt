@@ -29,7 +29,7 @@ OwnsStill s s' q row =
     IsSameSeat s s' × (last_of q.0 s'.view ≡ record { generation = row.generation; entry = row.entry })
 
 -- the view has a read pin of a transitive entry of the domain m, another one than t, which forwarded the
--- seat's domain and leads to the entry r of the domain t (own, after grant_table.h, transitive)
+-- seat's domain and leads to the entry r of the domain t (after grant_table.h, transitive)
 pub record KeepsVia (k : Layout) (t r : ℕ) (m : DomId) (v : View) : Type 0 where
   pub owner : ℕ
   pub reference : ℕ
@@ -42,7 +42,7 @@ pub record KeepsVia (k : Layout) (t r : ℕ) (m : DomId) (v : View) : Type 0 whe
   pub apart : t ≢ owner
 
 -- the target names the seat's own domain, or one whose transitive entry to the
--- target is kept pinned (own, after grant_table.h, transitive)
+-- target is kept pinned (after grant_table.h, transitive)
 abbrev pub MayMap : Board → Target → View → Type 0
 MayMap b x v =
     (id_at b.layout.ids v.position ≡ x.named)

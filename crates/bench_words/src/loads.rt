@@ -269,8 +269,8 @@ fn take_back_and_grant(words: &Words, owner: Seat, row: Row, load: Load, rounds:
     }
 }
 
-/// Runs a load in so many threads of a run of so many domains. Each thread does so many rounds. Answers how many were done
-/// in all.
+/// Runs a load in so many threads of a run of so many domains. Each thread does so many rounds. Answers how many were
+/// done in all.
 pub(crate) fn run<R: Threads + Sync>(
     rt: &R,
     alloc: Global,

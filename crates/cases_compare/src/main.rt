@@ -14,8 +14,8 @@
 //! At the end the lines that these answers print, and the records of the domains but the last, are compared with the
 //! text of `gt_host::play` with its audit. What is printed of a name are the scripts, the calls and those of them that
 //! were Ok, or the first difference. After the word `--refusing` each request for memory of each call is refused in
-//! turn, on the monitor and on the core, and lines say which calls of each script were refused where. A script is added by its lines in a file, and costs no proof. Others are made by
-//! `bench/compare.sh`, as many as are asked for.
+//! turn, on the monitor and on the core, and lines say which calls of each script were refused where. A script is added
+//! by its lines in a file, and costs no proof. Others are made by `bench/compare.sh`, as many as are asked for.
 #![tactic(auto)]
 
 mod asking;

@@ -3,14 +3,14 @@
 //! The words of the command line are the names. The script `x` is `data/x.gt`, as the program `gthost` plays it. Those
 //! after the word `--audit` are printed with their records. `args` names them all, and `stdout` has what they must
 //! print: the answers of the calls, line by line, or the script's first fault. Each is played with its audit and
-//! without, and if that changes an answer, or adds a line of no record, a line says so. After the word `--failing`
-//! each read and each write fails after each count of bytes, and a line says whether all of these were told; after
+//! without, and if that changes an answer, or adds a line of no record, a line says so. After the word `--failing` each
+//! read and each write fails after each count of bytes, and a line says whether all of these were told; after
 //! `--failing-audit` the same with the records. After the word `--policy` come policies: `x` is `data/x.te`, as
 //! `gthost` lists it. After `--beginnings` each beginning of a script is played, from no byte to the whole, and what it
-//! prints stands after its count of bytes if it differs from what one byte less prints; after
-//! `--policy-beginnings` those of a policy are listed. After `--refusing`, `--refusing-audit` and `--policy-refusing`
-//! each request for memory is refused in turn, and a line says whether all of these were told. A script or policy is added by its file, its name in `args` and
-//! its lines in `stdout`; that costs no proof.
+//! prints stands after its count of bytes if it differs from what one byte less prints; after `--policy-beginnings`
+//! those of a policy are listed. After `--refusing`, `--refusing-audit` and `--policy-refusing` each request for memory
+//! is refused in turn, and a line says whether all of these were told. A script or policy is added by its file, its
+//! name in `args` and its lines in `stdout`; that costs no proof.
 //!
 //! If memory is refused, the program ends with status 1, and what it printed is a beginning of `stdout`.
 #![tactic(auto)]

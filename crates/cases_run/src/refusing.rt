@@ -135,7 +135,8 @@ struct Trials<'t, R: Wait> {
 }
 
 impl<'t, R: Threads + Wait + Sync> Trials<'t, R> {
-    // Each thread is refused in turn. So many are there before a run that did not end with that fault, or that ran a list.
+    // Each thread is refused in turn. So many are there before a run that did not end with that fault, or that ran a
+    // list.
     fn untold_thread(&self, script: &str) -> anyhow::Result<Option<usize>> {
         let mut text = Vec::with_capacity(self.alloc, ROOM)?;
         let count = count_of(script, "domain ");

@@ -1,9 +1,9 @@
 //! Starts cores and monitors that are refused memory.
 //!
-//! A flood takes all memory, and a start finds so many bytes of it: none at first, then more and more, until it is done.
-//! With less each start must answer that memory was refused. What is left grows by 16 bytes as long as it is small, and
-//! again from the last of the larger steps on that was refused; between them are the long lists of words. A line for
-//! each start says whether all went so.
+//! A flood takes all memory, and a start finds so many bytes of it: none at first, then more and more, until it is
+//! done. With less each start must answer that memory was refused. What is left grows by 16 bytes as long as it is
+//! small, and again from the last of the larger steps on that was refused; between them are the long lists of words. A
+//! line for each start says whether all went so.
 #![tactic(auto)]
 
 mod starting;

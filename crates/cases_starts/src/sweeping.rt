@@ -50,9 +50,9 @@ impl<'d> Starts<'d> {
         self.flood.close(GAP)
     }
 
-    // Starts with amounts from one to another: the last that was refused, and the first with which it starts, or the one
-    // after the last. None if it ends otherwise. A configuration is there before each start, in the place of the one
-    // before.
+    // Starts with amounts from one to another: the last that was refused, and the first with which it starts, or the
+    // one after the last. None if it ends otherwise. A configuration is there before each start, in the place of the
+    // one before.
     fn sweep(
         &mut self,
         from: usize,

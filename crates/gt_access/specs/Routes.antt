@@ -25,7 +25,7 @@ ServesAccess Read p = Unit {0}
 ServesAccess Write p = p.dir ≡ Write
 
 -- the seat has this pin, of an entry of this frame which permitted the domain
--- this direction, use and range (own, after grant_table.h)
+-- this direction, use and range (after grant_table.h)
 pub record IsPinnedFor (k : Layout) (s : SeatOf) (grantee : DomId) (dir : Dir) (purpose : Use) (name : FrameName)
     (off len : ℕ) (p : Held) : Type 0 where
   pub pin : HasPin k s.view p
@@ -35,7 +35,7 @@ pub record IsPinnedFor (k : Layout) (s : SeatOf) (grantee : DomId) (dir : Dir) (
   pub permitted : permits p.entry grantee dir purpose off len ≡ true
 
 -- the seat has this pin, of a transitive entry which forwarded its domain in this direction
--- to the entry of the other pin (own, after grant_table.h, transitive)
+-- to the entry of the other pin (after grant_table.h, transitive)
 pub record IsPinnedOn (k : Layout) (s : SeatOf) (dir : Dir) (via p : Held) : Type 0 where
   pub pin : HasPin k s.view via
   pub serves : ServesAccess dir via

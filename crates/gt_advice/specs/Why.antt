@@ -55,9 +55,9 @@ answer_by w sources targets xs = if is_none (permission_of w) then NoPermission
 
 -- the statements that are listed under an answer: those that grant the permission if it is allowed, and else those that
 -- come near
-abbrev pub is_listed : Answer → List ℕ → List Member → List Member → Statement → Bool
-is_listed Allowed w sources targets = gives_some w sources targets
-is_listed answer w sources targets = near_some w sources targets
+abbrev pub is_listed_under : Answer → List ℕ → List Member → List Member → Statement → Bool
+is_listed_under Allowed w sources targets = gives_some w sources targets
+is_listed_under answer w sources targets = near_some w sources targets
 
 -- the lines of an answer
 abbrev pub lines_with : Answer → List ℕ → List ℕ → List Member → List Member → List LinedStatement → List ℕ

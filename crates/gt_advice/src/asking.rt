@@ -9,7 +9,7 @@ ghost use Rattle.gt_policy.specs.declared.fault.TokenFault.{TokenFault};
 ghost use Rattle.gt_policy.specs.declared.lined.LinedStatement.{LinedStatement};
 ghost use Rattle.gt_advice.specs.Granting.{gives_some};
 ghost use Rattle.gt_advice.specs.Members.{members_of};
-ghost use Rattle.gt_advice.specs.Why.{entries_if, is_listed, answer_by, lines_with, IsExplained};
+ghost use Rattle.gt_advice.specs.Why.{entries_if, is_listed_under, answer_by, lines_with, IsExplained};
 
 use crate::granting::{gives_some, near_some};
 use crate::members::{Member, members_of};
@@ -91,7 +91,7 @@ fn is_listed(
     targets: &[Member],
     perm: &str,
 ) -> bool
-    ensures { result ≡ is_listed answer perm.now sources.now targets.now statement.now }
+    ensures { result ≡ is_listed_under answer perm.now sources.now targets.now statement.now }
 {
     match answer {
         Answer::Allowed => gives_some(statement, sources, targets, perm),
@@ -110,7 +110,7 @@ fn push_listed(
     perm: &str,
 ) -> Result<(), AllocError>
     ensures { OnOk result (out.new.items ≡ out.old.items ++ entries_if
-        (is_listed answer perm.now sources.now targets.now) file.now sources.now targets.now statements.now) }
+        (is_listed_under answer perm.now sources.now targets.now) file.now sources.now targets.now statements.now) }
 {
     'statements: for stated in statements {
         if is_listed(answer, &stated.statement, sources, targets, perm) {

@@ -2,7 +2,7 @@
 use Rattle.std.proofs.Common.{◌≡◌, ◌⊎◌, ℕ, ◌<◌, ◌≤◌, List, [], ◌∷◌, length, length-take, take, Option, Some, None}
 use Rattle.std.proofs.Common.{Result, Ok, Err, Bool, true, false, not, refl, sym, ap, subst, ◌∙◌, inl, inr, arith}
 use Rattle.std.specs.List.{flat_map, list_any}
-use Rattle.std.specs.Io.KnownBytes.{Appends, Keeps}
+use Rattle.std.specs.Io.KnownBytes.{Appends}
 use Rattle.std.specs.Str.{IsUtf8}
 use Rattle.gt_advice.specs.Check.{Judges, faulty, sound, error_lines, is_error}
 use Rattle.gt_advice.specs.Why.{IsExplained}

@@ -43,7 +43,8 @@ struct Packed {
     source: u64,
     // The frame or the reference that a copy writes; the flags of a map.
     dest: u64,
-    // The word, the field or the permission that a refusal rests on; the frames, the version or a size's limit answered.
+    // The word, the field or the permission that a refusal rests on; the frames, the version or a size's limit
+    // answered.
     word: u64,
     // The reference or the target's type that a refusal rests on; the size answered.
     found: u32,

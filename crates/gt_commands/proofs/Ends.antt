@@ -16,7 +16,7 @@ use Rattle.clap.specs.Simple.{filled_from, help_rule}
 use Rattle.clap.specs.declared.builder.value_parser.Reading.TheVariants as reading
 use Rattle.clap.specs.declared.error.kind.ErrorKind.TheVariants.{MissingRequiredArgument}
 use Rattle.clap.specs.declared.parser.matches.ValueSource.TheVariants.{CommandLine, DefaultValue}
-use Rattle.gt_commands.specs.Usage.{Given, Usage, is_among, is_given, is_true, value_of, lacks}
+use Rattle.gt_commands.specs.Usage.{Given, Usage, is_among, is_given, is_true, value_given, lacks}
 use Rattle.gt_commands.specs.Rules.{word_rule, flag_rule, option_rule, rules_of}
 use Rattle.gt_commands.proofs.Lookups as lookups
 use Rattle.gt_commands.proofs.Lookups.{built_rules, flag_built}
@@ -161,11 +161,11 @@ row_is_given (g ∷ given) id = by (bytes_eq g.0 id) refl (row_is_given given id
     by true e later = rw e refl
     by false e later = rw e later
 
-row_value : (given : Given) (id : Text) → first_of id (rows_of given) ≡ value_of given id
+row_value : (given : Given) (id : Text) → first_of id (rows_of given) ≡ value_given given id
 row_value [] id = refl
 row_value (g ∷ given) id = by (bytes_eq g.0 id) refl (row_value given id)
   where
-    by : (b : Bool) → bytes_eq g.0 id ≡ b → first_of id (rows_of given) ≡ value_of given id → first_of id (rows_of (g ∷ given)) ≡ value_of (g ∷ given) id
+    by : (b : Bool) → bytes_eq g.0 id ≡ b → first_of id (rows_of given) ≡ value_given given id → first_of id (rows_of (g ∷ given)) ≡ value_given (g ∷ given) id
     by true e later = rw e refl
     by false e later = rw e later
 
@@ -236,14 +236,14 @@ module _ (u : Usage) (given : Given) where
       ∙ any_same (name_lacking u end) (λ name. is_among u.needed name && not (is_given given name)) (u.words ++ u.options) (λ name. ap (λ (b : Bool). is_among u.needed name && not b) (row_given_at_end name))
 
   -- a value that is no flag's
-  pub value_at_end : (id : Text) → is_among u.flags id ≡ false → first_of id end ≡ value_of given id
+  pub value_at_end : (id : Text) → is_among u.flags id ≡ false → first_of id end ≡ value_given given id
   value_at_end id none =
       ap (λ (rs : List Row). first_of id rs) (end_rows u given)
       ∙ other_flags_on (λ o. option_and_then (λ r. slice_get r.values 0) o) id u.flags (rows_of given) none
       ∙ row_value given id
 
   -- a flag
-  pub flag_at_end : (id : Text) → is_true (first_of id end) ≡ is_true (value_of given id)
+  pub flag_at_end : (id : Text) → is_true (first_of id end) ≡ is_true (value_given given id)
   flag_at_end id =
       ap (λ (rs : List Row). is_true (first_of id rs)) (end_rows u given)
       ∙ flags_on (λ o. is_true (option_and_then (λ r. slice_get r.values 0) o)) id u.flags (rows_of given) (λ f. refl)

@@ -14,7 +14,7 @@ use Rattle.clap.specs.declared.error.kind.ErrorKind.TheVariants.{DisplayHelp, Di
 use Rattle.clap.proofs.WalkLemmas.{walk_stopped}
 use Rattle.clap.proofs.FaultLemmas.{stopped_fault}
 use Rattle.gt_commands.specs.Usage.{Given, Line, Word, asks_help, gives, is_true, line, long, mark, plain, short}
-use Rattle.gt_commands.specs.Usage.{value_of, usage_word, wrong}
+use Rattle.gt_commands.specs.Usage.{value_given, usage_word, wrong}
 use Rattle.gt_commands.specs.Commands.{Request, request_in_words, request_by, asked_of, asked_of_long, asked_of_none}
 use Rattle.gt_commands.specs.Commands.{command_name}
 use Rattle.gt_commands.specs.Commands.{every_mode, for_help, for_version, gthost_app, mode_of, nothing, read, usage_of}
@@ -51,10 +51,10 @@ command_words Why words = command_tells (usage_of Why) (command_name Why) (refl,
 command_words Entries words = command_tells (usage_of Entries) (command_name Entries) (refl, refl, refl) (refl, (refl, (refl, tt))) words
 
 -- what a command asks for by the rows at the end is what it asks for by what was given
-read_rows : (mode : Mode) (given : Given) (rows : List Row) → rows ≡ end (usage_of mode) given → read mode (λ id. first_of id rows) ≡ read mode (value_of given)
+read_rows : (mode : Mode) (given : Given) (rows : List Row) → rows ≡ end (usage_of mode) given → read mode (λ id. first_of id rows) ≡ read mode (value_given given)
 read_rows mode given rows is = ap (λ (rs : List Row). read mode (λ id. first_of id rs)) is ∙ by mode
   where
-    by : (m : Mode) → read m (λ id. first_of id (end (usage_of m) given)) ≡ read m (value_of given)
+    by : (m : Mode) → read m (λ id. first_of id (end (usage_of m) given)) ≡ read m (value_given given)
     by Play = rw (value_at_end (usage_of Play) given (codes "format") refl, flag_at_end (usage_of Play) given (codes "audit"), flag_at_end (usage_of Play) given (codes "verbose"), value_at_end (usage_of Play) given (codes "file") refl) refl
     by Run = rw (value_at_end (usage_of Run) given (codes "format") refl, flag_at_end (usage_of Run) given (codes "audit"), flag_at_end (usage_of Run) given (codes "verbose"), value_at_end (usage_of Run) given (codes "file") refl) refl
     by Explore = rw (

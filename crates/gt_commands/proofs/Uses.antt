@@ -13,7 +13,7 @@ use Rattle.clap.specs.Walk.{used, with_values, without}
 use Rattle.clap.specs.declared.builder.value_parser.Reading.TheVariants as reading
 use Rattle.clap.specs.declared.error.kind.ErrorKind.TheVariants.{ArgumentConflict, InvalidValue}
 use Rattle.clap.specs.declared.parser.matches.ValueSource.TheVariants.{CommandLine}
-use Rattle.gt_commands.specs.Usage.{Given, is_given, value_of}
+use Rattle.gt_commands.specs.Usage.{Given, is_given, value_given}
 use Rattle.gt_commands.proofs.Lookups.{one_rule, flag_built}
 use Rattle.gt_commands.proofs.Words.{held}
 

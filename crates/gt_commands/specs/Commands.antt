@@ -9,7 +9,7 @@ use Rattle.gt_commands.specs.Prelude.{Format, Plain, Json, Invocation, Mode, Pla
 use Rattle.gt_commands.specs.Prelude.{Entries, Explore}
 use Rattle.gt_commands.specs.Rules.{command_app}
 use Rattle.gt_commands.specs.Usage.{Usage, Given, Line, gives, asks_help, wrong, Word, mark, long, short, plain}
-use Rattle.gt_commands.specs.Usage.{usage_word, line, is_true, value_of}
+use Rattle.gt_commands.specs.Usage.{usage_word, line, is_true, value_given}
 use Rattle.gt_commands.specs.declared.invocation.Invocation.TheVariants as plans
 
 -- ---- the commands
@@ -196,7 +196,7 @@ read Entries value = entries_with (version_of (value (codes "version"))) (script
     (format_of (value (codes "format"))) (is_true (value (codes "hex"))) (is_true (value (codes "all"))) (value (codes "file"))
 
 abbrev pub asked_of : Mode → Line → Request
-asked_of mode (gives given) = read mode (value_of given)
+asked_of mode (gives given) = read mode (value_given given)
 asked_of mode asks_help = for_help
 asked_of mode wrong = nothing
 

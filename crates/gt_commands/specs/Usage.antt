@@ -23,8 +23,8 @@ is_among names name = list_any (λ n. bytes_eq n name) names
 abbrev pub Given : Type 0
 Given = List (Text × Text)
 
-abbrev pub value_of : Given → Text → Option Text
-value_of given name = option_map (λ g. g.1) (find (λ g. bytes_eq g.0 name) given)
+abbrev pub value_given : Given → Text → Option Text
+value_given given name = option_map (λ g. g.1) (find (λ g. bytes_eq g.0 name) given)
 
 abbrev pub is_given : Given → Text → Bool
 is_given given name = list_any (λ g. bytes_eq g.0 name) given

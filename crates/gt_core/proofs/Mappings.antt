@@ -3,7 +3,7 @@ use Rattle.gt_core.proofs.Words.{◌≡◌, ◌+◌, ℕ, zero, suc, refl, Bool,
 use Rattle.gt_core.proofs.Words.{Some, None, cond, sym, ap, ◌∙◌, arith, subst, ◌==◌, fun_ext, eqb-true, true≢false}
 use Rattle.gt_core.proofs.Words.{none-some, length-append, sum_by-cons, Handle, HandleMap, value_of, count_of, Held}
 use Rattle.gt_core.proofs.Words.{mapping_of, same_handle, Adds, handle_taken, MappingsAgree, slice_index_or, slice_set}
-use Rattle.gt_core.proofs.Words.{AreApart, Slot}
+use Rattle.gt_core.proofs.Words.{AreMappingsApart, Slot}
 use Rattle.std.{proofs.Common.is_some, proofs.Common.count_by, specs.Cmp.both_ways}
 use Rattle.gt_core.proofs.{Steps.Observers.cond-same, Steps.Observers.cond-apart}
 
@@ -29,7 +29,7 @@ push-of (x ∷ ms) handle m other none = let n = none-of x ms handle none in
     ∙ cond-apart (same_handle x.0 other) (same_handle other handle) (Some x.1) (Some m) (mapping_of ms other)
     (λ c b. true≢false (sym b ∙ ap (λ (z : Handle). same_handle z handle) (sym (same-handle x.0 other c)) ∙ n.0))
 
-apart-push : (ms : List (Handle × Held)) (handle : Handle) (m : Held) → AreApart ms → mapping_of ms handle ≡ None → AreApart (ms ++ (handle, m) ∷ [])
+apart-push : (ms : List (Handle × Held)) (handle : Handle) (m : Held) → AreMappingsApart ms → mapping_of ms handle ≡ None → AreMappingsApart (ms ++ (handle, m) ∷ [])
 apart-push [] handle m a none = (refl, tt)
 apart-push (x ∷ ms) handle m a none = let n = none-of x ms handle none in
     (push-of ms handle m x.0 n.1 ∙ ap (λ (b : Bool). cond b (Some m) (mapping_of ms x.0)) n.0 ∙ a.0, apart-push ms handle m a.1 n.1)
@@ -56,7 +56,7 @@ less_of test (m ∷ ms) = cond (test m.0) ms (m ∷ less_of test ms)
 abbrev pub less : Handle → List (Handle × Held) → List (Handle × Held)
 less handle ms = less_of (λ (k : Handle). same_handle k handle) ms
 
-less-of : (ms : List (Handle × Held)) (handle other : Handle) → AreApart ms → mapping_of (less handle ms) other ≡ cond (same_handle other handle) None (mapping_of ms other)
+less-of : (ms : List (Handle × Held)) (handle other : Handle) → AreMappingsApart ms → mapping_of (less handle ms) other ≡ cond (same_handle other handle) None (mapping_of ms other)
 less-of [] handle other a = grind arith
 less-of (x ∷ ms) handle other a = grind (arith, less-of ms handle other a.1)
 
@@ -68,7 +68,7 @@ length-less (x ∷ ms) handle m e = by (same_handle x.0 handle) (λ k. length-le
   by true rest f = omega arith
   by false rest f = let r : length ms ≡ length (less handle ms) + 1 = rest f in omega arith
 
-apart-less : (ms : List (Handle × Held)) (handle : Handle) → AreApart ms → AreApart (less handle ms)
+apart-less : (ms : List (Handle × Held)) (handle : Handle) → AreMappingsApart ms → AreMappingsApart (less handle ms)
 apart-less [] handle a = tt
 apart-less (x ∷ ms) handle a = grind (arith, apart-less ms handle a.1, less-of, cond-same)
 

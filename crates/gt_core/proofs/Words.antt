@@ -200,7 +200,7 @@ pub use Rattle.gt_core.specs.{FirstRule.source_now, FirstRule.stood_with, FirstR
 pub use Rattle.gt_core.specs.{Rows.changed_at, Shown.entry_shown, Shown.shown_at, Shown.shown_in, Sight.body_in}
 pub use Rattle.gt_core.specs.{Sight.body_seen, Sight.control_in, Sight.control_seen, Sight.header_seen, Sight.reads_in}
 pub use Rattle.gt_core.specs.{Sight.sees, Sight.slot_body, Sight.slot_reads, Sight.slot_writes, Sight.writes_in}
-pub use Rattle.gt_core.specs.{Standing.StateStands, Standing.AreApart, Phases.AsksTable, Standing.CallAgrees}
+pub use Rattle.gt_core.specs.{Standing.StateStands, Standing.AreMappingsApart, Phases.AsksTable, Standing.CallAgrees}
 pub use Rattle.gt_core.specs.{Acting.Closed}
 pub use Rattle.gt_core.specs.{Standing.CoreStands, Standing.DoesEvent, Standing.DoesAlone, Standing.DomainsStand}
 pub use Rattle.gt_core.specs.{Phases.EndsAfter, Phases.EndsCopy, Standing.FitsAsked, Standing.FitsGiven}

@@ -7,9 +7,8 @@ use Rattle.gt_core.specs.Prelude.{FRAME_SIZE, Holder, ByMapping, ByLeg, Perms, C
 use Rattle.gt_core.specs.Prelude.{Header, Makes, Handle, FrameName, patches, frame_counts, FrameSet, frame_at, AreKept}
 use Rattle.gt_core.specs.Prelude.{HandleMap, mapping_under, count_of, Held, Event, Element, PinCounts, Open, entry_in}
 use Rattle.gt_core.specs.Prelude.{own_generation, frame_count_of, GoesOnWith, action_at, Rests, StandsAt, pins_at}
-use Rattle.gt_core.specs.Prelude.{held_in}
+use Rattle.gt_core.specs.Prelude.{held_in, Phase}
 use Rattle.gt_core.specs.Prelude.{most_steps, steps_left, Entry, Control, IsInRange, IsEntry, permits, Store, Poke}
-use Rattle.gt_core.specs.Prelude.{Phase}
 pub use Rattle.gt_calls.specs.Asking.{FitsAsked}
 pub use Rattle.gt_core.specs.States.{State, CoreState, core_of, state_of, first_state, changed_in, asks_memory}
 pub use Rattle.gt_core.specs.States.{IsMapping}
@@ -67,16 +66,16 @@ pub record SlotAgrees (h : History) (t r : ℕ) (slot : PinCounts) : Type 0 wher
   pub second : slot.second ≡ body_at h t r SecondHalf
 
 -- no two mappings are under one handle
-abbrev pub AreApart : List (Handle × Held) → Type 0
-AreApart [] = Unit {0}
-AreApart (m ∷ ms) = (mapping_of ms m.0 ≡ None) × AreApart ms
+abbrev pub AreMappingsApart : List (Handle × Held) → Type 0
+AreMappingsApart [] = Unit {0}
+AreMappingsApart (m ∷ ms) = (mapping_of ms m.0 ≡ None) × AreMappingsApart ms
 
 -- the handles name just these mappings, after so many maps were answered Ok
 pub record MappingsAgree (kept : HandleMap Held) (ms : List (Handle × Held)) (answered : ℕ) : Type 0 where
   pub named : mapping_under kept ≡ mapping_of ms
   pub count : count_of kept ≡ length ms
   pub given : kept.given ≡ answered
-  pub apart : AreApart ms
+  pub apart : AreMappingsApart ms
 
 -- a domain is as the history leaves it
 pub record StateStands (s : Setting) (h : History) (d : State) : Type 0 where

@@ -75,8 +75,8 @@ pub fn every_open_call_can_go_on()
     ensures { OpenCallsCanGoOn }
 {}
 
-/// After each history that a core stands for, each open call that comes to an access to bytes can make it. A read is told
-/// the bytes that the range held.
+/// After each history that a core stands for, each open call that comes to an access to bytes can make it. A read is
+/// told the bytes that the range held.
 pub fn every_open_call_can_access()
     ensures { OpenCallsCanAccess }
 {}

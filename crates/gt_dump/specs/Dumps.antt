@@ -47,8 +47,8 @@ abbrev pub entry_bytes_at : ℕ → List ℕ → ℕ → List ℕ
 entry_bytes_at version dump ref = take (entry_size version) (drop (ref * entry_size version) dump)
 
 -- how many entries the dump has, the last one cut off or not
-abbrev pub count_of : ℕ → List ℕ → ℕ
-count_of version dump = (length dump + entry_size version - 1) / entry_size version
+abbrev pub entry_count : ℕ → List ℕ → ℕ
+entry_count version dump = (length dump + entry_size version - 1) / entry_size version
 
 -- the text of so many entries from the first on: that of one fewer, and then the next one's
 abbrev pub TellsEntries : Asked → List ℕ → ℕ → List ℕ → Type 0
@@ -59,7 +59,7 @@ TellsEntries asked dump (suc ref) text =
 
 -- the text of a whole dump
 abbrev pub TellsDump : Asked → List ℕ → List ℕ → Type 0
-TellsDump asked dump text = TellsEntries asked dump (count_of asked.version dump) text
+TellsDump asked dump text = TellsEntries asked dump (entry_count asked.version dump) text
 
 -- the most bytes of a dump: 16 frames
 abbrev pub most_bytes : ℕ

@@ -2,7 +2,7 @@
 ghost use Rattle.std.specs.Prelude.{◌≡◌, ◌≤◌, ◌++◌, ◌*◌, ◌+◌, ℕ, List, [], OnOk, length, take};
 ghost use Rattle.gt_streams.specs.Streams.{OfInput, ConsumesAtMost};
 ghost use Rattle.gt_streams.specs.declared.streams.TheConstants.{READ_LIMIT};
-ghost use Rattle.gt_dump.specs.Dumps.{Dumped, TellsDump, Told, count_of, entry_bytes_at, most_bytes};
+ghost use Rattle.gt_dump.specs.Dumps.{Dumped, TellsDump, Told, entry_count, entry_bytes_at, most_bytes};
 
 use crate::asked::Asked;
 use crate::fault::DumpFault;
@@ -33,7 +33,7 @@ fn entry_at<'d>(version: u8, dump: &'d [u8], gref: usize) -> &'d [u8]
 
 fn count_of(version: u8, dump: &[u8]) -> usize
     requires { length dump.now ≤ most_bytes }
-    ensures { result ≡ count_of version dump.now }
+    ensures { result ≡ entry_count version dump.now }
 {
     let size = entry_size(version);
     (dump.len() + size - 1) / size
@@ -90,8 +90,8 @@ fn write_input<W: Write>(
 /// Writes the lines of the entries of the reader's dump, by their references: an entry as a line `show` of a script
 /// prints it, or `refused FIELD`, each with the live bits that its bytes have; or calls of a script.
 ///
-/// A dump has at most 65,536 bytes, 16 frames. At most 1,048,577 bytes are read. An Err says why there is no dump or why
-/// its text was not written; only after a failed write a beginning of it went out.
+/// A dump has at most 65,536 bytes, 16 frames. At most 1,048,577 bytes are read. An Err says why there is no dump or
+/// why its text was not written; only after a failed write a beginning of it went out.
 pub fn entries<R: Read, W: Write>(
     alloc: Global,
     asked: Asked,

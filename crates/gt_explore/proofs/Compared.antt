@@ -1,5 +1,6 @@
 -- What a comparison of answers says, and that a script for `play` gives the text of a number.
-use Rattle.std.proofs.Common.{◌≡◌, ◌≤◌, ◌+◌, ◌-◌, ◌∙◌, ◌&&◌, ◌==◌, ℕ, Bool, true, false, List, [], ◌∷◌, Option, None, Some, Ok, map, length, take, drop, ap, sym, refl, subst, arith, nat_eq, nat_lt, slice_get}
+use Rattle.std.proofs.Common.{◌≡◌, ◌≤◌, ◌+◌, ◌-◌, ◌∙◌, ◌&&◌, ◌==◌, ℕ, Bool, true, false, List, [], ◌∷◌, Option, None}
+use Rattle.std.proofs.Common.{Some, Ok, map, length, take, drop, ap, sym, refl, subst, arith, nat_eq, nat_lt, slice_get}
 use Rattle.std.proofs.Common.{Bor}
 use Rattle.std.proofs.Math.Bool.{cond}
 use Rattle.std.proofs.lemmas.Bool.{cond_both, ltb-false}
@@ -14,7 +15,7 @@ use Rattle.gt_host.specs.Playing.{Played}
 use Rattle.gt_script.specs.Script.{TellsScript}
 use Rattle.gt_types.specs.declared.config.DomainConfig.{DomainConfig}
 use Rattle.gt_ways.specs.declared.exploring.Order.{Order}
-use Rattle.gt_explore.specs.Adding.{texts_in}
+use Rattle.gt_explore.specs.Adding.{texts_of_orders}
 use Rattle.gt_explore.specs.Witness.{GivesAnswers, IsWitness, SameAnswers, without_number}
 
 -- the line goes on after this space
@@ -58,7 +59,7 @@ gives domains script text out told played is same = record {
 
 -- the script gives the text of the order at this place
 pub is_witness : (domains : List DomainConfig) (orders : List Order) (number at : ℕ) (o : Order) (script : List ℕ) → number ≡ at + 1 → slice_get orders at ≡ Some o
-    → GivesAnswers domains script o.text.items → IsWitness domains (texts_in orders) number script
+    → GivesAnswers domains script o.text.items → IsWitness domains (texts_of_orders orders) number script
 is_witness domains orders number at o script is there answers = record {
   text = o.text.items;
   numbered = (at, is, slice_get-map (λ (p : Order). p.text.items) orders at ∙ ap (option_map (λ (p : Order). p.text.items)) there);

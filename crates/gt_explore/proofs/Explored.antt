@@ -1,5 +1,6 @@
 -- From what was read to what was written.
-use Rattle.std.proofs.Common.{◌≡◌, ◌||◌, ◌∙◌, ℕ, Bool, true, refl, ap, List, [], ◌∷◌, IfOk, Option, None, Some, Result, Ok, Err, sym, subst}
+use Rattle.std.proofs.Common.{◌≡◌, ◌||◌, ◌∙◌, ℕ, Bool, true, refl, ap, List, [], ◌∷◌, IfOk, Option, None, Some, Result}
+use Rattle.std.proofs.Common.{Ok, Err, sym, subst}
 use Rattle.gt_host.specs.Faults.{fault_of, read_fault}
 use Rattle.gt_host.specs.declared.fault.PlayFault.{PlayFault}
 use Rattle.gt_host.specs.declared.fault.PlayFault.TheVariants as plays
@@ -13,7 +14,7 @@ use Rattle.gt_streams.specs.Streams.{OfInput}
 use Rattle.gt_streams.specs.declared.fault.ReadFault.{ReadFault}
 use Rattle.gt_streams.specs.declared.fault.ReadFault.TheVariants as reads
 use Rattle.gt_ways.specs.declared.exploring.Order.{Order}
-use Rattle.gt_explore.specs.Adding.{texts_in}
+use Rattle.gt_explore.specs.Adding.{texts_of_orders}
 use Rattle.gt_explore.specs.Exploring.{AreTextsOf, Explored, Explores, IsMadeBy}
 use Rattle.gt_explore.specs.Telling.{is_wanted, texts_told as told_of}
 use Rattle.std.specs.List.{list_any}
@@ -25,16 +26,16 @@ use Rattle.gt_explore.specs.declared.fault.ExploreFault.{ExploreFault}
 use Rattle.gt_explore.specs.declared.fault.ExploreFault.TheVariants.{Play, Texts}
 
 -- one of the texts of these orders passes a test
-any_text : (test : List ℕ → Bool) (os : List Order) → list_any (λ (o : Order). test o.text.items) os ≡ list_any test (texts_in os)
+any_text : (test : List ℕ → Bool) (os : List Order) → list_any (λ (o : Order). test o.text.items) os ≡ list_any test (texts_of_orders os)
 any_text test [] = refl
 any_text test (o ∷ os) = ap (λ (b : Bool). test o.text.items || b) (any_text test os)
 
 -- the texts of a script are told
 pub made_texts : (c : RunContents) (witness : Option ℕ) (find : Option (List ℕ)) (os : List Order) (states : ℕ) (r : Result Made TextsFault) → witness ≡ None
-    → AreTextsOf c (texts_in os) → IfOk r (λ made. made.text.items ≡ told_of find states (texts_in os)) → IfOk r (λ made. made.is_any ≡ list_any (λ o. is_wanted find o.text.items) os)
+    → AreTextsOf c (texts_of_orders os) → IfOk r (λ made. made.text.items ≡ told_of find states (texts_of_orders os)) → IfOk r (λ made. made.is_any ≡ list_any (λ o. is_wanted find o.text.items) os)
     → IfOk r (λ made. IsMadeBy c witness find made.text.items made.is_any)
 made_texts c witness find os states (Ok made) is are told any =
-    subst (λ (w : Option ℕ). IsMadeBy c w find made.text.items made.is_any) (sym is) (texts_in os, states, are, told, any ∙ any_text (is_wanted find) os)
+    subst (λ (w : Option ℕ). IsMadeBy c w find made.text.items made.is_any) (sym is) (texts_of_orders os, states, are, told, any ∙ any_text (is_wanted find) os)
 made_texts c witness find os states (Err fault) is are told any = tt
 
 -- a script for `play` is written that gives one of them

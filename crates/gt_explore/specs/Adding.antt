@@ -8,24 +8,24 @@ abbrev pub IsAdded : {X : Type 0} → List X → X → List X → Type 0
 IsAdded old x new = (new ≡ old) ⊎ ((at : ℕ) × (new ≡ insert old at x))
 
 -- the texts of these orders
-abbrev pub texts_in : List Order → List (List ℕ)
-texts_in orders = map (λ o. o.text.items) orders
+abbrev pub texts_of_orders : List Order → List (List ℕ)
+texts_of_orders orders = map (λ o. o.text.items) orders
 
 -- the text is one of these
-abbrev pub IsAmong : List ℕ → List (List ℕ) → Type 0
-IsAmong text texts = (at : ℕ) × (slice_get texts at ≡ Some text)
+abbrev pub IsTextAmong : List ℕ → List (List ℕ) → Type 0
+IsTextAmong text texts = (at : ℕ) × (slice_get texts at ≡ Some text)
 
 -- it is none of these
 abbrev pub IsApart : List ℕ → List (List ℕ) → Type 0
 IsApart text texts = All (λ other. other ≢ text) texts
 
 -- no two of them are the same
-abbrev pub AreApart : List (List ℕ) → Type 0
-AreApart [] = Unit {0}
-AreApart (text ∷ texts) = IsApart text texts × AreApart texts
+abbrev pub AreDifferentTexts : List (List ℕ) → Type 0
+AreDifferentTexts [] = Unit {0}
+AreDifferentTexts (text ∷ texts) = IsApart text texts × AreDifferentTexts texts
 
 -- an order was added, if its text was not there
 pub record AddsOrder (old : List Order) (order : Order) (new : List Order) : Type 0 where
   pub added : IsAdded old order new
-  pub there : IsAmong order.text.items (texts_in new)
-  pub apart : AreApart (texts_in old) → AreApart (texts_in new)
+  pub there : IsTextAmong order.text.items (texts_of_orders new)
+  pub apart : AreDifferentTexts (texts_of_orders old) → AreDifferentTexts (texts_of_orders new)

@@ -9,7 +9,7 @@ use Rattle.gt_script.specs.Script.{Wrong, in_script, in_policy}
 use Rattle.gt_streams.specs.Streams.{AppendsBeginning}
 use Rattle.gt_host.specs.declared.fault.PlayFault.TheVariants.{Memory, Read, Write, Script, Policy}
 use Rattle.gt_replay.specs.Orders.{MayGive}
-use Rattle.gt_explore.specs.Adding.{AreApart, IsAmong}
+use Rattle.gt_explore.specs.Adding.{AreDifferentTexts, IsTextAmong}
 use Rattle.gt_explore.specs.Telling.{is_wanted, texts_told}
 use Rattle.gt_explore.specs.Witness.{IsWitness}
 use Rattle.gt_explore.specs.declared.exploring.Asked.{Asked}
@@ -23,8 +23,8 @@ word_asked asked = option_map (λ word. word.now) asked.find
 -- these are the texts that a script may give: each of them, all of them, and each once
 pub record AreTextsOf (c : RunContents) (texts : List (List ℕ)) : Type 0 where
   pub possible : All (MayGive c) texts
-  pub whole : (text : List ℕ) → MayGive c text → IsAmong text texts
-  pub apart : AreApart texts
+  pub whole : (text : List ℕ) → MayGive c text → IsTextAmong text texts
+  pub apart : AreDifferentTexts texts
 
 -- what is to be written of a script: the texts that it may give, each under its number; or a script for `play` that
 -- gives the answers of one of them; and whether a text is asked for

@@ -26,10 +26,10 @@ abbrev pub text_shown : Option (List ℕ) → ℕ → ℕ → List ℕ → List 
 text_shown find count number text = if is_wanted find text then heading number count ++ text else []
 
 -- those of these texts that are asked for, the first of them under the number after this one
-abbrev pub listed : Option (List ℕ) → ℕ → ℕ → List (List ℕ) → List ℕ
-listed find count before [] = []
-listed find count before (text ∷ texts) =
-    text_shown find count (before + 1) text ++ listed find count (before + 1) texts
+abbrev pub texts_listed : Option (List ℕ) → ℕ → ℕ → List (List ℕ) → List ℕ
+texts_listed find count before [] = []
+texts_listed find count before (text ∷ texts) =
+    text_shown find count (before + 1) text ++ texts_listed find count (before + 1) texts
 
 -- the last line
 abbrev pub states_line : ℕ → List ℕ
@@ -37,4 +37,4 @@ states_line states = codes "states " ++ decimal states ++ codes "\n"
 
 -- all that is written of these texts
 abbrev pub texts_told : Option (List ℕ) → ℕ → List (List ℕ) → List ℕ
-texts_told find states texts = listed find (length texts) 0 texts ++ states_line states
+texts_told find states texts = texts_listed find (length texts) 0 texts ++ states_line states

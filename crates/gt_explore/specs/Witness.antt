@@ -38,11 +38,11 @@ pub record GivesAnswers (domains : List DomainConfig) (script text : List ℕ) :
   pub same : SameAnswers domains text out
 
 -- the text of this number among these, of which the first has the number 1
-abbrev pub IsNumbered : List (List ℕ) → ℕ → List ℕ → Type 0
-IsNumbered texts number text = (at : ℕ) × (number ≡ at + 1) × (slice_get texts at ≡ Some text)
+abbrev pub IsTextNumbered : List (List ℕ) → ℕ → List ℕ → Type 0
+IsTextNumbered texts number text = (at : ℕ) × (number ≡ at + 1) × (slice_get texts at ≡ Some text)
 
 -- a script for `play` that gives the answers of the text of this number
 pub record IsWitness (domains : List DomainConfig) (texts : List (List ℕ)) (number : ℕ) (script : List ℕ) : Type 0 where
   pub text : List ℕ
-  pub numbered : IsNumbered texts number text
+  pub numbered : IsTextNumbered texts number text
   pub gives : GivesAnswers domains script text

@@ -7,7 +7,7 @@ ghost use Rattle.gt_script.specs.RunScripts.{CanConfigure, RunTells};
 ghost use Rattle.gt_streams.specs.Streams.{ConsumesAtMost, OfInput};
 ghost use Rattle.gt_streams.specs.declared.streams.TheConstants.{READ_LIMIT};
 ghost use Rattle.gt_script.specs.Stuck.{AreNumbered};
-ghost use Rattle.gt_explore.specs.Adding.{texts_in};
+ghost use Rattle.gt_explore.specs.Adding.{texts_of_orders};
 ghost use Rattle.gt_explore.specs.Exploring.{Explored, Explores, IsMade, word_asked};
 ghost use Rattle.gt_explore.specs.Telling.{is_wanted, texts_told as told_of};
 ghost use Rattle.gt_explore.specs.Witness.{GivesAnswers, IsWitness};
@@ -43,7 +43,7 @@ struct Made {
 // The texts that are asked for.
 fn texts_made(alloc: Global, asked: &Asked, all: &Texts) -> Result<Made, TextsFault>
     ensures text { IfOk result (λ made. made.text.items
-        ≡ told_of (word_asked asked.now) all.now.states (texts_in all.now.texts.items)) }
+        ≡ told_of (word_asked asked.now) all.now.states (texts_of_orders all.now.texts.items)) }
     ensures any { IfOk result (λ made. made.is_any
         ≡ list_any (λ o. is_wanted (word_asked asked.now) o.text.items) all.now.texts.items) }
 {
@@ -85,7 +85,7 @@ fn witness_made(
 ) -> Result<Made, TextsFault>
     requires { CanConfigure (contents_told script.now.head) }
     ensures text { IfOk result (λ made.
-        IsWitness script.now.head.domains (texts_in all.now.texts.items) number made.text.items) }
+        IsWitness script.now.head.domains (texts_of_orders all.now.texts.items) number made.text.items) }
     ensures any { IfOk result (λ made. made.is_any ≡ true) }
 {
     let Some(at) = number.checked_sub(1) else {

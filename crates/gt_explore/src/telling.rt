@@ -4,7 +4,7 @@ ghost use Rattle.std.specs.List.{list_any};
 ghost use Rattle.std.specs.Option.{option_map};
 ghost use Rattle.gt_explore.specs.Telling.{has_word, heading, is_between, is_wanted, text_shown, states_line};
 ghost use Rattle.gt_explore.specs.Telling.{texts_told};
-ghost use Rattle.gt_explore.specs.Adding.{texts_in};
+ghost use Rattle.gt_explore.specs.Adding.{texts_of_orders};
 
 use gt_lines::is;
 use gt_streams::push_text;
@@ -90,7 +90,7 @@ pub fn push_told(
     texts: &[Order],
 ) -> Result<(), AllocError>
     ensures { OnOk result (out.new.items ≡ out.old.items
-        ++ texts_told (option_map (λ word. word.now) find.entry) states (texts_in texts.now)) }
+        ++ texts_told (option_map (λ word. word.now) find.entry) states (texts_of_orders texts.now)) }
 {
     let mut number = 0;
     'texts: for order in texts {

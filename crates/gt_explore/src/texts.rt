@@ -7,7 +7,7 @@ ghost use Rattle.gt_script.specs.RunScripts.{CanConfigure};
 ghost use Rattle.gt_script.specs.Stuck.{AreNumbered};
 ghost use Rattle.gt_replay.specs.Orders.{MayGive};
 ghost use Rattle.gt_ways.specs.declared.exploring.Order.{Order};
-ghost use Rattle.gt_explore.specs.Adding.{AddsOrder, AreApart, IsAmong, IsApart, texts_in};
+ghost use Rattle.gt_explore.specs.Adding.{AddsOrder, AreDifferentTexts, IsTextAmong, IsApart, texts_of_orders};
 
 use crate::fault::TextsFault;
 use gt_replay::text_of;
@@ -35,8 +35,8 @@ fn is_text(order: &Order, text: &[u8]) -> bool
 // The place of a text among these, in the order of their bytes; none if it is there.
 fn place_of(texts: &[Order], text: &[u8]) -> Option<usize>
     ensures place { IfSome result (λ at. at ≤ length texts.now) }
-    ensures apart { IfSome result (λ at. IsApart text.now (texts_in texts.now)) }
-    ensures there { IfNone result (IsAmong text.now (texts_in texts.now)) }
+    ensures apart { IfSome result (λ at. IsApart text.now (texts_of_orders texts.now)) }
+    ensures there { IfNone result (IsTextAmong text.now (texts_of_orders texts.now)) }
 {
     let mut at = 0;
     'texts: for other in texts {
@@ -81,10 +81,10 @@ fn replayed(alloc: Global, script: &RunScript, order: Order) -> Result<Order, Te
 // One order for each text that some of these orders have, in the order of their bytes.
 fn distinct(alloc: Global, script: &RunScript, orders: Vec<Order>) -> Result<Vec<Order>, TextsFault>
     requires { CanConfigure (contents_told script.now.head) }
-    ensures possible { IfOk result (λ texts. All (MayGive (run_told script.now)) (texts_in texts.items)) }
+    ensures possible { IfOk result (λ texts. All (MayGive (run_told script.now)) (texts_of_orders texts.items)) }
     ensures whole { (at : ℕ) (o : Order) → slice_get orders.items at ≡ Some o →
-        IfOk result (λ texts. IsAmong o.text.items (texts_in texts.items)) }
-    ensures apart { IfOk result (λ texts. AreApart (texts_in texts.items)) }
+        IfOk result (λ texts. IsTextAmong o.text.items (texts_of_orders texts.items)) }
+    ensures apart { IfOk result (λ texts. AreDifferentTexts (texts_of_orders texts.items)) }
 {
     let mut texts = Vec::new(alloc);
     'orders: for order in orders {
@@ -101,10 +101,10 @@ fn distinct(alloc: Global, script: &RunScript, orders: Vec<Order>) -> Result<Vec
 /// order that the core does not follow to its text, and `Memory`.
 pub fn texts_of(alloc: Global, script: &RunScript, limit: usize) -> Result<Texts, TextsFault>
     requires { CanConfigure (contents_told script.now.head) }
-    ensures possible { IfOk result (λ all. All (MayGive (run_told script.now)) (texts_in all.texts.items)) }
+    ensures possible { IfOk result (λ all. All (MayGive (run_told script.now)) (texts_of_orders all.texts.items)) }
     ensures whole { (text : List ℕ) → AreNumbered script.now.flags script.now.tasks →
-        MayGive (run_told script.now) text → IfOk result (λ all. IsAmong text (texts_in all.texts.items)) }
-    ensures apart { IfOk result (λ all. AreApart (texts_in all.texts.items)) }
+        MayGive (run_told script.now) text → IfOk result (λ all. IsTextAmong text (texts_of_orders all.texts.items)) }
+    ensures apart { IfOk result (λ all. AreDifferentTexts (texts_of_orders all.texts.items)) }
 {
     let found = search(alloc, script, limit)?;
     let states = found.states;

@@ -181,7 +181,8 @@ impl Writers {
     // Whether the writ that was used last is this one.
     #[inline(always)]
     fn is_last(&self, writ: &Writ) -> bool
-        ensures { result ≡ true → (0 < self.now.last) × (slice_get self.now.writs.items (self.now.last - 1) ≡ Some writ.now) }
+        ensures { result ≡ true →
+            (0 < self.now.last) × (slice_get self.now.writs.items (self.now.last - 1) ≡ Some writ.now) }
     {
         let number = usize::from(self.last);
         if number == 0 || number > self.writs.len() {

@@ -69,7 +69,7 @@ module _ {T : Type 0} where
     pub none : (h : Handle) → value_of s h ≡ None
 
   -- each handle with a value has a serial that was given, and that no other such handle has
-  pub record IsSound (s : HandleMap T) : Type 0 where
+  pub record HasSoundHandles (s : HandleMap T) : Type 0 where
     pub given : (h : Handle) (x : T) → value_of s h ≡ Some x → h.serial < s.given
     pub one : (a b : Handle) (x y : T) → value_of s a ≡ Some x → value_of s b ≡ Some y → a.serial ≡ b.serial
         → a.key ≡ b.key

@@ -47,7 +47,7 @@ impl<T> Model for Handles<T> {
 impl<T> Handles<T> {
     ghost use Rattle.std.specs.Prelude.{[]};
     ghost use Rattle.gt_handles.specs.Handles.{value_of, count_of, Updates, IsSpent, KeepsSpent, IsLeast};
-    ghost use Rattle.gt_handles.specs.Handles.{IsEmpty, IsSound};
+    ghost use Rattle.gt_handles.specs.Handles.{IsEmpty, HasSoundHandles};
 
     /// No values yet, and no serial given. It takes no memory.
     pub fn new(alloc: Global) -> Self
@@ -96,7 +96,7 @@ impl<T> Handles<T> {
     /// The value under a handle; `None` if it was never given here, or was taken.
     pub fn get(&self, handle: Handle) -> Option<&T>
         ensures value { option_copied result ≡ value_of self.now handle }
-        ensures sound { IsSound self.now }
+        ensures sound { HasSoundHandles self.now }
     {
         match self.slab.get(handle.key) {
             Some(slot) if slot.serial == handle.serial => Some(&slot.value),
@@ -181,7 +181,7 @@ impl<T> Handles<T> {
     /// How many serials were given.
     pub fn given(&self) -> u64
         ensures value { result ≡ self.now.given }
-        ensures sound { IsSound self.now }
+        ensures sound { HasSoundHandles self.now }
     {
         self.given
     }

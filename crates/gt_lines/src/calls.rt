@@ -20,8 +20,8 @@ const SOURCE_GREF: u16 = 1;
 /// The flag of a copy whose destination is given by a grant reference: `GNTCOPY_dest_gref` of the same header.
 const DEST_GREF: u16 = 2;
 
-/// A call as it is written. A domain written `self` is the number 32752. A label names the handle of the last map of that
-/// label.
+/// A call as it is written. A domain written `self` is the number 32752. A label names the handle of the last map of
+/// that label.
 #[derive(Debug, Drop)]
 pub enum ScriptCall<'a> {
     /// `grant REF page|sub|via ..`: any entry but the invalid one. In an entry the number of `self` is nobody's.

@@ -6,7 +6,7 @@ use Rattle.std.specs.Str.{IsUtf8}
 use Rattle.gt_streams.specs.Laws.{take_whole}
 use Rattle.gt_types.specs.declared.TypeId.{TypeId}
 use Rattle.gt_types.specs.declared.perms.Perms.{Perms}
-use Rattle.gt_policy.specs.Allowing.{Meaning, KeptPolicy, Allowed, Shows, may_of}
+use Rattle.gt_policy.specs.Allowing.{Meaning, KeptPolicy, Allowed, PolicyShows, may_of}
 use Rattle.gt_policy.specs.Grammar.{at}
 use Rattle.gt_policy.specs.Listing.{AreByName}
 use Rattle.gt_policy.specs.Shown.{fault_shown}
@@ -41,11 +41,11 @@ pub writes_nothing : (p : KeptPolicy) (old : Option (List ℕ)) (fault : Listing
 writes_nothing p old fault is = subst (λ (f : ListingFault). WritesRules p old old (Err f)) (sym is) (inl (keeps_same old))
 
 -- the text of what is kept is that of the meaning
-is_listing : (p : KeptPolicy) (m : Meaning) (ids : List TypeId) → Shows p m → AreByName p.types ids → IsListing m (text_with p ids)
+is_listing : (p : KeptPolicy) (m : Meaning) (ids : List TypeId) → PolicyShows p m → AreByName p.types ids → IsListing m (text_with p ids)
 is_listing p m ids shows named =
     (ids, subst (λ (l : List (List ℕ)). AreByName l ids) (ap (λ (a : Allowed). a.types) shows) named, ap (λ (a : Allowed). listing a.types a.may ids) shows)
 
-pub parsed : (p : KeptPolicy) (m : Meaning) (text : List ℕ) (old new : Option (List ℕ)) (r : Result (Unit {0}) ListingFault) → Says text (Ok m) → Shows p m → WritesRules p old new r → Parsed text old new r
+pub parsed : (p : KeptPolicy) (m : Meaning) (text : List ℕ) (old new : Option (List ℕ)) (r : Result (Unit {0}) ListingFault) → Says text (Ok m) → PolicyShows p m → WritesRules p old new r → Parsed text old new r
 parsed p m text old new (Ok done) says shows w = (m, says, (text_with p w.0, is_listing p m w.0 shows w.1, w.2))
 parsed p m text old new (Err faults.Write) says shows w = (m, says, (text_with p w.0, is_listing p m w.0 shows w.1, w.2))
 parsed p m text old new (Err faults.Memory) says shows (inl kept) = inl kept

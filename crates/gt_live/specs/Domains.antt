@@ -8,7 +8,7 @@ use Rattle.gt_live.specs.Prelude.{Mapped}
 use Rattle.gt_live.specs.Prelude.{Refused, Frames, SizeTold, Version, Held, CopyArgs, End, Request, Copying, begun_of}
 use Rattle.gt_live.specs.Prelude.{path, path_of, IsFreshCall, IsStepAction, Call, CallerKnowledge, knowledge_of}
 use Rattle.gt_live.specs.Prelude.{entry_in}
-use Rattle.gt_live.specs.Prelude.{own_generation, Domain, Left, Monitor, NotMade, Gone, OutOfMemory, Step, asked}
+use Rattle.gt_live.specs.Prelude.{own_generation, Domain, Left, Monitor, NotMade, Gone, OutOfMemory, Step}
 use Rattle.gt_audit.specs.Telling.{Tells}
 use Rattle.gt_frames.specs.Visits.{Visit}
 use Rattle.gt_audit.specs.declared.record.Hypercall.TheVariants as hypercalls
@@ -105,13 +105,6 @@ pub record IsOpened (c : CallerKnowledge) (caller : DomId) (call : Call) : Type 
   pub of_caller : call.caller ≡ caller
   pub fresh : IsFreshCall c call
   pub steps : IsStepAction (path c caller call.request [])
-
--- no rule stood at the beginning of this request, whose call is open
-pub record OpensCall (c : CallerKnowledge) (caller : DomId) (request : Request) (call : Call) : Type 0 where
-  pub unanswered : begun_of c caller request ≡ None
-  pub asks : call.request ≡ asked request
-  pub same_way : path_of c caller request ≡ path c caller call.request
-  pub opened : IsOpened c caller call
 
 -- a rule stood at the beginning of this request, and refuses it without a word of an entry
 pub record IsRefused (c : CallerKnowledge) (caller : DomId) (request : Request) (denial : Denial) : Type 0 where

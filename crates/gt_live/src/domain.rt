@@ -632,9 +632,9 @@ impl Domain {
     /// readonly of the public header. `DOMID_SELF` names the caller.
     ///
     /// # Errors
-    /// The first rule that stands: N1, N2, N5 or N8 at the beginning, N9 with the header's word, N10 to N13, N16, N17 or
-    /// N18 with the entry's. N26 if none stands at the beginning, no room is left for a mapping and memory is refused
-    /// for more. Mappings and pins are as they were.
+    /// The first rule that stands: N1, N2, N5 or N8 at the beginning, N9 with the header's word, N10 to N13, N16, N17
+    /// or N18 with the entry's. N26 if none stands at the beginning, no room is left for a mapping and memory is
+    /// refused for more. Mappings and pins are as they were.
     pub fn map<P: Allows>(
         &mut self,
         monitor: &Monitor<P>,

@@ -14,8 +14,8 @@ pub fn every_change_makes_four_tries()
     ensures { ChangesMakeFourTries }
 {}
 
-/// A law: a call that is refused by N18 made just four tries in its last leg, or of its change. Each was missed: its last
-/// step found another word than the one looked at, and the fourth the one that the refusal carries.
+/// A law: a call that is refused by N18 made just four tries in its last leg, or of its change. Each was missed: its
+/// last step found another word than the one looked at, and the fourth the one that the refusal carries.
 pub fn every_call_that_gives_up_missed_four_tries()
     ensures { FourTriesWereMissed }
 {}

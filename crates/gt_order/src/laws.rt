@@ -30,8 +30,8 @@ pub fn calls_of_domains_are_made<P: Allows>(monitor: &Monitor<P>)
     ensures lost { LostWritesAreMade P.may monitor.now }
 {}
 
-/// A law: the whole of each run of the monitor, whose calls read no bytes and copy none and are all finished, is one legal
-/// interleaving of the core's events, in which each call is answered as its domain answered it.
+/// A law: the whole of each run of the monitor, whose calls read no bytes and copy none and are all finished, is one
+/// legal interleaving of the core's events, in which each call is answered as its domain answered it.
 pub fn every_run_has_a_legal_order()
     ensures { RunsHaveLegalOrders }
 {}

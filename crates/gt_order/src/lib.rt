@@ -5,12 +5,12 @@
 //! contracts tell them (`gt_live`).
 //!
 //! What holds: for each run whose calls read no bytes, copy none and are finished there is one list of the core's items
-//! that is legal (`gt_core`), whose steps are those of the run in their order, and in which each call is answered as its
-//! domain answered it ([`every_run_has_a_legal_order`]). The contracts of a domain's calls make them calls of a run
+//! that is legal (`gt_core`), whose steps are those of the run in their order, and in which each call is answered as
+//! its domain answered it ([`every_run_has_a_legal_order`]). The contracts of a domain's calls make them calls of a run
 //! ([`calls_of_domains_are_made`]).
 //!
-//! It uses `gt_live`, `gt_core`, `gt_words`, `gt_calls`, `gt_frames`, `gt_handles`, `gt_entry`, `gt_types` and the kit's
-//! `atomic_table`.
+//! It uses `gt_live`, `gt_core`, `gt_words`, `gt_calls`, `gt_frames`, `gt_handles`, `gt_entry`, `gt_types` and the
+//! kit's `atomic_table`.
 #![tactic(auto)]
 
 mod laws;

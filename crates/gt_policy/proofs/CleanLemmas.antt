@@ -13,7 +13,8 @@ use Rattle.gt_policy.specs.declared.fault.TokenFaultKind.TheVariants.{Twice, Lim
 use Rattle.gt_policy.specs.declared.statements.Statement.{Statement}
 use Rattle.gt_policy.specs.declared.statements.Statement.TheVariants.{DeclareType, DeclareAttribute, GiveAttributes}
 use Rattle.gt_policy.specs.declared.statements.Statement.TheVariants.{Allow}
-use Rattle.gt_policy.specs.Names.{Names, no_names, symbol_at, is_declared, with_declared_type, with_attribute, with_allow}
+use Rattle.gt_policy.specs.Names.{Names, no_names, symbol_at, is_declared, with_declared_type, with_attribute}
+use Rattle.gt_policy.specs.Names.{with_allow}
 use Rattle.gt_policy.specs.Grammar.{◌>>=◌}
 use Rattle.gt_policy.specs.Spelling.{types_in, attributes_in, declared_in, allows_in, AreDistinct, AreClean}
 use Rattle.gt_policy.specs.Spelling.{declared_names}

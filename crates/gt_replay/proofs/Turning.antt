@@ -25,7 +25,8 @@ use Rattle.gt_host.specs.Printing.{answer_line}
 use Rattle.gt_host.specs.Runs.{EndsWith, AnswerNothing, answer_in, handle_given, label_given, with_name}
 use Rattle.gt_replay.specs.declared.replay.Turn.{Turn}
 use Rattle.gt_replay.specs.Orders.{Happening, did, doer, own_happenings, given_up, held_after, ticks_of}
-use Rattle.gt_replay.specs.Orders.{CallGoesOn, CallHappens, GivesMappingsBack, FollowsList, DeedHappens, Prints, AllFollow}
+use Rattle.gt_replay.specs.Orders.{CallGoesOn, CallHappens, GivesMappingsBack, FollowsList, DeedHappens, Prints}
+use Rattle.gt_replay.specs.Orders.{AllFollow}
 use Rattle.gt_replay.specs.Orders.{IsOrderOf}
 use Rattle.gt_replay.specs.Walking.{HaveOwnIds}
 use Rattle.gt_replay.specs.Courses.{Opened, resting, calling, giving, Course, course_answered, course_after, back_after}

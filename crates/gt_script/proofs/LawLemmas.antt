@@ -23,7 +23,8 @@ use Rattle.gt_script.specs.Types.{with_type_name}
 use Rattle.gt_policy.specs.Allowing.{Allowed, type_named}
 use Rattle.gt_script.specs.Contents.{Contents, type_names_with}
 use Rattle.gt_script.specs.Script.{is_empty, is_misplaced, has_no_rights, or_config, or_mode, configured}
-use Rattle.gt_script.specs.Script.{domain_written, with_triple, type_named_in, with_domain, with_domain_line, with_order}
+use Rattle.gt_script.specs.Script.{domain_written, with_triple, type_named_in, with_domain, with_domain_line}
+use Rattle.gt_script.specs.Script.{with_order}
 use Rattle.gt_script.specs.Script.{with_asked}
 use Rattle.gt_script.specs.Script.{with_body_line, with_placed, with_script_line, with_words, with_lines}
 use Rattle.gt_script.specs.Laws.{lines_said, triple_in, wear_in, domain_in, step_for, step_on, order_for, order_on}

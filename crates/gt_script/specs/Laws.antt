@@ -241,5 +241,5 @@ StandsFor command bytes (errors.Policy e) =
     (g : policy.TokenFault) × (block_fault_shown e ≡ Some g) × IsFaultOfBlock bytes g
 
 -- memory ran out, or this is the first fault of a script for `play`
-abbrev pub Stands : List ℕ → ScriptError → Type 0
-Stands bytes e = StandsFor Play bytes e
+abbrev pub ErrorStands : List ℕ → ScriptError → Type 0
+ErrorStands bytes e = StandsFor Play bytes e

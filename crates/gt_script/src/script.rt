@@ -8,7 +8,7 @@ ghost use Rattle.gt_script.specs.Script.{domain_written, configured, action_in, 
 ghost use Rattle.gt_script.specs.Script.{BlockSays, TextSays, TellsFor, TellsScript};
 ghost use Rattle.gt_script.specs.Contents.{contents_told};
 ghost use Rattle.gt_script.specs.Outcomes.{AnswersScript};
-ghost use Rattle.gt_script.specs.Laws.{IsScriptFor, IsScriptOf, StandsFor, Stands, IsUnread};
+ghost use Rattle.gt_script.specs.Laws.{IsScriptFor, IsScriptOf, StandsFor, ErrorStands, IsUnread};
 
 use crate::blocks::{closing, opening, read_policy};
 use crate::command::Command;
@@ -594,7 +594,7 @@ pub fn parse_for<'a>(
 pub fn parse<'a>(alloc: Global, bytes: &'a [u8]) -> Result<Script<'a>, ScriptError>
     ensures script { AnswersScript result (TellsScript bytes.entry.now) }
     ensures holds { IfOk result (λ s. IsScriptOf (lines_in bytes.entry.now) (contents_told s)) }
-    ensures fault { IfErr result (λ e. Stands bytes.entry.now e) }
+    ensures fault { IfErr result (λ e. ErrorStands bytes.entry.now e) }
 
     // The bytes up to one past the limit decide what all of them say.
     ensures beginning { (all : List ℕ) → bytes.entry.now ≡ take (LONGEST_TEXT + 1) all →

@@ -16,7 +16,8 @@ use Rattle.gt_calls.specs.declared.action.Verdict.{Verdict}
 use Rattle.gt_calls.specs.declared.action.Verdict.TheVariants.{Given, Granted, Refused}
 use Rattle.gt_calls.specs.declared.held.Held.{Held}
 use Rattle.gt_calls.specs.declared.request.Asked.{Asked}
-use Rattle.gt_calls.specs.declared.request.Asked.TheVariants.{Copy, GetVersion, Load, Map, Peek, QuerySize, SetupTable, Store, Unmap}
+use Rattle.gt_calls.specs.declared.request.Asked.TheVariants.{Copy, GetVersion, Load, Map, Peek, QuerySize, SetupTable}
+use Rattle.gt_calls.specs.declared.request.Asked.TheVariants.{Store, Unmap}
 use Rattle.gt_calls.specs.declared.request.Request.{Request}
 use Rattle.gt_calls.specs.declared.request.Request.TheVariants as requests
 use Rattle.gt_calls.specs.Asking.{asked, begun_of, bytes_begun, field_refused}

@@ -14,7 +14,7 @@ use Rattle.gt_calls.specs.Asking.{IsSaid, asked, begun_of}
 use Rattle.gt_calls.specs.Following.{Goes, IsLeftAlike, Starts}
 use Rattle.gt_calls.specs.Rules.{CallerKnowledge}
 use Rattle.gt_calls.specs.Standing.{IsFreshCall}
-use Rattle.gt_search.specs.Beginnings.{BeginsAlike, IsOpened}
+use Rattle.gt_search.specs.Beginnings.{BeginsAlike, OpensAsRun}
 
 -- a call with no step yet has the same left to do
 pub left-same : (k l : CallerKnowledge) (dom : DomId) (request : Request) (first : Call) → Starts l dom request (StartOpen first) → BeginsAlike k l dom request → IsLeftAlike k l first Nothing
@@ -37,11 +37,11 @@ started k l dom request first starts alike = record {
   fresh = grind arith;
 }
 
-by-start : (k : CallerKnowledge) (dom : DomId) (request : Request) (first new : Call) (step : Step) → Started k dom request first → Goes k first Nothing new (Makes step) → new.caller ≡ first.caller → new.request ≡ first.request → IsOpened k dom request new step
+by-start : (k : CallerKnowledge) (dom : DomId) (request : Request) (first new : Call) (step : Step) → Started k dom request first → Goes k first Nothing new (Makes step) → new.caller ≡ first.caller → new.request ≡ first.request → OpensAsRun k dom request new step
 by-start k dom request first new step s goes by asked_as = grind arith
 
 pub opened : (k l : CallerKnowledge) (dom : DomId) (request : Request) (first new : Call) (action : Action) (step : Step) → Starts l dom request (StartOpen first) → BeginsAlike k l dom request → Goes k first Nothing new action → action ≡ Makes step
-    → new.caller ≡ first.caller → new.request ≡ first.request → IsOpened k dom request new step
+    → new.caller ≡ first.caller → new.request ≡ first.request → OpensAsRun k dom request new step
 opened k l dom request first new action step starts alike goes is by asked_as =
     by-start k dom request first new step (started k l dom request first starts alike) (subst (λ (z : Action). Goes k first Nothing new z) is goes) by asked_as
 

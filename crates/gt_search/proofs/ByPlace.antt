@@ -9,7 +9,7 @@ use Rattle.gt_types.specs.declared.DomId.{DomId}
 use Rattle.gt_handles.specs.declared.handles.Handle.{Handle}
 use Rattle.gt_host.specs.Runs.{Named, handle_named, with_name}
 use Rattle.gt_search.specs.Calls.{LabelsShow}
-use Rattle.gt_search.specs.Placing.{CountFrom, names_in, names_with}
+use Rattle.gt_search.specs.Placing.{CountFrom, place_names, place_names_after}
 
 -- the label is one of a mapping, and names its handle
 record NamesPlace (named : List Named) (d : DomId) (handles : List Handle) (labels : List (Option (List ℕ))) (label : List ℕ) : Type 0 where
@@ -37,25 +37,25 @@ named-else named d handle given label e = grind arith
 -- what a label names, if this is the label of the first mapping and these are the others
 abbrev Found : DomId → Handle → List Handle → List (Option (List ℕ)) → List Named → List ℕ → Option (List ℕ) → Type 0
 Found d handle handles labels before label g =
-    NamesPlace (names_with d handles labels (with_name before d g (Some handle))) d (handle ∷ handles) (g ∷ labels) label
-    ⊎ NamesNone (names_with d handles labels (with_name before d g (Some handle))) before d (g ∷ labels) label
+    NamesPlace (place_names_after d handles labels (with_name before d g (Some handle))) d (handle ∷ handles) (g ∷ labels) label
+    ⊎ NamesNone (place_names_after d handles labels (with_name before d g (Some handle))) before d (g ∷ labels) label
 
 last-named : (d : DomId) (handles : List Handle) (labels : List (Option (List ℕ))) (before : List Named) (label : List ℕ) → length handles ≡ length labels
-    → NamesPlace (names_with d handles labels before) d handles labels label ⊎ NamesNone (names_with d handles labels before) before d labels label
+    → NamesPlace (place_names_after d handles labels before) d handles labels label ⊎ NamesNone (place_names_after d handles labels before) before d labels label
 last-named d [] [] before label e = inr (record { none = λ at h. none-some _ h; names = refl })
 last-named d [] (l ∷ labels) before label e = absurd (omega arith)
 last-named d (handle ∷ handles) [] before label e = absurd (omega arith)
 last-named d (handle ∷ handles) (given ∷ labels) before label e =
     by given (last-named d handles labels (with_name before d given (Some handle)) label (let f : length handles ≡ length labels = omega arith in f))
   where
-    past : (g : Option (List ℕ)) → NamesPlace (names_with d handles labels (with_name before d g (Some handle))) d handles labels label → Found d handle handles labels before label g
+    past : (g : Option (List ℕ)) → NamesPlace (place_names_after d handles labels (with_name before d g (Some handle))) d handles labels label → Found d handle handles labels before label g
     past g p = inl (record { at = suc p.at; handle = p.handle; there = p.there; has = p.has; names = p.names })
 
     none-at : (g : Option (List ℕ)) → (g ≡ Some label → ⊥) → ((at : ℕ) → slice_get labels at ≡ Some (Some label) → ⊥) → (at : ℕ) → slice_get (g ∷ labels) at ≡ Some (Some label) → ⊥
     none-at g here more zero h = here (same_Some g (Some label) h)
     none-at g here more (suc at) h = more at h
 
-    here : (g : List ℕ) (b : Bool) → bytes_eq g label ≡ b → NamesNone (names_with d handles labels (with_name before d (Some g) (Some handle))) (with_name before d (Some g) (Some handle)) d labels label → Found d handle handles labels before label (Some g)
+    here : (g : List ℕ) (b : Bool) → bytes_eq g label ≡ b → NamesNone (place_names_after d handles labels (with_name before d (Some g) (Some handle))) (with_name before d (Some g) (Some handle)) d labels label → Found d handle handles labels before label (Some g)
     here g true is n = let same : g ≡ label = (bytes_eq-Decides g label).0 is in
         inl (record { at = 0; handle = handle; there = refl; has = ap (λ (l : List ℕ). Some (Some l)) same; names = n.names ∙ ap (λ (l : List ℕ). handle_named (record { dom = d; label = l; handle = handle } ∷ before) d.0 label) same ∙ named-now before d handle label })
     here g false is n = inr (record {
@@ -63,7 +63,7 @@ last-named d (handle ∷ handles) (given ∷ labels) before label e =
       names = n.names ∙ named-else before d handle g label is;
     })
 
-    by : (g : Option (List ℕ)) → NamesPlace (names_with d handles labels (with_name before d g (Some handle))) d handles labels label ⊎ NamesNone (names_with d handles labels (with_name before d g (Some handle))) (with_name before d g (Some handle)) d labels label → Found d handle handles labels before label g
+    by : (g : Option (List ℕ)) → NamesPlace (place_names_after d handles labels (with_name before d g (Some handle))) d handles labels label ⊎ NamesNone (place_names_after d handles labels (with_name before d g (Some handle))) (with_name before d g (Some handle)) d labels label → Found d handle handles labels before label g
     by g (inl p) = past g p
     by None (inr n) = inr (record { none = none-at None (λ bad. none-some label bad) n.none; names = n.names })
     by (Some g) (inr n) = here g (bytes_eq g label) refl n
@@ -97,9 +97,9 @@ get-there (x ∷ xs) (y ∷ ys) zero z e h = (y, refl)
 get-there (x ∷ xs) (y ∷ ys) (suc at) z e h = get-there xs ys at z (let f : length xs ≡ length ys = omega arith in f) h
 
 pub names-alike : (named : List Named) (d : DomId) (handles places : List Handle) (labels : List (Option (List ℕ))) (label : List ℕ) → CountFrom 0 places → length places ≡ length labels → length handles ≡ length labels
-    → LabelsShow named d handles labels → NamesAlike named (names_in d places labels) d handles places label ⊎ NamesNothing named (names_in d places labels) d handles label
+    → LabelsShow named d handles labels → NamesAlike named (place_names d places labels) d handles places label ⊎ NamesNothing named (place_names d places labels) d handles label
 names-alike named d handles places labels label counts many also show = by (last-named d places labels [] label many) where
-  by : NamesPlace (names_in d places labels) d places labels label ⊎ NamesNone (names_in d places labels) [] d labels label → NamesAlike named (names_in d places labels) d handles places label ⊎ NamesNothing named (names_in d places labels) d handles label
+  by : NamesPlace (place_names d places labels) d places labels label ⊎ NamesNone (place_names d places labels) [] d labels label → NamesAlike named (place_names d places labels) d handles places label ⊎ NamesNothing named (place_names d places labels) d handles label
   by (inl p) = let t = get-there labels handles p.at (Some label) (sym also) p.has in inl (record {
     at = p.at;
     handle = t.0;

@@ -18,9 +18,9 @@ use Rattle.gt_lines.specs.declared.calls.ScriptCall.{ScriptCall}
 use Rattle.gt_replay.specs.Courses.{Course}
 use Rattle.gt_script.specs.Lists.{Task}
 use Rattle.gt_search.specs.Beginnings.{BeginsAlike}
-use Rattle.gt_search.specs.Calls.{KnowsTable, Rise, ShowsCalls, handles_at, known_by_place, known_in, pins_at}
-use Rattle.gt_search.specs.Mappings.{labels_of, pins_of, said}
-use Rattle.gt_search.specs.Placing.{ArePlaced, CountFrom, names_in, pin_by_place}
+use Rattle.gt_search.specs.Calls.{KnowsTable, Rise, ShowsCalls, handles_at, known_by_place, known_in, pins_mapped_at}
+use Rattle.gt_search.specs.Mappings.{labels_of, mapping_pins, label_bytes}
+use Rattle.gt_search.specs.Placing.{ArePlaced, CountFrom, place_names, pin_by_place}
 use Rattle.gt_search.specs.Renaming.{FindsSame, KnowAlike, asked_under}
 use Rattle.gt_search.specs.declared.actor.Actor.{Actor}
 use Rattle.gt_search.specs.declared.actor.Mapping.{Mapping}
@@ -28,9 +28,11 @@ use Rattle.gt_search.specs.declared.names.Names.{Names}
 use Rattle.gt_search.specs.declared.scene.Scene.{Scene}
 use Rattle.gt_world.specs.declared.table.Table.{Table}
 use Rattle.gt_search.proofs.ByPlace.{counted, names-alike, NamesAlike, NamesNothing}
-use Rattle.gt_search.proofs.MappingFound.{count-rises, finds-alike, label_asked, listed-at, listed-gone, mapping-listed, never-listed}
+use Rattle.gt_search.proofs.MappingFound.{count-rises, finds-alike, label_asked, listed-at, listed-gone, mapping-listed}
+use Rattle.gt_search.proofs.MappingFound.{never-listed}
 use Rattle.gt_search.proofs.MappingFound.{request-renamed, same-found}
-use Rattle.gt_search.proofs.Renaming.{alike-between, asked-renamed, begins-alike, begun-of-renamed, finds-own, own_handle}
+use Rattle.gt_search.proofs.Renaming.{alike-between, asked-renamed, begins-alike, begun-of-renamed, finds-own}
+use Rattle.gt_search.proofs.Renaming.{own_handle}
 use Rattle.std.proofs.Common.{Bor, inl, inr, ◌≤◌}
 use Rattle.std.specs.Prelude.{unwrap_or}
 use Rattle.std.proofs.lemmas.Option.{none-some}
@@ -52,7 +54,7 @@ use Rattle.gt_search.specs.declared.calls.Opening.{Opening as Opened}
 use Rattle.gt_search.specs.declared.calls.Opening.TheVariants.{Open, Done}
 
 -- what is known of the domain's table in the state and by what happened is alike
-pub knows-alike : (s : Setting) (h : History) (d : DomId) (scene : Scene) (a : Actor) (t : Table) (n : Names) → KnowsTable s h d scene t → ArePlaced d a.mappings.items n → pins_of a.mappings.items ≡ pins_at h d
+pub knows-alike : (s : Setting) (h : History) (d : DomId) (scene : Scene) (a : Actor) (t : Table) (n : Names) → KnowsTable s h d scene t → ArePlaced d a.mappings.items n → mapping_pins a.mappings.items ≡ pins_mapped_at h d
     → maps_answered_at h d.0 < END_OF_SERIALS → length a.mappings.items < END_OF_SERIALS → KnowAlike (known_at s h d) (known_in scene t n.mappings)
 knows-alike s h d scene a t n table placed pins below also = record {
   domains = table.domains;
@@ -81,15 +83,15 @@ place-alike s h d below = record {
 module _ (s : Setting) (h : History) (tasks : List Task) (k : Course) (scene : Scene) (a : Actor) (t : Table) (n : Names) (show : ShowsCalls s h tasks k a) (table : KnowsTable s h k.dom scene t) (placed : ArePlaced k.dom a.mappings.items n)
     (below : maps_answered_at h k.dom.0 < END_OF_SERIALS) (few : length a.mappings.items < END_OF_SERIALS) where
   abbrev names : List Named
-  names = names_in k.dom n.handles.items (labels_of a.mappings.items)
+  names = place_names k.dom n.handles.items (labels_of a.mappings.items)
 
   many-labels : length n.handles.items ≡ length (labels_of a.mappings.items)
   many-labels = ap (λ (l : List Handle). length l) (sym placed.handles) ∙ length-map placed.pairs (λ (m : Handle × Held). m.0) ∙ sym (length-map placed.pairs (λ (m : Handle × Held). m.1))
-      ∙ ap (λ (l : List Held). length l) placed.pins ∙ length-map a.mappings.items (λ (m : Mapping). m.held) ∙ sym (length-map a.mappings.items (λ (m : Mapping). said m.label))
+      ∙ ap (λ (l : List Held). length l) placed.pins ∙ length-map a.mappings.items (λ (m : Mapping). m.held) ∙ sym (length-map a.mappings.items (λ (m : Mapping). label_bytes m.label))
 
   many-handles : length (handles_at h k.dom) ≡ length (labels_of a.mappings.items)
   many-handles = length-map (mappings_at h k.dom.0) (λ (m : Handle × Held). m.0) ∙ sym (length-map (mappings_at h k.dom.0) (λ (m : Handle × Held). m.1))
-      ∙ ap (λ (l : List Held). length l) (sym show.pins) ∙ length-map a.mappings.items (λ (m : Mapping). m.held) ∙ sym (length-map a.mappings.items (λ (m : Mapping). said m.label))
+      ∙ ap (λ (l : List Held). length l) (sym show.pins) ∙ length-map a.mappings.items (λ (m : Mapping). m.held) ∙ sym (length-map a.mappings.items (λ (m : Mapping). label_bytes m.label))
 
   -- what the label of a call names
   pub named-so : (label : List ℕ) → NamesAlike k.named names k.dom (handles_at h k.dom) n.handles.items label ⊎ NamesNothing k.named names k.dom (handles_at h k.dom) label
@@ -101,7 +103,7 @@ module _ (s : Setting) (h : History) (tasks : List Task) (k : Course) (scene : S
   gone-run : (handle : Handle) → ((at : ℕ) → slice_get (handles_at h k.dom) at ≡ Some handle → ⊥) → mapping_of (mappings_at h k.dom.0) handle ≡ None
   gone-run handle gone = mapping-listed (mappings_at h k.dom.0) handle ∙ listed-gone (mappings_at h k.dom.0) handle gone
 
-  run-at : (at : ℕ) (handle : Handle) → slice_get (handles_at h k.dom) at ≡ Some handle → mapping_of (mappings_at h k.dom.0) handle ≡ slice_get (pins_at h k.dom) at
+  run-at : (at : ℕ) (handle : Handle) → slice_get (handles_at h k.dom) at ≡ Some handle → mapping_of (mappings_at h k.dom.0) handle ≡ slice_get (pins_mapped_at h k.dom) at
   run-at at handle there = mapping-listed (mappings_at h k.dom.0) handle ∙ listed-at 0 (mappings_at h k.dom.0) (maps_answered_at h k.dom.0) at handle show.rising there
 
   pairs-rise : Rise 0 (map (λ (m : Handle × Held). m.0) placed.pairs) (0 + length (map (λ (m : Handle × Held). m.0) placed.pairs))
@@ -116,19 +118,19 @@ module _ (s : Setting) (h : History) (tasks : List Task) (k : Course) (scene : S
   no-state : value_of n.mappings never_given ≡ None
   no-state = ap (λ (f : Handle → Option Held). f never_given) placed.kept.named
       ∙ never-listed 0 placed.pairs (0 + length (map (λ (m : Handle × Held). m.0) placed.pairs)) pairs-rise
-      (let e : length (map (λ (m : Handle × Held). m.0) placed.pairs) ≡ length a.mappings.items = ap (λ (l : List Handle). length l) placed.handles ∙ many-labels ∙ length-map a.mappings.items (λ (m : Mapping). said m.label) in omega arith)
+      (let e : length (map (λ (m : Handle × Held). m.0) placed.pairs) ≡ length a.mappings.items = ap (λ (l : List Handle). length l) placed.handles ∙ many-labels ∙ length-map a.mappings.items (λ (m : Mapping). label_bytes m.label) in omega arith)
 
-  no-place : pin_by_place (pins_at h k.dom) never_given ≡ None
-  no-place = slice_get_past (pins_at h k.dom) (2 ^ 64 - 1)
-      (let e : length (pins_at h k.dom) ≡ length a.mappings.items = ap (λ (l : List Held). length l) (sym show.pins) ∙ length-map a.mappings.items (λ (m : Mapping). m.held) in omega arith)
+  no-place : pin_by_place (pins_mapped_at h k.dom) never_given ≡ None
+  no-place = slice_get_past (pins_mapped_at h k.dom) (2 ^ 64 - 1)
+      (let e : length (pins_mapped_at h k.dom) ≡ length a.mappings.items = ap (λ (l : List Held). length l) (sym show.pins) ∙ length-map a.mappings.items (λ (m : Mapping). m.held) in omega arith)
 
   -- by the label of a call the state finds the mapping that the run finds
   state-finds : (label : List ℕ) → value_of n.mappings (handle_of names k.dom label) ≡ mapping_of (mappings_at h k.dom.0) (handle_of k.named k.dom label)
   state-finds label = same-found (value_of n.mappings) (mapping_of (mappings_at h k.dom.0)) k.named names k.dom (handles_at h k.dom) n.handles.items label state-at gone-run no-state no-run (named-so label)
 
-  place-finds : (label : List ℕ) → pin_by_place (pins_at h k.dom) (handle_of names k.dom label) ≡ mapping_of (mappings_at h k.dom.0) (handle_of k.named k.dom label)
-  place-finds label = same-found (pin_by_place (pins_at h k.dom)) (mapping_of (mappings_at h k.dom.0)) k.named names k.dom (handles_at h k.dom) n.handles.items label
-      (λ at handle place there here. ap (slice_get (pins_at h k.dom)) (counted 0 n.handles.items at place placed.places here ∙ (let e : 0 + at ≡ at = omega arith in e)) ∙ sym (run-at at handle there))
+  place-finds : (label : List ℕ) → pin_by_place (pins_mapped_at h k.dom) (handle_of names k.dom label) ≡ mapping_of (mappings_at h k.dom.0) (handle_of k.named k.dom label)
+  place-finds label = same-found (pin_by_place (pins_mapped_at h k.dom)) (mapping_of (mappings_at h k.dom.0)) k.named names k.dom (handles_at h k.dom) n.handles.items label
+      (λ at handle place there here. ap (slice_get (pins_mapped_at h k.dom)) (counted 0 n.handles.items at place placed.places here ∙ (let e : 0 + at ≡ at = omega arith in e)) ∙ sym (run-at at handle there))
       gone-run no-place no-run (named-so label)
 
   -- the handle that a label names has a mapping in the run only if in the state it names the place of that mapping
@@ -167,7 +169,7 @@ module _ (s : Setting) (h : History) (tasks : List Task) (k : Course) (scene : S
     gives-by-place : BeginsAlike (known_by_place s h k.dom) (known_in scene t n.mappings) k.dom (requests.Unmap place)
     gives-by-place = begins-alike (known_in scene t n.mappings) (known_by_place s h k.dom) k.dom (requests.Unmap place)
         (alike-between (known_at s h k.dom) (known_in scene t n.mappings) (known_by_place s h k.dom) alike-known (place-alike s h k.dom below))
-        (ap (slice_get (pins_at h k.dom)) serial-is ∙ sym (run-at choice handle there) ∙ sym (state-at choice handle place there here))
+        (ap (slice_get (pins_mapped_at h k.dom)) serial-is ∙ sym (run-at choice handle there) ∙ sym (state-at choice handle place there here))
 
     -- an unmap of the mapping at a place begins as in the run
     pub gives-run : (result : Opened) → ((z : CallerKnowledge) → BeginsAlike z (known_in scene t n.mappings) k.dom (requests.Unmap place) → OpensSo z k.dom (requests.Unmap place) result) → GivesAsRun s h k.dom handle choice (Some result)
@@ -198,8 +200,8 @@ module _ (s : Setting) (h : History) (tasks : List Task) (k : Course) (scene : S
     pub begins-by-place : BeginsAlike (known_by_place s h k.dom) (known_in scene t n.mappings) k.dom p
     begins-by-place = begins-alike (known_in scene t n.mappings) (known_by_place s h k.dom) k.dom p
         (alike-between (known_at s h k.dom) (known_in scene t n.mappings) (known_by_place s h k.dom) alike (place-alike s h k.dom below))
-        (subst (λ (r : Asked). FindsSame (pin_by_place (pins_at h k.dom)) (own_handle r) (value_of n.mappings) r) (sym asks-by-place)
-        (finds-own (pin_by_place (pins_at h k.dom)) (value_of n.mappings) place (asked q) (place-finds (label_asked call) ∙ sym (state-finds (label_asked call)))))
+        (subst (λ (r : Asked). FindsSame (pin_by_place (pins_mapped_at h k.dom)) (own_handle r) (value_of n.mappings) r) (sym asks-by-place)
+        (finds-own (pin_by_place (pins_mapped_at h k.dom)) (value_of n.mappings) place (asked q) (place-finds (label_asked call) ∙ sym (state-finds (label_asked call)))))
 
     -- one that is open asks by the place of its mapping
     in-place : begun_of (known_at s h k.dom) k.dom q ≡ None → AsksByPlace (handles_at h k.dom) place (asked q)
@@ -222,7 +224,7 @@ pub begun-line : (s : Setting) (h : History) (tasks : List Task) (k : Course) (s
     → ((z : CallerKnowledge) → BeginsAlike z (known_in scene t n.mappings) d p → OpensSo z d p result) → BeginsAsRun s h k.dom q result
 begun-line s h tasks k scene a t d n call q p bytes result dom show short table placed asks hex asked-so opened =
     let there : ArePlaced k.dom a.mappings.items n = subst (λ (x : DomId). ArePlaced x a.mappings.items n) dom placed in
-    let names-now : List Named = names_in k.dom n.handles.items (labels_of a.mappings.items) in
+    let names-now : List Named = place_names k.dom n.handles.items (labels_of a.mappings.items) in
     let few = show.few in let begun = show.begun in let ok = a.mappings.ok in let small = a.mappings.small in
     let below : maps_answered_at h k.dom.0 < END_OF_SERIALS = omega arith in
     let many : length a.mappings.items < END_OF_SERIALS = (let len : a.mappings.len ≡ length a.mappings.items = ok.0 in let le : a.mappings.len ≤ a.mappings.cap = ok.1 in omega arith) in

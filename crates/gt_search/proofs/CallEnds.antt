@@ -1,5 +1,6 @@
 -- A domain of a state whose open call is over: where the run has brought it.
-use Rattle.std.proofs.Common.{◌≡◌, ◌+◌, ◌<◌, ◌≤◌, ◌⊎◌, inl, inr, ℕ, zero, suc, refl, true, false, Bool, cond, List, [], ◌∷◌, ◌++◌, length, map, drop}
+use Rattle.std.proofs.Common.{◌≡◌, ◌+◌, ◌<◌, ◌≤◌, ◌⊎◌, inl, inr, ℕ, zero, suc, refl, true, false, Bool, cond, List, []}
+use Rattle.std.proofs.Common.{◌∷◌, ◌++◌, length, map, drop}
 use Rattle.std.proofs.Common.{Option, Some, None, sym, ap, ◌∙◌, arith, subst}
 use Rattle.std.specs.Prelude.{◌&&◌, ◌↔◌, bytes_eq, slice_get}
 use Rattle.std.proofs.lemmas.Bool.{eq-eqb, true≢false}
@@ -16,13 +17,15 @@ use Rattle.gt_calls.specs.declared.action.Step.TheVariants.{Exchange, Pin as Pin
 use Rattle.gt_calls.specs.declared.held.Held.{Held}
 use Rattle.gt_calls.specs.declared.request.Holder.TheVariants.{Leg as ByLeg, Mapping as ByHandle}
 use Rattle.gt_core.specs.Alike.{IsRun}
-use Rattle.gt_core.specs.History.{History, Pin, Setting, Underway, entry_at, gather, holder_after, legs_at, live, mapping_named, mappings_at, maps_answered_at}
+use Rattle.gt_core.specs.History.{History, Pin, Setting, Underway, entry_at, gather, holder_after, legs_at, live}
+use Rattle.gt_core.specs.History.{mapping_named, mappings_at, maps_answered_at}
 use Rattle.gt_core.specs.History.{one_if_mapped, open_call, underway_after}
 use Rattle.gt_core.specs.declared.trace.Answer.{Answer}
 use Rattle.gt_core.specs.declared.trace.Answer.TheVariants.{Mapped}
 use Rattle.gt_core.specs.declared.trace.Item.{Item}
 use Rattle.gt_core.proofs.AgreementKept.{open_call-own}
-use Rattle.gt_core.proofs.Steps.Observers.{answered-stays, exchanged-live, gather-append, kept-live, new_pin, pinned-live, stepped}
+use Rattle.gt_core.proofs.Steps.Observers.{answered-stays, exchanged-live, gather-append, kept-live, new_pin}
+use Rattle.gt_core.proofs.Steps.Observers.{pinned-live, stepped}
 use Rattle.gt_core.proofs.Steps.Pin.{leg-maps}
 use Rattle.gt_core.proofs.Steps.Unpin.{leg-mappings}
 use Rattle.gt_host.specs.Runs.{Named, handle_named, with_name}
@@ -30,8 +33,8 @@ use Rattle.gt_replay.specs.Abreast.{HaveAnswered}
 use Rattle.gt_replay.specs.Courses.{Course, resting}
 use Rattle.gt_replay.specs.Orders.{handles_without}
 use Rattle.gt_script.specs.Lists.{Task}
-use Rattle.gt_search.specs.Calls.{LabelsShow, Rise, ShowsCalls, ShowsOpen, handles_at, pins_at}
-use Rattle.gt_search.specs.Mappings.{apart_from, labels_of, pins_of, said, unless_given}
+use Rattle.gt_search.specs.Calls.{LabelsShow, Rise, ShowsCalls, ShowsOpen, handles_at, pins_mapped_at}
+use Rattle.gt_search.specs.Mappings.{apart_from, labels_of, mapping_pins, label_bytes, unless_given}
 use Rattle.gt_search.specs.declared.actor.Actor.{Actor}
 use Rattle.gt_search.specs.declared.actor.Mapping.{Mapping}
 use Rattle.gt_search.specs.declared.actor.Open.{Open}
@@ -46,7 +49,7 @@ over_course k named held text = record k { opened = resting; named = named; held
 
 -- a domain with nothing open is there, if its mappings are those that the run then has
 pub shows-over : (s : Setting) (h : History) (i : Item) (tasks : List Task) (k : Course) (a b : Actor) (named : List Named) (held : List Handle) (text : List ℕ) (answer : Answer) → i.actor ≡ k.dom → i.answer ≡ Some answer → ShowsCalls s h tasks k a → b.next ≡ a.next
-    → b.«open» ≡ None → held ≡ handles_at (i ∷ h) k.dom → maps_answered_at (i ∷ h) k.dom.0 ≤ a.next → Rise 0 (handles_at (i ∷ h) k.dom) (maps_answered_at (i ∷ h) k.dom.0) → pins_of b.mappings.items ≡ pins_at (i ∷ h) k.dom
+    → b.«open» ≡ None → held ≡ handles_at (i ∷ h) k.dom → maps_answered_at (i ∷ h) k.dom.0 ≤ a.next → Rise 0 (handles_at (i ∷ h) k.dom) (maps_answered_at (i ∷ h) k.dom.0) → mapping_pins b.mappings.items ≡ pins_mapped_at (i ∷ h) k.dom
     → LabelsShow named k.dom (handles_at (i ∷ h) k.dom) (labels_of b.mappings.items) → ShowsCalls s (i ∷ h) tasks (over_course k named held text) b
 shows-over s h i tasks k a b named held text answer own answered show next none all few rising pins labels =
     let closed : open_call (i ∷ h) k.dom.0 ≡ None = ap (λ (d : DomId). open_call (i ∷ h) d.0) (sym own) ∙ open_call-own i h ∙ by i.answer answered in record {
@@ -93,7 +96,7 @@ shows-kept s h tasks k a b z seen text answer show all gives none next closed sa
     let few = show.few in
     shows-over s h i tasks k a b k.named k.held text answer refl refl show next closed (all ∙ sym hs) (omega arith)
     (subst (λ (m : ℕ). Rise 0 (handles_at (i ∷ h) d) m) (sym count) (subst (λ (l : List Handle). Rise 0 l (maps_answered_at h d.0)) (sym hs) show.rising))
-    (ap pins_of same ∙ show.pins ∙ ap (λ (ms : List (Handle × Held)). map (λ (m : Handle × Held). m.1) ms) (sym maps))
+    (ap mapping_pins same ∙ show.pins ∙ ap (λ (ms : List (Handle × Held)). map (λ (m : Handle × Held). m.1) ms) (sym maps))
     (subst (λ (l : List Handle). LabelsShow k.named d l (labels_of b.mappings.items)) (sym hs) (subst (λ (ms : List Mapping). LabelsShow k.named d (handles_at h d) (labels_of ms)) (sym same) show.labels))
 
 -- the domain gives up a mapping
@@ -105,15 +108,15 @@ shows-less s h tasks k a b p handle place seen held text answer show all there n
     let d = k.dom in let i = stepped d (Unpin p (ByHandle handle)) seen (Some answer) in let n = place.serial in
     let maps : mappings_at (i ∷ h) d.0 ≡ but n (mappings_at h d.0) = mappings-less h d p handle seen (Some answer) ∙ less-is n 0 (mappings_at h d.0) (maps_answered_at h d.0) handle show.rising there in
     let hs : handles_at (i ∷ h) d ≡ but n (handles_at h d) = ap (λ (ms : List (Handle × Held)). map (λ (m : Handle × Held). m.0) ms) maps ∙ map-but (λ (m : Handle × Held). m.0) n (mappings_at h d.0) in
-    let ps : pins_at (i ∷ h) d ≡ but n (pins_at h d) = ap (λ (ms : List (Handle × Held)). map (λ (m : Handle × Held). m.1) ms) maps ∙ map-but (λ (m : Handle × Held). m.1) n (mappings_at h d.0) in
+    let ps : pins_mapped_at (i ∷ h) d ≡ but n (pins_mapped_at h d) = ap (λ (ms : List (Handle × Held)). map (λ (m : Handle × Held). m.1) ms) maps ∙ map-but (λ (m : Handle × Held). m.1) n (mappings_at h d.0) in
     let count : maps_answered_at (i ∷ h) d.0 ≡ maps_answered_at h d.0 = answered-stays h i d.0 none in
     let few = show.few in
     shows-over s h i tasks k a b k.named held text answer refl refl show next closed
     (all ∙ sym (without-place 0 (handles_at h d) (maps_answered_at h d.0) n handle show.rising there) ∙ sym hs) (omega arith)
     (subst (λ (m : ℕ). Rise 0 (handles_at (i ∷ h) d) m) (sym count) (subst (λ (l : List Handle). Rise 0 l (maps_answered_at h d.0)) (sym hs) (rise-but n 0 (handles_at h d) (maps_answered_at h d.0) show.rising)))
-    (ap pins_of same ∙ map-but (λ (m : Mapping). m.held) n a.mappings.items ∙ ap (but n) show.pins ∙ sym ps)
+    (ap mapping_pins same ∙ map-but (λ (m : Mapping). m.held) n a.mappings.items ∙ ap (but n) show.pins ∙ sym ps)
     (subst (λ (l : List Handle). LabelsShow k.named d l (labels_of b.mappings.items)) (sym hs)
-    (subst (λ (ls : List (Option (List ℕ))). LabelsShow k.named d (but n (handles_at h d)) ls) (sym (ap labels_of same ∙ map-but (λ (m : Mapping). said m.label) n a.mappings.items))
+    (subst (λ (ls : List (Option (List ℕ))). LabelsShow k.named d (but n (handles_at h d)) ls) (sym (ap labels_of same ∙ map-but (λ (m : Mapping). label_bytes m.label) n a.mappings.items))
     (labels-but k.named d n (handles_at h d) (labels_of a.mappings.items) show.labels)))
 
 -- the domain has a mapping more
@@ -214,17 +217,17 @@ mappings-more h d p handle same = ap (gather mapping_named d.0) (pinned-live h d
     ∙ ap (λ (l : List (Handle × Held)). mappings_at h d.0 ++ l) (gather-one h d p handle ∙ ap (λ (e : Entry). (handle, record p { entry = e }) ∷ []) same)
 
 pub shows-more : (s : Setting) (h : History) (tasks : List Task) (k : Course) (a b : Actor) (p : Held) (handle : Handle) (given : List ℕ) (text : List ℕ) → ShowsCalls s h tasks k a → k.held ≡ handles_at h k.dom → IsRun s h → HaveAnswered h k.named
-    → handle.serial ≡ maps_answered_at h k.dom.0 → entry_at h p.dom.0 p.gref.0 ≡ p.entry → maps_answered_at h k.dom.0 + 1 ≤ a.next → b.next ≡ a.next → b.«open» ≡ None → pins_of b.mappings.items ≡ pins_of a.mappings.items ++ p ∷ []
+    → handle.serial ≡ maps_answered_at h k.dom.0 → entry_at h p.dom.0 p.gref.0 ≡ p.entry → maps_answered_at h k.dom.0 + 1 ≤ a.next → b.next ≡ a.next → b.«open» ≡ None → mapping_pins b.mappings.items ≡ mapping_pins a.mappings.items ++ p ∷ []
     → labels_of b.mappings.items ≡ apart_from (Some given) (labels_of a.mappings.items) ++ Some given ∷ []
     → ShowsCalls s (stepped k.dom (PinStep p) Taken (Some (Mapped handle)) ∷ h) tasks (over_course k (with_name k.named k.dom (Some given) (Some handle)) (k.held ++ handle ∷ []) text) b
 shows-more s h tasks k a b p handle given text show all run named serial entry few next closed pins labels =
     let d = k.dom in let i = stepped d (PinStep p) Taken (Some (Mapped handle)) in
     let maps : mappings_at (i ∷ h) d.0 ≡ mappings_at h d.0 ++ (handle, p) ∷ [] = mappings-more h d p handle entry in
     let hs : handles_at (i ∷ h) d ≡ handles_at h d ++ handle ∷ [] = ap (λ (ms : List (Handle × Held)). map (λ (m : Handle × Held). m.0) ms) maps ∙ map-append (λ (m : Handle × Held). m.0) (mappings_at h d.0) ((handle, p) ∷ []) in
-    let ps : pins_at (i ∷ h) d ≡ pins_at h d ++ p ∷ [] = ap (λ (ms : List (Handle × Held)). map (λ (m : Handle × Held). m.1) ms) maps ∙ map-append (λ (m : Handle × Held). m.1) (mappings_at h d.0) ((handle, p) ∷ []) in
+    let ps : pins_mapped_at (i ∷ h) d ≡ pins_mapped_at h d ++ p ∷ [] = ap (λ (ms : List (Handle × Held)). map (λ (m : Handle × Held). m.1) ms) maps ∙ map-append (λ (m : Handle × Held). m.1) (mappings_at h d.0) ((handle, p) ∷ []) in
     let count : maps_answered_at (i ∷ h) d.0 ≡ 1 + maps_answered_at h d.0 = maps-one i h d.0 handle refl refl in
     let long : length (handles_at h d) ≡ length (labels_of a.mappings.items) = length-map (mappings_at h d.0) (λ (m : Handle × Held). m.0) ∙ sym (length-map (mappings_at h d.0) (λ (m : Handle × Held). m.1))
-    ∙ ap (λ (l : List Held). length l) (sym show.pins) ∙ length-map a.mappings.items (λ (m : Mapping). m.held) ∙ sym (length-map a.mappings.items (λ (m : Mapping). said m.label)) in
+    ∙ ap (λ (l : List Held). length l) (sym show.pins) ∙ length-map a.mappings.items (λ (m : Mapping). m.held) ∙ sym (length-map a.mappings.items (λ (m : Mapping). label_bytes m.label)) in
     shows-over s h i tasks k a b (with_name k.named d (Some given) (Some handle)) (k.held ++ handle ∷ []) text (Mapped handle) refl refl show next closed
     (ap (λ (l : List Handle). l ++ handle ∷ []) all ∙ sym hs) (omega arith)
     (subst (λ (m : ℕ). Rise 0 (handles_at (i ∷ h) d) m) (sym count) (subst (λ (l : List Handle). Rise 0 l (1 + maps_answered_at h d.0)) (sym hs) (rise-push 0 (handles_at h d) (maps_answered_at h d.0) handle show.rising serial)))

@@ -26,7 +26,7 @@ use Rattle.gt_replay.specs.Courses.{Course, Opened, calling, resting}
 use Rattle.gt_replay.specs.Orders.{given_up}
 use Rattle.gt_script.specs.Lists.{Task}
 use Rattle.gt_script.specs.declared.tasks.DeedBy.TheVariants.{Do}
-use Rattle.gt_search.specs.Beginnings.{IsOpened}
+use Rattle.gt_search.specs.Beginnings.{OpensAsRun}
 use Rattle.gt_search.specs.Calls.{AsksByPlace, LabelsShow, Rise, ShowsCalls, ShowsOpen, handles_at, known_by_place}
 use Rattle.gt_search.specs.Calls.{tasks_open}
 use Rattle.gt_search.specs.Mappings.{labels_of}
@@ -75,7 +75,7 @@ opened_course k ts t call q = record k { tasks = ts; opened = calling t.line cal
 
 -- it is where the run has brought it, if the call asks the same but for the handle
 pub shows-opened : (s : Setting) (h : History) (tasks ts : List Task) (k : Course) (a : Actor) (t : Task) (call : ScriptCall) (q p : Request) (place : Handle) (now : Call) (step : Step) → ShowsCalls s h tasks k a → k.opened ≡ resting → k.tasks ≡ t ∷ ts → t.dom ≡ k.dom → t.deed ≡ Do call
-    → SaysRequest k.named k.dom call q → asked p ≡ asked_under place (asked q) → AsksByPlace (handles_at h k.dom) place (asked q) → IsOpened (known_by_place s h k.dom) k.dom p now step
+    → SaysRequest k.named k.dom call q → asked p ≡ asked_under place (asked q) → AsksByPlace (handles_at h k.dom) place (asked q) → OpensAsRun (known_by_place s h k.dom) k.dom p now step
     → ShowsCalls s (began k.dom q ∷ h) tasks (opened_course k ts t call q) (opened_actor a now step)
 shows-opened s h tasks ts k a t call q p place now step show rest left dom deed says asks by_place is =
     let d = k.dom in let g : History = began d q ∷ h in let same = begun-same s h d q in

@@ -8,7 +8,8 @@ use Rattle.std.proofs.lemmas.Option.{none-some, slice_get_within}
 use Rattle.gt_handles.specs.declared.handles.Handle.{Handle}
 use Rattle.gt_calls.specs.declared.held.Held.{Held}
 use Rattle.gt_core.specs.History.{History, Setting, Underway, mappings_at, open_call}
-use Rattle.gt_replay.specs.Courses.{Course, CourseEnds, CourseLeads, Opened, OpenLeads, RestLeads, calling, giving, resting}
+use Rattle.gt_replay.specs.Courses.{Course, CourseEnds, CourseLeads, Opened, OpenLeads, RestLeads, calling, giving}
+use Rattle.gt_replay.specs.Courses.{resting}
 use Rattle.gt_replay.specs.Orders.{Happening}
 use Rattle.gt_script.specs.Lists.{Task}
 use Rattle.gt_search.specs.Calls.{ShowsCalls, ShowsOpen, handles_at}

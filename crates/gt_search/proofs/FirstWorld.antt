@@ -24,8 +24,8 @@ use Rattle.gt_script.specs.RunScripts.{list_of}
 use Rattle.gt_search.specs.Calls.{ShowsCalls, ShowsOpen}
 use Rattle.gt_search.specs.Copies.{IsFirstActor}
 use Rattle.gt_search.specs.Ends.{tasks_at}
-use Rattle.gt_search.specs.Mappings.{pins_of}
-use Rattle.gt_search.specs.Scenes.{IsSceneOf, Shows, WasAnsweredAll}
+use Rattle.gt_search.specs.Mappings.{mapping_pins}
+use Rattle.gt_search.specs.Scenes.{IsSceneOf, SceneShows, WasAnsweredAll}
 use Rattle.gt_search.specs.Spaces.{scene_ways}
 use Rattle.gt_search.specs.declared.actor.Actor.{Actor}
 use Rattle.gt_search.specs.declared.actor.Open.{Open}
@@ -79,7 +79,7 @@ shows-first s c tasks d a first list = record {
   begun = let e = first.next in omega (arith, e);
   few = let e = first.next in omega (arith, e);
   rising = omega arith;
-  pins = ap pins_of first.mappings;
+  pins = ap mapping_pins first.mappings;
   labels = λ at handle given label here there. absurd (none-some handle here);
   opens = subst (λ (o : Option Open). ShowsOpen s [] tasks (first_course c d) a.next resting None o) (sym first.open_call) refl;
 }
@@ -89,7 +89,7 @@ no-place at lt = absurd (omega arith)
 
 pub first-shows : (c : RunContents) (scene : Scene) (w : World) → length w.actors.items ≡ length scene.roster.domains.items → All IsFirstActor w.actors.items
     → ((config : Config) (s : Setting) → IsSettingOf config s → IsWithinLimits config → config.domains.items ≡ scene.roster.domains.items → TablesShow s [] w.ground.tables.items)
-    → PagesShow [] w.ground.pages.items → length w.told.items ≡ scene.flags → IsSceneOf c scene → Shows c scene [] (first_courses c) w
+    → PagesShow [] w.ground.pages.items → length w.told.items ≡ scene.flags → IsSceneOf c scene → SceneShows c scene [] (first_courses c) w
 first-shows c scene w many first tables pages told is = record {
   domains = first-doms c c.head.domains;
   many = many ∙ ap (λ (ds : List DomainConfig). length ds) is.setting.domains ∙ sym (length-map c.head.domains (first_course c));
@@ -112,9 +112,9 @@ first-shows c scene w many first tables pages told is = record {
         ∙ ap (λ (n : ℕ). record { domains = c.head.domains; first_generation = n; may = may_in c.head }) is.setting.first
 
 -- as the space asks it
-pub first-shown : (scene : Scene) (w : World) → ((c : RunContents) → IsSceneOf c scene → Shows c scene [] (first_courses c) w) → ShowsFirst (scene_ways scene) w
+pub first-shown : (scene : Scene) (w : World) → ((c : RunContents) → IsSceneOf c scene → SceneShows c scene [] (first_courses c) w) → ShowsFirst (scene_ways scene) w
 first-shown scene w shows p begins = (
   begins.scene_is,
-  subst (λ (ks : List Course). Shows p.script scene p.happened ks w) (sym begins.courses)
-      (subst (λ (hs : List Happening). Shows p.script scene hs (first_courses p.script) w) (sym begins.happened) (shows p.script begins.scene_is)),
+  subst (λ (ks : List Course). SceneShows p.script scene p.happened ks w) (sym begins.courses)
+      (subst (λ (hs : List Happening). SceneShows p.script scene hs (first_courses p.script) w) (sym begins.happened) (shows p.script begins.scene_is)),
 )

@@ -19,7 +19,7 @@ use Rattle.gt_core.proofs.AgreementKept.{open_call-own}
 use Rattle.gt_replay.specs.Courses.{Course, Opened, giving, resting}
 use Rattle.gt_replay.specs.Orders.{handles_without}
 use Rattle.gt_script.specs.Lists.{Task}
-use Rattle.gt_search.specs.Beginnings.{IsOpened}
+use Rattle.gt_search.specs.Beginnings.{OpensAsRun}
 use Rattle.gt_search.specs.Calls.{LabelsShow, Rise, ShowsCalls, ShowsOpen, handles_at, known_by_place, tasks_open}
 use Rattle.gt_search.specs.Mappings.{labels_of}
 use Rattle.gt_search.specs.declared.actor.Actor.{Actor}
@@ -57,7 +57,7 @@ giving_course k choice = record k { opened = giving; held = take choice k.held +
 
 -- it is where the run has brought it, if the unmap is of the mapping at this place
 pub shows-giving : (s : Setting) (h : History) (tasks : List Task) (k : Course) (a : Actor) (choice : ℕ) (handle place : Handle) (now : Call) (step : Step) → ShowsCalls s h tasks k a → k.opened ≡ resting → slice_get k.held choice ≡ Some handle
-    → place.serial ≡ choice → IsOpened (known_by_place s h k.dom) k.dom (requests.Unmap place) now step → ShowsCalls s (began k.dom (requests.Unmap handle) ∷ h) tasks (giving_course k choice) (giving_actor a now step)
+    → place.serial ≡ choice → OpensAsRun (known_by_place s h k.dom) k.dom (requests.Unmap place) now step → ShowsCalls s (began k.dom (requests.Unmap handle) ∷ h) tasks (giving_course k choice) (giving_actor a now step)
 shows-giving s h tasks k a choice handle place now step show rest there serial is =
     let d = k.dom in let q = requests.Unmap handle in let g : History = began d q ∷ h in let same = begun-same s h d q in
     let all : k.held ≡ handles_at h d = rests s h tasks k a.next k.opened (open_call h d.0) a.«open» rest show.opens in

@@ -1,5 +1,6 @@
 -- Each handle that a course has was answered to its domain, and what a line asks fits its types.
-use Rattle.std.proofs.Common.{◌≡◌, ◌<◌, ◌^◌, ◌==◌, ◌%◌, ℕ, zero, suc, refl, Bool, true, false, List, [], ◌∷◌, length, drop}
+use Rattle.std.proofs.Common.{◌≡◌, ◌<◌, ◌^◌, ◌==◌, ◌%◌, ℕ, zero, suc, refl, Bool, true, false, List, [], ◌∷◌, length}
+use Rattle.std.proofs.Common.{drop}
 use Rattle.std.proofs.Common.{Option, Some, None, Ok, Err, Result, sym, ap, ◌∙◌, arith, subst, inl, Bor, codes}
 use Rattle.std.specs.Prelude.{if◌then◌else◌}
 use Rattle.std.specs.Result.{result_unwrap_or}

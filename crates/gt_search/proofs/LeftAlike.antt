@@ -10,14 +10,14 @@ use Rattle.gt_entry.specs.declared.header.Header.{Header}
 use Rattle.gt_entry.specs.declared.entry.Entry.{Entry}
 use Rattle.gt_calls.specs.Rules.{CallerKnowledge}
 use Rattle.gt_calls.specs.Machine.{phase_after}
-use Rattle.gt_search.specs.Continuing.{IsStoring}
+use Rattle.gt_search.specs.Continuing.{IsGranting}
 
 abbrev with_own : CallerKnowledge → (ℕ → Entry) → (ℕ → ℕ) → Header → (Handle → Option Held) → ℕ → ℕ → CallerKnowledge
 with_own k entry generation header mapping in_use answered =
     record k { entry = entry; generation = generation; header = header; mapping = mapping; in_use = in_use; maps_answered = answered }
 
 left-with : (k : CallerKnowledge) (d : DomId) (entry : ℕ → Entry) (generation : ℕ → ℕ) (header : Header) (mapping : Handle → Option Held) (in_use answered : ℕ) (p : Phase) (seen : Seen)
-    → (IsStoring p → (entry ≡ k.entry) × (generation ≡ k.generation))
+    → (IsGranting p → (entry ≡ k.entry) × (generation ≡ k.generation))
     → phase_after (with_own k entry generation header mapping in_use answered) d p seen ≡ phase_after k d p seen
 left-with k d entry generation header mapping in_use answered (Storing gref e) seen same = let s = same tt in rw (s.0) (rw (s.1) refl)
 left-with k d entry generation header mapping in_use answered (StoringSecond gref e) seen same = let s = same tt in rw (s.0) (rw (s.1) refl)
@@ -27,7 +27,7 @@ same-domains : (k l : CallerKnowledge) → l.domains ≡ k.domains → l.may ≡
 same-domains k l domains may = grind arith
 
 pub left-alike : (k l : CallerKnowledge) (d : DomId) (p : Phase) (seen : Seen) → l.domains ≡ k.domains → l.may ≡ k.may
-    → (IsStoring p → (l.entry ≡ k.entry) × (l.generation ≡ k.generation)) → phase_after l d p seen ≡ phase_after k d p seen
+    → (IsGranting p → (l.entry ≡ k.entry) × (l.generation ≡ k.generation)) → phase_after l d p seen ≡ phase_after k d p seen
 left-alike k l d p seen domains may own =
     ap (λ (z : CallerKnowledge). phase_after z d p seen) (same-domains k l domains may)
     ∙ left-with k d l.entry l.generation l.header l.mapping l.in_use l.maps_answered p seen own

@@ -1,15 +1,25 @@
 -- A step of an open call after a history that is, but for keys, one that a core stands for.
-use Rattle.gt_core.proofs.Words.{◌≡◌, ◌≢◌, inl, inr, ◌++◌, ℕ, refl, Bool, List, [], ◌∷◌, Option, Some, None, cond, sym, ap, ◌∙◌, arith, subst}
-use Rattle.gt_core.proofs.Words.{eq-eqb, none-some, same_Some, take, drop, reverse, option_map, DomId, GrantRef, Denial, Header, header_word, Handle, Held, ByMapping}
-use Rattle.gt_core.proofs.Words.{Asked, Map, Load, Store, Peek, Seen, Word, Taken, Missed, Action, Makes, Done, Verdict, Granted, Given, KeptPin, Refused, Step}
-use Rattle.gt_core.proofs.Words.{LookHeader, LookControl, LookBody, PinStep, Unpin, Exchange, ReadBytes, Phase, Exchanging, Changing, Walking}
-use Rattle.gt_core.proofs.Words.{Last, Ending, State, state_of, History, Setting, Underway, open_call, values, known_at, seen_by, exchange_sees, word_at, entry_at}
-use Rattle.gt_core.proofs.Words.{table_at, contents_at, maps_answered_at, path, OpenAgrees, CallAgrees, StateAgrees, StepsRight, AnsweredBy, GivesValue}
-use Rattle.gt_core.proofs.Words.{AreAlike, IsRun, bare_step, action_at, phase_after, last_first, refusal_in, verdict_in, stood, CallerKnowledge, HasShown}
+use Rattle.gt_core.proofs.Words.{◌≡◌, ◌≢◌, inl, inr, ◌++◌, ℕ, refl, Bool, List, [], ◌∷◌, Option, Some, None, cond, sym}
+use Rattle.gt_core.proofs.Words.{ap, ◌∙◌, arith, subst}
+use Rattle.gt_core.proofs.Words.{eq-eqb, none-some, same_Some, take, drop, reverse, option_map, DomId, GrantRef, Denial}
+use Rattle.gt_core.proofs.Words.{Header, header_word, Handle, Held, ByMapping}
+use Rattle.gt_core.proofs.Words.{Asked, Map, Load, Store, Peek, Seen, Word, Taken, Missed, Action, Makes, Done, Verdict}
+use Rattle.gt_core.proofs.Words.{Granted, Given, KeptPin, Refused, Step}
+use Rattle.gt_core.proofs.Words.{LookHeader, LookControl, LookBody, PinStep, Unpin, Exchange, ReadBytes, Phase}
+use Rattle.gt_core.proofs.Words.{Exchanging, Changing, Walking}
+use Rattle.gt_core.proofs.Words.{Last, Ending, State, state_of, History, Setting, Underway, open_call, values, known_at}
+use Rattle.gt_core.proofs.Words.{seen_by, exchange_sees, word_at, entry_at}
+use Rattle.gt_core.proofs.Words.{table_at, contents_at, maps_answered_at, path, OpenAgrees, CallAgrees, StateAgrees}
+use Rattle.gt_core.proofs.Words.{StepsRight, AnsweredBy, GivesValue}
+use Rattle.gt_core.proofs.Words.{AreAlike, IsRun, bare_step, action_at, phase_after, last_first, refusal_in, verdict_in}
+use Rattle.gt_core.proofs.Words.{stood, CallerKnowledge, HasShown}
 use Rattle.gt_core.proofs.Words.{Change, IsQuiet, Poke, RestsOnRequest}
-use Rattle.gt_core.proofs.{Phases.makes-same, Phases.by-leg, Phases.by-giving, Phases.IsHere, Phases.next_of, Phases.seen-fits, Steps.See.state-there, Steps.Observers.stepped}
-use Rattle.gt_core.proofs.{WithoutKeys.bare, WithoutKeys.bared, WithoutKeys.bare-same, WithoutKeys.bare_asked, WithoutKeys.bare_call, WithoutKeys.values-bare, Pins.word-bare}
-use Rattle.gt_core.proofs.{HandlesGiven.open-known, HandlesGiven.CallKnown, AlikeRuns.bare_action, Outcomes.IsSingle, Outcomes.single-ends, Values.call-ends, Values.EndsWith}
+use Rattle.gt_core.proofs.{Phases.makes-same, Phases.by-leg, Phases.by-giving, Phases.IsHere, Phases.next_of}
+use Rattle.gt_core.proofs.{Phases.seen-fits, Steps.See.state-there, Steps.Observers.stepped}
+use Rattle.gt_core.proofs.{WithoutKeys.bare, WithoutKeys.bared, WithoutKeys.bare-same, WithoutKeys.bare_asked}
+use Rattle.gt_core.proofs.{WithoutKeys.bare_call, WithoutKeys.values-bare, Pins.word-bare}
+use Rattle.gt_core.proofs.{HandlesGiven.open-known, HandlesGiven.CallKnown, AlikeRuns.bare_action, Outcomes.IsSingle}
+use Rattle.gt_core.proofs.{Outcomes.single-ends, Values.call-ends, Values.EndsWith}
 use Rattle.gt_core.proofs.{Steps.Pin.can-pin}
 use Rattle.gt_core.specs.Acting.{answer_with}
 use Rattle.gt_core.specs.GoingOn.{CanBeReached}
@@ -24,7 +34,7 @@ use Rattle.gt_calls.specs.declared.action.Value.{Value}
 use Rattle.gt_calls.specs.Following.{FitsNext}
 use Rattle.gt_calls.specs.Path.{Continuation}
 use Rattle.gt_world.specs.Likeness.{IsLikeReached}
-use Rattle.gt_world.specs.Shows.{IsOfRun}
+use Rattle.gt_world.specs.Shows.{IsInRun}
 use Rattle.gt_world.proofs.AlikeFitting.{path-at, same-bare}
 use Rattle.gt_search.specs.Ticking.{TellsEnd}
 
@@ -312,7 +322,7 @@ home s h g x z seen answer alike reached here c (Some w) hu gw None a right = ab
 home s h g x z seen answer alike reached here c (Some w) hu gw (Some o) a right = in-run s h g alike reached x here c w o hu gw a z seen answer right
 
 -- a step that is right after a history which is like one that a core stands for
-pub step-in-run : (s : Setting) (h : History) (d : DomId) (c : Underway) (z : Step) (seen : Seen) (answer : Option Answer) → IsLikeReached s h → IsOfRun s d → open_call h d.0 ≡ Some c → StepsRight s h (stepped d z seen answer) z seen c → StepInRun s h d c z seen answer
+pub step-in-run : (s : Setting) (h : History) (d : DomId) (c : Underway) (z : Step) (seen : Seen) (answer : Option Answer) → IsLikeReached s h → IsInRun s d → open_call h d.0 ≡ Some c → StepsRight s h (stepped d z seen answer) z seen c → StepInRun s h d c z seen answer
 step-in-run s h d c z seen answer (g, alike, reached) run call right =
     let st = reached.1.domains in let xs = reached.0.domains in
     let some : state_of xs d.0 ≢ None = λ e. run (subst (StateAgrees s g d) e (st.each d)) in

@@ -1,5 +1,6 @@
 -- The call of a line begins in a state: where that comes to.
-use Rattle.std.proofs.Common.{◌≡◌, ◌+◌, ◌++◌, ◌<◌, ◌≤◌, ◌^◌, ℕ, zero, suc, refl, false, List, [], ◌∷◌, length, map, get_or, Option}
+use Rattle.std.proofs.Common.{◌≡◌, ◌+◌, ◌++◌, ◌<◌, ◌≤◌, ◌^◌, ℕ, zero, suc, refl, false, List, [], ◌∷◌, length, map}
+use Rattle.std.proofs.Common.{get_or, Option}
 use Rattle.std.proofs.Common.{Some, None, sym, ap, ◌∙◌, arith, subst, Vec, Bor, Global}
 use Rattle.std.specs.Prelude.{slice_get, slice_set}
 use Rattle.std.proofs.lemmas.List.{length-map}
@@ -26,7 +27,8 @@ use Rattle.gt_replay.specs.Orders.{given_up}
 use Rattle.gt_script.specs.Lists.{Task}
 use Rattle.gt_search.specs.Calls.{ShowsCalls}
 use Rattle.gt_search.specs.Ends.{tasks_at}
-use Rattle.gt_search.specs.Starting.{BeginsAsRun, GivesAsRun, Grows, IsNextCall, MovesTo, PrintsLine, giving_actor, held_but, opened_actor}
+use Rattle.gt_search.specs.Starting.{BeginsAsRun, GivesAsRun, Grows, IsNextCall, MovesAsRun, PrintsLine, giving_actor}
+use Rattle.gt_search.specs.Starting.{held_but, opened_actor}
 use Rattle.gt_search.specs.Starting.{passed_actor}
 use Rattle.gt_search.specs.declared.actor.Actor.{Actor}
 use Rattle.gt_search.specs.declared.calls.Opening.TheVariants.{Open, Done}
@@ -75,7 +77,7 @@ module _ (s : Setting) (h : History) (scene : Scene) (place : ℕ) (texts : List
     (becomes : new.actors.items ≡ slice_set old.actors.items place b) (ground : new.ground ≡ old.ground) (told : new.told ≡ old.told) where
   -- where a move comes to, if the call has this answer then, or none
   abbrev Comes : Option Answer → Led → Type 0
-  Comes z led = MovesTo s (beginning k.dom q z ∷ h) (tasks_at scene place) a k (course_after texts t.line call (given_up q) (record k { tasks = ts }) z) old new place led
+  Comes z led = MovesAsRun s (beginning k.dom q z ∷ h) (tasks_at scene place) a k (course_after texts t.line call (given_up q) (record k { tasks = ts }) z) old new place led
 
   -- the call is open
   pub line-opens : (now : Call) (step : Step) → BeginsAsRun s h k.dom q (Open now step) → (a.next + 1 < 2 ^ 64 → b ≡ opened_actor a now step) → Comes answer On
@@ -110,9 +112,9 @@ module _ (s : Setting) (h : History) (scene : Scene) (place : ℕ) (texts : List
 -- an unmap at the end of a list is open
 pub giving-opens : (s : Setting) (h : History) (scene : Scene) (place : ℕ) (k : Course) (a : Actor) (handle : Handle) (answer : Option Answer) (choice : ℕ) (now : Call) (step : Step) (old new : World) (b : Actor) → ShowsCalls s h (tasks_at scene place) k a → k.opened ≡ resting → slice_get k.held choice ≡ Some handle
     → BeginsRight s h (beginning k.dom (Unmap handle) answer) (Unmap handle) → GivesAsRun s h k.dom handle choice (Some (Open now step)) → b ≡ giving_actor a now step → new.actors.items ≡ slice_set old.actors.items place b → new.ground ≡ old.ground → new.told ≡ old.told
-    → MovesTo s (beginning k.dom (Unmap handle) answer ∷ h) (tasks_at scene place) a k (back_after (held_but k choice) answer) old new place On
+    → MovesAsRun s (beginning k.dom (Unmap handle) answer ∷ h) (tasks_at scene place) a k (back_after (held_but k choice) answer) old new place On
 giving-opens s h scene place k a handle answer choice now step old new b show rest held right (none, (at, serial, is)) b-is becomes ground told =
-    subst (λ (z : Option Answer). MovesTo s (beginning k.dom (Unmap handle) z ∷ h) (tasks_at scene place) a k (back_after (held_but k choice) z) old new place On)
+    subst (λ (z : Option Answer). MovesAsRun s (beginning k.dom (Unmap handle) z ∷ h) (tasks_at scene place) a k (back_after (held_but k choice) z) old new place On)
     (sym (none-answered s h k.dom (asked (Unmap handle)) (begun_of (known_at s h k.dom) k.dom (Unmap handle)) answer _ none right.1)) (record {
       grows = refl;
       actor = b;

@@ -1,5 +1,6 @@
 -- The mapping that is found by what a label names, in a state and in a run.
-use Rattle.std.proofs.Common.{◌≡◌, ◌+◌, ◌<◌, ◌≤◌, ◌^◌, ◌-◌, ◌⊎◌, inl, inr, ℕ, zero, suc, refl, true, false, Bool, cond, List, []}
+use Rattle.std.proofs.Common.{◌≡◌, ◌+◌, ◌<◌, ◌≤◌, ◌^◌, ◌-◌, ◌⊎◌, inl, inr, ℕ, zero, suc, refl, true, false, Bool, cond}
+use Rattle.std.proofs.Common.{List, []}
 use Rattle.std.proofs.Common.{◌∷◌, length, map, Option, Some, None, sym, ap, ◌∙◌, arith, subst, Bor}
 use Rattle.std.specs.Prelude.{slice_get, unwrap_or}
 use Rattle.std.proofs.lemmas.Bool.{eq-eqb}

@@ -1,5 +1,6 @@
 -- The moves of a state's domains are those of the run.
-use Rattle.std.proofs.Common.{◌≡◌, ◌≢◌, ◌<◌, ◌≤◌, ◌++◌, ◌∙◌, ℕ, zero, suc, refl, true, Bool, List, [], ◌∷◌, length, drop, ap}
+use Rattle.std.proofs.Common.{◌≡◌, ◌≢◌, ◌<◌, ◌≤◌, ◌++◌, ◌∙◌, ℕ, zero, suc, refl, true, Bool, List, [], ◌∷◌, length}
+use Rattle.std.proofs.Common.{drop, ap}
 use Rattle.std.proofs.Common.{Option, Some, None, Result, Ok, Err, IfOk, sym, subst, arith, inl, inr, get_or}
 use Rattle.std.proofs.Math.ListN.{set}
 use Rattle.std.specs.Prelude.{nat_lt, slice_get, slice_set}
@@ -28,7 +29,8 @@ use Rattle.gt_host.specs.Playing.{setting_of_script}
 use Rattle.gt_host.specs.Runs.{Named, SaysRequest, answer_in}
 use Rattle.gt_lines.specs.declared.calls.ScriptCall.{ScriptCall}
 use Rattle.gt_replay.specs.Abreast.{CanComeNext, history_in}
-use Rattle.gt_replay.specs.Courses.{Course, CourseLeads, DeedLeads, GivesAt, IsDoneIf, Opened, OpenLeads, RestLeads, back_after, calling, course_after, giving, resting}
+use Rattle.gt_replay.specs.Courses.{Course, CourseLeads, DeedLeads, GivesAt, IsDoneIf, Opened, OpenLeads, RestLeads}
+use Rattle.gt_replay.specs.Courses.{back_after, calling, course_after, giving, resting}
 use Rattle.gt_replay.specs.Orders.{Happening, IsRaisedBefore, did, given_up, passed, raised}
 use Rattle.gt_replay.proofs.Alike.{asks_answered, held_here}
 use Rattle.gt_replay.proofs.Coming.{IsQuiet, tells, waits}
@@ -40,9 +42,9 @@ use Rattle.gt_script.specs.Stuck.{IsBelow}
 use Rattle.gt_script.specs.declared.tasks.DeedBy.TheVariants.{Await, Do, Tell}
 use Rattle.gt_search.specs.Calls.{KnowsTable, ShowsCalls, ShowsOpen}
 use Rattle.gt_search.specs.Ends.{tasks_at}
-use Rattle.gt_search.specs.Scenes.{IsSceneOf, MovesAlong, Shows, WasAnsweredAll}
-use Rattle.gt_search.specs.Starting.{Grows, IsNextCall, MovesTo, PassesTo, held_but}
-use Rattle.gt_search.specs.Ticking.{ShowsAt, TickLeads, TicksTo}
+use Rattle.gt_search.specs.Scenes.{IsSceneOf, MovesAlong, SceneShows, WasAnsweredAll}
+use Rattle.gt_search.specs.Starting.{Grows, IsNextCall, MovesAsRun, PassesTo, held_but}
+use Rattle.gt_search.specs.Ticking.{ShowsAt, TickLeads, TicksAsRun}
 use Rattle.gt_search.specs.declared.actor.Actor.{Actor}
 use Rattle.gt_search.specs.declared.actor.Open.{Open}
 use Rattle.gt_ways.specs.declared.spaces.Led.{Led}
@@ -53,9 +55,11 @@ use Rattle.gt_world.specs.Likeness.{AsksFit}
 use Rattle.gt_world.specs.Shows.{PagesShow, TablesShow}
 use Rattle.gt_world.specs.declared.table.Table.{Table}
 use Rattle.gt_world.proofs.Fitting.{beginnings-change-nothing}
-use Rattle.gt_search.proofs.HandlesAnswered.{after-dom, back-answered, back-dom, but-answered, left-answered, line-answered}
+use Rattle.gt_search.proofs.HandlesAnswered.{after-dom, back-answered, back-dom, but-answered, left-answered}
+use Rattle.gt_search.proofs.HandlesAnswered.{line-answered}
 use Rattle.gt_search.proofs.MappingFound.{get-at}
-use Rattle.gt_search.proofs.StateComesOn.{comes-event, comes-quiet, domain-at, of-run, raised-or, table-at, task-below, task-own}
+use Rattle.gt_search.proofs.StateComesOn.{comes-event, comes-quiet, domain-at, of-run, raised-or, table-at, task-below}
+use Rattle.gt_search.proofs.StateComesOn.{task-own}
 
 -- lists
 
@@ -99,7 +103,7 @@ BeginMeets scene place task call old new res =
     → slice_get old.actors.items place ≡ Some a → slice_get old.ground.tables.items place ≡ Some t
     → ShowsCalls s h (tasks_at scene place) k a → KnowsTable s h k.dom scene t → IsNextCall k task ts call → SaysRequest k.named k.dom call q
     → BeginsRight s h (beginning k.dom q answer) q
-    → IfOk res (MovesTo s (beginning k.dom q answer ∷ h) (tasks_at scene place) a k (course_after scene.types.items task.line call (given_up q) (record k { tasks = ts }) answer) old new place)
+    → IfOk res (MovesAsRun s (beginning k.dom q answer ∷ h) (tasks_at scene place) a k (course_after scene.types.items task.line call (given_up q) (record k { tasks = ts }) answer) old new place)
 
 abbrev pub GiveMeets : {E : Type 0} → Scene → ℕ → ℕ → World → World → Result Led E → Type 0
 GiveMeets scene place choice old new res =
@@ -108,12 +112,12 @@ GiveMeets scene place choice old new res =
     → slice_get scene.roster.domains.items place ≡ Some domain → domain.id ≡ k.dom
     → ShowsCalls s h (tasks_at scene place) k a → KnowsTable s h k.dom scene t → k.opened ≡ resting → slice_get k.held choice ≡ Some handle
     → BeginsRight s h (beginning k.dom (Unmap handle) answer) (Unmap handle) → IsDoneIf answer
-    → IfOk res (MovesTo s (beginning k.dom (Unmap handle) answer ∷ h) (tasks_at scene place) a k (back_after (held_but k choice) answer) old new place)
+    → IfOk res (MovesAsRun s (beginning k.dom (Unmap handle) answer ∷ h) (tasks_at scene place) a k (back_after (held_but k choice) answer) old new place)
 
 abbrev pub TickMeets : {E : Type 0} → Scene → ℕ → Open → World → World → Result Led E → Type 0
 TickMeets scene place o old new res =
     (s : Setting) (h : History) (k j : Course) (a : Actor) (i : Item) → ShowsAt s h scene old place k a → a.«open» ≡ Some o → IsItemOf (Tick k.dom) i → IsRight s h i
-    → TickLeads scene.types.items k k.opened i j → IfOk res (TicksTo s (i ∷ h) (tasks_at scene place) k j old new place)
+    → TickLeads scene.types.items k k.opened i j → IfOk res (TicksAsRun s (i ∷ h) (tasks_at scene place) k j old new place)
 
 abbrev pub RaiseMeets : Scene → ℕ → ℕ → World → World → Led → Type 0
 RaiseMeets scene place flag old new led =
@@ -149,7 +153,7 @@ some-open s h tasks k next giving (Some c) (Some o) x some show = ((λ e. let f 
 
 -- one domain
 
-module _ (c : RunContents) (scene : Scene) (hs : List Happening) (ks : List Course) (old : World) (place : ℕ) (k : Course) (a : Actor) (is : IsSceneOf c scene) (shows : Shows c scene hs ks old) (at : slice_get ks place ≡ Some k)
+module _ (c : RunContents) (scene : Scene) (hs : List Happening) (ks : List Course) (old : World) (place : ℕ) (k : Course) (a : Actor) (is : IsSceneOf c scene) (shows : SceneShows c scene hs ks old) (at : slice_get ks place ≡ Some k)
     (there : slice_get old.actors.items place ≡ Some a) where
   abbrev s : Setting
   s = setting_of_script c.head
@@ -171,11 +175,11 @@ module _ (c : RunContents) (scene : Scene) (hs : List Happening) (ks : List Cour
 
   -- what the state then comes to
   abbrev Comes : World → Led → Happening → Course → Type 0
-  Comes new led x j = Grows led k.text j.text × Shows c scene (hs ++ x ∷ []) (slice_set ks place j) new
+  Comes new led x j = Grows led k.text j.text × SceneShows c scene (hs ++ x ∷ []) (slice_set ks place j) new
 
   -- a call began
   begun-to : (new : World) (led : Led) (q : Request) (answer : Option Answer) (j : Course) → BeginsRight s h (beginning k.dom q answer) q → HappensKnown h (beginning k.dom q answer) → FitsAsked (asked q) → j.dom ≡ k.dom → WasAnsweredAll (beginning k.dom q answer ∷ h) j
-      → MovesTo s (beginning k.dom q answer ∷ h) tasks a k j old new place led → Comes new led (did (Begin k.dom q) (Did (beginning k.dom q answer))) j
+      → MovesAsRun s (beginning k.dom q answer ∷ h) tasks a k j old new place led → Comes new led (did (Begin k.dom q) (Did (beginning k.dom q answer))) j
   begun-to new led q answer j right asks fits dom answered moved = let i = beginning k.dom q answer in
       let same = beginnings-change-nothing s h i q old.ground.tables.items old.ground.pages.items is.setting.apart refl in (
         moved.grows,
@@ -230,7 +234,7 @@ module _ (c : RunContents) (scene : Scene) (hs : List Happening) (ks : List Cour
         let dom : j.dom ≡ k.dom = ap (λ (z : Course). z.dom) (sym after) ∙ after-dom scene.types.items task.line call (given_up q) (record k { tasks = left }) answer in
         let answered = subst (WasAnsweredAll (one ∷ h)) after (line-answered scene.types.items task.line call (given_up q) h (record k { tasks = left }) one answer (left-answered h k left known) refl refl) in
         let came = begun-to new led q answer j right (asks_answered h k.named k.dom call q known.named says) (fits k.named k.dom q says) dom answered
-        (subst (λ (z : Course). MovesTo s (one ∷ h) tasks a k z old new place led) after moved) in
+        (subst (λ (z : Course). MovesAsRun s (one ∷ h) tasks a k z old new place led) after moved) in
         subst (λ (z : Happening). Comes new led z j) (sym (deed.3 ∙ ap (λ (z : Element). did (Begin k.dom q) z) (e-is ∙ ap (λ (z : Item). Did z) same))) came)
 
     -- at the end of its list it begins to give a mapping back
@@ -249,7 +253,7 @@ module _ (c : RunContents) (scene : Scene) (hs : List Happening) (ks : List Cour
         let dom : j.dom ≡ k.dom = ap (λ (z : Course). z.dom) (sym after) ∙ back-dom (held_but k choice) answer in
         let answered = subst (WasAnsweredAll (one ∷ h)) after (back-answered h (held_but k choice) one answer (but-answered h k choice known)) in
         let came = begun-to new led q answer j right (inl (held_here h k.dom.0 choice k.held handle gives.2 known.held)) tt dom answered
-        (subst (λ (z : Course). MovesTo s (one ∷ h) tasks a k z old new place led) after moved) in
+        (subst (λ (z : Course). MovesAsRun s (one ∷ h) tasks a k z old new place led) after moved) in
         subst (λ (z : Happening). Comes new led z j) (sym (gives.3 ∙ ap (λ (z : Element). did (Begin k.dom q) z) (e-is ∙ ap (λ (z : Item). Did z) same))) came)
 
     -- it raises a flag
@@ -362,7 +366,7 @@ module _ (c : RunContents) (scene : Scene) (hs : List Happening) (ks : List Cour
       let moved = meets s h k j a i shown some of right (subst (λ (types : List (List ℕ)). TickLeads types k k.opened i j) (sym is.types) to.0) in
       let fits = step-known h k.dom i.actor i.happened i.answer of in (
         moved.grows,
-        subst (λ (z : Happening). Shows c scene (hs ++ z ∷ []) (slice_set ks place j) new) (sym (led-so.1.0 ∙ ap (λ (z : Element). did (Tick k.dom) z) e-is))
+        subst (λ (z : Happening). SceneShows c scene (hs ++ z ∷ []) (slice_set ks place j) new) (sym (led-so.1.0 ∙ ap (λ (z : Element). did (Tick k.dom) z) e-is))
             (comes-event c scene hs ks old place k a is shows at there new (Tick k.dom) i j moved.actor of.0 right fits.0 fits.1 moved.becomes to.1 moved.shows to.2 moved.tables moved.pages moved.told),
       ))
 

@@ -1,5 +1,6 @@
 -- An open call of a state goes on along that of the run.
-use Rattle.std.proofs.Common.{◌≡◌, ◌<◌, ◌++◌, ℕ, refl, true, false, Bool, cond, List, [], ◌∷◌, map, Option, Some, None, sym}
+use Rattle.std.proofs.Common.{◌≡◌, ◌<◌, ◌++◌, ℕ, refl, true, false, Bool, cond, List, [], ◌∷◌, map, Option, Some, None}
+use Rattle.std.proofs.Common.{sym}
 use Rattle.std.proofs.Common.{ap, ◌∙◌, arith, subst}
 use Rattle.std.specs.Option.{option_map}
 use Rattle.std.specs.Prelude.{◌==◌}
@@ -34,7 +35,7 @@ use Rattle.gt_search.specs.Renaming.{FindsSame, action_under, step_under}
 use Rattle.gt_search.specs.declared.actor.Open.{Open}
 use Rattle.gt_search.proofs.CallBegins.{place-alike}
 use Rattle.gt_search.proofs.MappingFound.{listed-at, mapping-listed}
-use Rattle.gt_search.specs.Continuing.{IsStoring}
+use Rattle.gt_search.specs.Continuing.{IsGranting}
 use Rattle.gt_search.proofs.LeftAlike.{left-alike}
 use Rattle.gt_search.proofs.Renaming.{path-renamed}
 use Rattle.gt_search.specs.Continuing.{SameKnown}
@@ -72,7 +73,7 @@ fits-alike s h d b y z same = fits-under b y (seen_by s h d z) (subst (λ (x : S
 -- what is left to do of an open call
 
 pub is-left : (k l : CallerKnowledge) (call : Call) (shown : List Seen) (seen : Seen) → IsAt k call shown → l.domains ≡ k.domains → l.may ≡ k.may
-    → ((p : Phase) → call.phase ≡ Some p → IsStoring p → (l.entry ≡ k.entry) × (l.generation ≡ k.generation)) → IsLeftAlike k l call seen
+    → ((p : Phase) → call.phase ≡ Some p → IsGranting p → (l.entry ≡ k.entry) × (l.generation ≡ k.generation)) → IsLeftAlike k l call seen
 is-left k l call shown seen at domains may own = by call.phase refl at where
   by : (o : Option Phase) → call.phase ≡ o → IsAt k (record call { phase = o }) shown → IsLeftAlike k l call seen
   by None e at = absurd at

@@ -17,8 +17,9 @@ use Rattle.gt_replay.specs.Courses.{Course, Opened, resting, calling, giving}
 use Rattle.gt_replay.specs.Orders.{handles_without}
 use Rattle.gt_script.specs.Lists.{Task}
 use Rattle.gt_search.specs.Continuing.{SameKnown}
-use Rattle.gt_search.specs.Calls.{AsksByPlace, GoesAlong, LabelsShow, Rise, ShowsCalls, ShowsOpen, handles_at, known_by_place}
-use Rattle.gt_search.specs.Calls.{pins_at, tasks_open}
+use Rattle.gt_search.specs.Calls.{AsksByPlace, GoesAlong, LabelsShow, Rise, ShowsCalls, ShowsOpen, handles_at}
+use Rattle.gt_search.specs.Calls.{known_by_place}
+use Rattle.gt_search.specs.Calls.{pins_mapped_at, tasks_open}
 use Rattle.gt_search.specs.Mappings.{labels_of}
 use Rattle.gt_search.specs.Placing.{pin_by_place}
 use Rattle.gt_search.specs.declared.actor.Actor.{Actor}
@@ -26,7 +27,7 @@ use Rattle.gt_search.specs.declared.actor.Open.{Open}
 
 pub same-by-place : (s : Setting) (h g : History) (d : DomId) → SameKnown s h g d → known_by_place s g d ≡ known_by_place s h d
 same-by-place s h g d same =
-    ap (λ (z : CallerKnowledge). record z { mapping = pin_by_place (pins_at g d); maps_answered = 0 }) same.known
+    ap (λ (z : CallerKnowledge). record z { mapping = pin_by_place (pins_mapped_at g d); maps_answered = 0 }) same.known
     ∙ ap (λ (ms : List (Handle × Held)). record (known_at s h d) { mapping = pin_by_place (map (λ (m : Handle × Held). m.1) ms); maps_answered = 0 }) same.mappings
 
 pub same-handles : (s : Setting) (h g : History) (d : DomId) → SameKnown s h g d → handles_at g d ≡ handles_at h d

@@ -10,8 +10,8 @@ use Rattle.gt_calls.specs.declared.held.Held.{Held}
 use Rattle.gt_host.specs.Labels.{handle_in}
 use Rattle.gt_host.specs.Naming.{AreNamed}
 use Rattle.gt_host.specs.Runs.{Named, with_name}
-use Rattle.gt_search.specs.Mappings.{labels_of, said}
-use Rattle.gt_search.specs.Placing.{ArePlaced, CountFrom, names_in, names_with}
+use Rattle.gt_search.specs.Mappings.{labels_of, label_bytes}
+use Rattle.gt_search.specs.Placing.{ArePlaced, CountFrom, place_names, place_names_after}
 use Rattle.gt_search.specs.declared.actor.Mapping.{Mapping}
 use Rattle.gt_search.specs.declared.names.Names.{Names}
 
@@ -20,7 +20,7 @@ count-more n [] handle counts e = (let f : handle.serial ≡ n = omega arith in 
 count-more n (first ∷ handles) handle counts e = (counts.0, count-more (suc n) handles handle counts.1 (let f : handle.serial ≡ suc n + length handles = omega arith in f))
 
 names-more : (dom : DomId) (handles : List Handle) (labels : List (Option (List ℕ))) (named : List Named) (handle : Handle) (label : Option (List ℕ)) → length handles ≡ length labels
-    → names_with dom (handles ++ handle ∷ []) (labels ++ label ∷ []) named ≡ with_name (names_with dom handles labels named) dom label (Some handle)
+    → place_names_after dom (handles ++ handle ∷ []) (labels ++ label ∷ []) named ≡ with_name (place_names_after dom handles labels named) dom label (Some handle)
 names-more dom [] [] named handle label e = refl
 names-more dom (first ∷ handles) (one ∷ labels) named handle label e =
     names-more dom handles labels (with_name named dom one (Some first)) handle label (let f : length handles ≡ length labels = omega arith in f)
@@ -39,7 +39,7 @@ none-placed dom n kept none names = record {
   pins = refl;
   handles = sym none;
   places = subst (CountFrom 0) (sym none) tt;
-  labels = subst (λ (hs : List Handle). AreNamed n.labels (names_in dom hs [])) (sym none) names;
+  labels = subst (λ (hs : List Handle). AreNamed n.labels (place_names dom hs [])) (sym none) names;
 }
 
 as-many : (dom : DomId) (mappings : List Mapping) (n : Names) (a : ArePlaced dom mappings n) → length n.handles.items ≡ length mappings
@@ -51,13 +51,13 @@ as-many dom mappings n a =
 -- one more
 pub one-placed : (dom : DomId) (mappings : List Mapping) (m : Mapping) (old new : Names) (mid : HandleMap Held) (handle : Handle) → InsertedIsListed Held → ArePlaced dom mappings old
     → mid ≡ record old.mappings { room = mid.room } → handle.serial ≡ mid.given → IsInserted mid new.mappings handle m.held → new.handles.items ≡ old.handles.items ++ handle ∷ []
-    → ((named : List Named) → AreNamed old.labels named → AreNamed new.labels (with_name named dom (said m.label) (Some handle)))
+    → ((named : List Named) → AreNamed old.labels named → AreNamed new.labels (with_name named dom (label_bytes m.label) (Some handle)))
     → ArePlaced dom (mappings ++ m ∷ []) new
 one-placed dom mappings m old new mid handle law a reserved serial ins pushed names =
     let before : HasJust mid a.pairs (length mappings) = subst (λ (s : HandleMap Held). HasJust s a.pairs (length mappings)) (sym reserved) (room-else old.mappings mid.room a.pairs (length mappings) a.kept) in
     let many : length old.handles.items ≡ length mappings = as-many dom mappings old a in
-    let labels : labels_of (mappings ++ m ∷ []) ≡ labels_of mappings ++ said m.label ∷ [] = map-append (λ (x : Mapping). said x.label) mappings (m ∷ []) in
-    let longer : length (labels_of mappings) ≡ length mappings = length-map mappings (λ (x : Mapping). said x.label) in
+    let labels : labels_of (mappings ++ m ∷ []) ≡ labels_of mappings ++ label_bytes m.label ∷ [] = map-append (λ (x : Mapping). label_bytes x.label) mappings (m ∷ []) in
+    let longer : length (labels_of mappings) ≡ length mappings = length-map mappings (λ (x : Mapping). label_bytes x.label) in
     record {
       pairs = a.pairs ++ (handle, m.held) ∷ [];
       kept = subst (HasJust new.mappings (a.pairs ++ (handle, m.held) ∷ [])) (sym (length-append mappings (m ∷ [])))
@@ -68,16 +68,16 @@ one-placed dom mappings m old new mid handle law a reserved serial ins pushed na
       places = subst (CountFrom 0) (sym pushed) (count-more 0 old.handles.items handle a.places
           (serial ∙ before.given_is ∙ sym many ∙ (let e : length old.handles.items ≡ 0 + length old.handles.items = omega arith in e)));
       labels = subst (AreNamed new.labels)
-          (sym (ap (λ (hs : List Handle). names_in dom hs (labels_of (mappings ++ m ∷ []))) pushed
-          ∙ ap (names_in dom (old.handles.items ++ handle ∷ [])) labels
-          ∙ names-more dom old.handles.items (labels_of mappings) [] handle (said m.label) (many ∙ sym longer)))
-          (names (names_in dom old.handles.items (labels_of mappings)) a.labels);
+          (sym (ap (λ (hs : List Handle). place_names dom hs (labels_of (mappings ++ m ∷ []))) pushed
+          ∙ ap (place_names dom (old.handles.items ++ handle ∷ [])) labels
+          ∙ names-more dom old.handles.items (labels_of mappings) [] handle (label_bytes m.label) (many ∙ sym longer)))
+          (names (place_names dom old.handles.items (labels_of mappings)) a.labels);
     }
 
 -- the mapping at the next place too
 pub placed-step : (dom : DomId) (held : List Mapping) (i : ℕ) (d : Mapping) (old new : Names) (mid : HandleMap Held) (handle : Handle) → i < length held → InsertedIsListed Held → ArePlaced dom (take i held) old
     → mid ≡ record old.mappings { room = mid.room } → handle.serial ≡ mid.given → IsInserted mid new.mappings handle (get_or held i d).held → new.handles.items ≡ old.handles.items ++ handle ∷ []
-    → ((named : List Named) → AreNamed old.labels named → AreNamed new.labels (with_name named dom (said (get_or held i d).label) (Some handle)))
+    → ((named : List Named) → AreNamed old.labels named → AreNamed new.labels (with_name named dom (label_bytes (get_or held i d).label) (Some handle)))
     → ArePlaced dom (take (i + 1) held) new
 placed-step dom held i d old new mid handle lt law a reserved serial ins pushed names =
     subst (λ (ms : List Mapping). ArePlaced dom ms new) (sym (take_more held i d lt)) (one-placed dom (take i held) (get_or held i d) old new mid handle law a reserved serial ins pushed names)

@@ -32,13 +32,14 @@ use Rattle.gt_lines.specs.declared.calls.ScriptCall.{ScriptCall}
 use Rattle.gt_lines.specs.declared.calls.ScriptCall.TheVariants as calls
 use Rattle.gt_replay.specs.Courses.{Course, Opened, calling, giving, resting}
 use Rattle.gt_script.specs.Lists.{Task}
-use Rattle.gt_world.specs.Shows.{IsGivenTo, IsItemOf as IsItemAt, IsOfRun, LooksInRun, StepFits, TableShows, TablesShow, unheld}
+use Rattle.gt_world.specs.Shows.{IsGivenTo, IsItemOfStep, IsInRun, LooksInRun, StepFits, TableShows, TablesShow}
+use Rattle.gt_world.specs.Shows.{unheld}
 use Rattle.gt_world.specs.declared.table.Table.{Table}
 use Rattle.gt_world.proofs.AlikeFitting.{like-fits-step}
 use Rattle.gt_world.proofs.Fitting.{of-place}
 use Rattle.gt_world.proofs.Showing.{item-is}
 use Rattle.gt_search.specs.Calls.{GoesAlong, Rise, ShowsOpen, handles_at, known_by_place}
-use Rattle.gt_search.specs.Continuing.{IsStoring, StillKnows}
+use Rattle.gt_search.specs.Continuing.{IsGranting, StillKnows}
 use Rattle.gt_search.specs.Ends.{tasks_at}
 use Rattle.gt_search.specs.Renaming.{step_under}
 use Rattle.gt_search.specs.Ticking.{IsTick, ReadsInFrame, bytes_by, bytes_in, task_in}
@@ -104,12 +105,12 @@ along-of s h tasks k next (calling line call lost) c o show = show.0
 along-of s h tasks k next giving c o show = show.0
 
 -- while an entry is granted a step stores a body word
-storing-step : (k : CallerKnowledge) (call : Call) (d : DomId) (shown : List Seen) (y : Step) (p : Phase) → call.caller ≡ d → IsAt k call shown → call.phase ≡ Some p → IsStoring p → path k d call.request shown ≡ Some (Makes y) → (r : ℕ) (seen : Seen) → change_at (Stepped y seen) r ≡ None
+storing-step : (k : CallerKnowledge) (call : Call) (d : DomId) (shown : List Seen) (y : Step) (p : Phase) → call.caller ≡ d → IsAt k call shown → call.phase ≡ Some p → IsGranting p → path k d call.request shown ≡ Some (Makes y) → (r : ℕ) (seen : Seen) → change_at (Stepped y seen) r ≡ None
 storing-step k call d shown y p own at here storing follows r seen = grind arith
 
 -- what is so of the step that a state is about to make
 pub record IsStepOf (s : Setting) (h : History) (scene : Scene) (at : ℕ) (k : Course) (o : Open) (i : Item) : Type 0 where
-  pub item : IsItemAt s h i at o.step (seen_by s h k.dom o.step)
+  pub item : IsItemOfStep s h i at o.step (seen_by s h k.dom o.step)
   pub actor : i.actor ≡ k.dom
   pub looks : LooksInRun s k.dom o.step
   pub caller : o.call.caller ≡ k.dom
@@ -163,8 +164,8 @@ module _ (s : Setting) (h : History) (scene : Scene) (before : World) (at : ℕ)
   placed : slice_get s.domains at ≡ Some here
   placed = ap (λ (ds : List DomainConfig). slice_get ds at) (sym tick.shows.setting.domains) ∙ tick.shows.placed
 
-  pub of-run : IsOfRun s k.dom
-  of-run = subst (IsOfRun s) tick.shows.number (of-place s.domains at here placed)
+  pub of-run : IsInRun s k.dom
+  of-run = subst (IsInRun s) tick.shows.number (of-place s.domains at here placed)
 
   pub in-run : StepInRun s h k.dom tick-is.call tick-is.step (seen_by s h k.dom tick-is.step) i.answer
   in-run = step-in-run s h k.dom tick-is.call tick-is.step (seen_by s h k.dom tick-is.step) i.answer tick.shows.like of-run tick-is.opened tick-is.right
@@ -172,7 +173,7 @@ module _ (s : Setting) (h : History) (scene : Scene) (before : World) (at : ℕ)
   own : i.actor ≡ k.dom
   own = ap (λ (x : Item). x.actor) tick-is.item
 
-  fits : IsItemAt s h i at o.step (seen_by s h k.dom tick-is.step) × LooksInRun s i.actor o.step
+  fits : IsItemOfStep s h i at o.step (seen_by s h k.dom tick-is.step) × LooksInRun s i.actor o.step
   fits = like-fits-step s h i at here tick-is.step o.step (seen_by s h k.dom tick-is.step) tick.shows.like tick.right (ap (λ (x : Item). x.happened) tick-is.item) placed (own ∙ sym tick.shows.number)
       (sym (unheld-under along.place tick-is.step) ∙ ap unheld (sym same-step) ∙ unheld-under along.place o.step)
 
@@ -194,7 +195,7 @@ module _ (s : Setting) (h : History) (scene : Scene) (before : World) (at : ℕ)
 
   pub step-of : IsStepOf s h scene at k o i
   step-of = record {
-    item = subst (IsItemAt s h i at o.step) (sym same-seen) fits.0;
+    item = subst (IsItemOfStep s h i at o.step) (sym same-seen) fits.0;
     actor = own;
     looks = subst (λ (d : DomId). LooksInRun s d o.step) own fits.1;
     caller = along.caller;
@@ -214,7 +215,7 @@ module _ (s : Setting) (h : History) (scene : Scene) (before : World) (at : ℕ)
     table-shows : TableShows s (i ∷ h) k.dom table
     table-shows = subst (λ (d : DomId). TableShows s (i ∷ h) d table) tick.shows.number (shows.each at here table placed there)
 
-    keeps : (p : Phase) → o.call.phase ≡ Some p → IsStoring p → (r : ℕ) → change_at i.happened r ≡ None
+    keeps : (p : Phase) → o.call.phase ≡ Some p → IsGranting p → (r : ℕ) → change_at i.happened r ≡ None
     keeps p phase storing r =
         let none : change_at (Stepped o.step (seen_by s h k.dom tick-is.step)) r ≡ None =
         storing-step (known_by_place s h k.dom) o.call k.dom (values tick-is.call) o.step p along.caller along.at phase storing along.follows r (seen_by s h k.dom tick-is.step) in

@@ -1,5 +1,6 @@
 -- What one state shows is shown by one that is the same.
-use Rattle.std.proofs.Common.{◌≡◌, ◌+◌, ◌<◌, ◌≤◌, ℕ, zero, suc, refl, List, [], ◌∷◌, ◌++◌, length, take, drop, get_or, Option}
+use Rattle.std.proofs.Common.{◌≡◌, ◌+◌, ◌<◌, ◌≤◌, ℕ, zero, suc, refl, List, [], ◌∷◌, ◌++◌, length, take, drop, get_or}
+use Rattle.std.proofs.Common.{Option}
 use Rattle.std.proofs.Common.{Bool, Some, sym, ap, ◌∙◌, subst}
 use Rattle.std.specs.Prelude.{slice_get}
 use Rattle.std.proofs.lemmas.List.{take_more}
@@ -14,7 +15,7 @@ use Rattle.gt_script.specs.RunContents.{RunContents}
 use Rattle.gt_search.specs.Calls.{LabelsShow, ShowsCalls, ShowsOpen, handles_at, tasks_open}
 use Rattle.gt_search.specs.Copies.{SameActor, SameActors, SameWorld}
 use Rattle.gt_search.specs.Ends.{tasks_at}
-use Rattle.gt_search.specs.Scenes.{Shows}
+use Rattle.gt_search.specs.Scenes.{SceneShows}
 use Rattle.gt_search.specs.Spaces.{scene_ways}
 use Rattle.gt_search.specs.declared.actor.Actor.{Actor}
 use Rattle.gt_search.specs.declared.actor.Open.{Open}
@@ -54,7 +55,7 @@ shows-calls s h tasks k a b same show = record {
       (subst (λ (o : Option Open). ShowsOpen s h tasks k a.next k.opened (open_call h k.dom.0) o) (sym same.open_call) show.opens);
 }
 
-shows-again : (c : RunContents) (scene : Scene) (hs : List Happening) (ks : List Course) (w v : World) → SameWorld w v → Shows c scene hs ks w → Shows c scene hs ks v
+shows-again : (c : RunContents) (scene : Scene) (hs : List Happening) (ks : List Course) (w v : World) → SameWorld w v → SceneShows c scene hs ks w → SceneShows c scene hs ks v
 shows-again c scene hs ks w v same show = record {
   domains = show.domains;
   many = same-many w.actors.items v.actors.items same.actors ∙ show.many;

@@ -1,5 +1,6 @@
 -- The moves of a scene's states are those of its space.
-use Rattle.std.proofs.Common.{◌≡◌, ◌≢◌, ◌<◌, ℕ, zero, suc, refl, true, false, Bool, cond, List, [], ◌∷◌, ◌++◌, length, Some}
+use Rattle.std.proofs.Common.{◌≡◌, ◌≢◌, ◌<◌, ℕ, zero, suc, refl, true, false, Bool, cond, List, [], ◌∷◌, ◌++◌, length}
+use Rattle.std.proofs.Common.{Some}
 use Rattle.std.proofs.Common.{sym, ap, ◌∙◌, subst, arith, append-nil}
 use Rattle.std.specs.Prelude.{◌==◌, slice_get, slice_set}
 use Rattle.std.proofs.lemmas.Bool.{eq-eqb, eqb-true}
@@ -13,7 +14,7 @@ use Rattle.gt_replay.proofs.Following.{there_is}
 use Rattle.gt_script.specs.Contents.{type_names}
 use Rattle.gt_script.specs.RunContents.{RunContents}
 use Rattle.gt_search.specs.Ends.{AreDone, turns_from}
-use Rattle.gt_search.specs.Scenes.{IsSceneOf, MovesAlong, Shows}
+use Rattle.gt_search.specs.Scenes.{IsSceneOf, MovesAlong, SceneShows}
 use Rattle.gt_search.specs.Spaces.{Point, printed_by, scene_ways}
 use Rattle.gt_search.specs.Starting.{Grows}
 use Rattle.gt_search.specs.declared.scene.Scene.{Scene}
@@ -64,9 +65,9 @@ moves-to scene turn old led new along p q shows next =
       fits scene led p turn q next.k next.j next.there next.courses made.0,
       (
         subst (λ (c : RunContents). IsSceneOf c scene) (sym next.script) shows.0,
-        subst (λ (ks : List Course). Shows q.script scene q.happened ks new) (sym next.courses)
-            (subst (λ (hs : List Happening). Shows q.script scene hs (slice_set p.courses turn.place next.j) new) (sym next.happened)
-            (subst (λ (c : RunContents). Shows c scene (p.happened ++ next.x ∷ []) (slice_set p.courses turn.place next.j) new) (sym next.script) made.1)),
+        subst (λ (ks : List Course). SceneShows q.script scene q.happened ks new) (sym next.courses)
+            (subst (λ (hs : List Happening). SceneShows q.script scene hs (slice_set p.courses turn.place next.j) new) (sym next.happened)
+            (subst (λ (c : RunContents). SceneShows c scene (p.happened ++ next.x ∷ []) (slice_set p.courses turn.place next.j) new) (sym next.script) made.1)),
       ),
     )
 

@@ -1,5 +1,6 @@
 -- A state that shows a run shows it with one happening more, if one of its domains comes to where that brings it.
-use Rattle.std.proofs.Common.{◌≡◌, ◌≢◌, ◌<◌, ◌++◌, ◌⊎◌, ℕ, zero, suc, refl, true, false, Bool, cond, List, [], ◌∷◌, length}
+use Rattle.std.proofs.Common.{◌≡◌, ◌≢◌, ◌<◌, ◌++◌, ◌⊎◌, ℕ, zero, suc, refl, true, false, Bool, cond, List, [], ◌∷◌}
+use Rattle.std.proofs.Common.{length}
 use Rattle.std.proofs.Common.{map, Some, None, sym, ap, ◌∙◌, arith, subst, inl, inr, get_or}
 use mathlib.Core.Path.{fun_ext}
 use Rattle.std.specs.Option.{option_map}
@@ -32,7 +33,7 @@ use Rattle.gt_script.specs.RunScripts.{list_of}
 use Rattle.gt_script.specs.Stuck.{IsBelow}
 use Rattle.gt_search.specs.Calls.{KnowsTable, ShowsCalls}
 use Rattle.gt_search.specs.Ends.{tasks_at}
-use Rattle.gt_search.specs.Scenes.{IsSceneOf, Shows, WasAnsweredAll}
+use Rattle.gt_search.specs.Scenes.{IsSceneOf, SceneShows, WasAnsweredAll}
 use Rattle.gt_search.specs.declared.actor.Actor.{Actor}
 use Rattle.gt_search.specs.declared.scene.Scene.{Scene}
 use Rattle.gt_search.specs.declared.scene.World.{World}
@@ -72,7 +73,7 @@ own-task (u ∷ tasks) dom n t at = by (u.dom.0 == dom.0) refl n at (own-task ta
 
 -- a domain of a state
 
-module _ (c : RunContents) (scene : Scene) (hs : List Happening) (ks : List Course) (old : World) (place : ℕ) (k : Course) (a : Actor) (is : IsSceneOf c scene) (shows : Shows c scene hs ks old) (at : slice_get ks place ≡ Some k)
+module _ (c : RunContents) (scene : Scene) (hs : List Happening) (ks : List Course) (old : World) (place : ℕ) (k : Course) (a : Actor) (is : IsSceneOf c scene) (shows : SceneShows c scene hs ks old) (at : slice_get ks place ≡ Some k)
     (there : slice_get old.actors.items place ≡ Some a) where
   abbrev s : Setting
   s = setting_of_script c.head
@@ -149,7 +150,7 @@ module _ (c : RunContents) (scene : Scene) (hs : List Happening) (ks : List Cour
       → ((u : Course) → WasAnsweredAll h u → WasAnsweredAll g u)
       → TablesShow s g new.ground.tables.items → PagesShow g new.ground.pages.items → IsLikeReached s g → length new.told.items ≡ c.flags
       → ((flag : ℕ) → IsRaisedBefore (length (hs ++ x ∷ [])) flag (hs ++ x ∷ []) → slice_get new.told.items flag ≡ Some true)
-      → Shows c scene (hs ++ x ∷ []) (slice_set ks place j) new
+      → SceneShows c scene (hs ++ x ∷ []) (slice_set ks place j) new
   comes-so new x j b g becomes history dom calls answered others kept tables pages like flags told = record {
     domains = map_set (λ (u : Course). u.dom) ks place k j at dom ∙ shows.domains;
     many = ap (λ (l : List Actor). length l) becomes ∙ length-set old.actors.items place b ∙ shows.many ∙ sym (length-set ks place j);
@@ -182,7 +183,7 @@ module _ (c : RunContents) (scene : Scene) (hs : List Happening) (ks : List Cour
       → i.actor ≡ k.dom → IsRight s h i → HappensKnown h i → AsksFit i.happened
       → new.actors.items ≡ slice_set old.actors.items place b → j.dom ≡ k.dom → ShowsCalls s (i ∷ h) (tasks_at scene place) j b → WasAnsweredAll (i ∷ h) j
       → TablesShow s (i ∷ h) new.ground.tables.items → PagesShow (i ∷ h) new.ground.pages.items → new.told ≡ old.told
-      → Shows c scene (hs ++ did e (Did i) ∷ []) (slice_set ks place j) new
+      → SceneShows c scene (hs ++ did e (Did i) ∷ []) (slice_set ks place j) new
   comes-event new e i j b own right known fits becomes dom calls answered tables pages told =
       comes-so new (did e (Did i)) j b (i ∷ h) becomes (history_did hs e (Did i)) dom calls answered
       (λ tasks u z other show. others-stay s h tasks u z i (ne_eqb i.actor.0 u.dom.0 (λ same. other (sym same ∙ ap (λ (d : DomId). d.0) own))) show)
@@ -203,7 +204,7 @@ module _ (c : RunContents) (scene : Scene) (hs : List Happening) (ks : List Cour
       → IsQuiet x → new.actors.items ≡ slice_set old.actors.items place b → j.dom ≡ k.dom → ShowsCalls s h (tasks_at scene place) j b → WasAnsweredAll h j → new.ground ≡ old.ground
       → length new.told.items ≡ length old.told.items
       → ((flag : ℕ) → IsRaisedBefore (length (hs ++ x ∷ [])) flag (hs ++ x ∷ []) → slice_get new.told.items flag ≡ Some true)
-      → Shows c scene (hs ++ x ∷ []) (slice_set ks place j) new
+      → SceneShows c scene (hs ++ x ∷ []) (slice_set ks place j) new
   comes-quiet new x j b quiet becomes dom calls answered ground many told =
       comes-so new x j b h becomes (history-quiet hs x quiet) dom calls answered (λ tasks u z other show. show) (λ u was. was)
       (subst (λ g. TablesShow s h g.tables.items) (sym ground) shows.tables)

@@ -1,5 +1,6 @@
 -- Where a domain of a state comes to by the step of its open call.
-use Rattle.std.proofs.Common.{◌≡◌, ◌+◌, ◌≤◌, ◌++◌, ℕ, zero, suc, refl, List, [], ◌∷◌, length, take, drop, Option, Some, None, sym, ap, ◌∙◌, arith, subst, Result}
+use Rattle.std.proofs.Common.{◌≡◌, ◌+◌, ◌≤◌, ◌++◌, ℕ, zero, suc, refl, List, [], ◌∷◌, length, take, drop, Option, Some}
+use Rattle.std.proofs.Common.{None, sym, ap, ◌∙◌, arith, subst, Result}
 use Rattle.std.specs.Prelude.{IfOk, codes, slice_get, slice_set}
 use Rattle.std.proofs.lemmas.List.{append-nil, map-append}
 use Rattle.std.proofs.lemmas.Option.{none-some}
@@ -27,7 +28,8 @@ use Rattle.gt_calls.specs.Asking.{asked}
 use Rattle.gt_calls.specs.Path.{after_beginning, by_mapping, path}
 use Rattle.gt_calls.specs.Rules.{CallerKnowledge, begun}
 use Rattle.gt_core.specs.Acting.{answer_of}
-use Rattle.gt_core.specs.History.{History, Setting, Underway, contents_at, known_at, maps_answered_at, one_if_mapped, open_call, patches_at, seen_by, values}
+use Rattle.gt_core.specs.History.{History, Setting, Underway, contents_at, known_at, maps_answered_at, one_if_mapped}
+use Rattle.gt_core.specs.History.{open_call, patches_at, seen_by, values}
 use Rattle.gt_core.specs.Justified.{Justified}
 use Rattle.gt_core.specs.Legal.{next_in}
 use Rattle.gt_core.specs.declared.trace.Answer.{Answer}
@@ -46,13 +48,16 @@ use Rattle.gt_script.specs.Lists.{Task}
 use Rattle.gt_script.specs.declared.tasks.DeedBy.TheVariants.{Do}
 use Rattle.gt_world.specs.Shows.{PagesShow, TablesShow}
 use Rattle.gt_world.specs.declared.ground.Ground.{Ground}
-use Rattle.gt_search.specs.Calls.{AsksByPlace, GoesAlong, IsOfLine, IsOfTask, LabelsShow, ShowsCalls, ShowsOpen, handles_at, known_by_place, tasks_open}
+use Rattle.gt_search.specs.Calls.{AsksByPlace, GoesAlong, IsOfLine, IsOfTask, LabelsShow, ShowsCalls, ShowsOpen}
+use Rattle.gt_search.specs.Calls.{handles_at, known_by_place, tasks_open}
 use Rattle.gt_search.specs.Continuing.{GoesOnAsRun, SameKnown, stepped_call}
 use Rattle.gt_search.specs.Ends.{tasks_at}
-use Rattle.gt_search.specs.Mappings.{apart_from, labels_of, pins_of}
+use Rattle.gt_search.specs.Mappings.{apart_from, labels_of, mapping_pins}
 use Rattle.gt_search.specs.Renaming.{asked_under, step_under}
 use Rattle.gt_search.specs.Starting.{Grows}
-use Rattle.gt_search.specs.Ticking.{Closes, ClosesBack, IsClosed, IsMade, IsTick, MapsSo, TellsEnd, TickLeads, TicksTo, label_in, mappings_after}
+use Rattle.gt_search.specs.Ticking.{Closes, ClosesBack, CallIsOver, HasStepped, IsTick, MapsSo, TellsEnd, TickLeads}
+use Rattle.gt_search.specs.Ticking.{TicksAsRun}
+use Rattle.gt_search.specs.Ticking.{label_given_by, mappings_after}
 use Rattle.gt_search.specs.declared.actor.Actor.{Actor}
 use Rattle.gt_search.specs.declared.actor.Mapping.{Mapping}
 use Rattle.gt_search.specs.declared.actor.Open.{Open}
@@ -77,7 +82,7 @@ shows-same-actor s h tasks k a b next maps opened show = record {
   begun = subst (λ (n : ℕ). n ≤ length tasks) (sym next) show.begun;
   few = subst (λ (n : ℕ). maps_answered_at h k.dom.0 + tasks_open k.opened ≤ n) (sym next) show.few;
   rising = show.rising;
-  pins = ap pins_of maps ∙ show.pins;
+  pins = ap mapping_pins maps ∙ show.pins;
   labels = subst (λ (ms : List Mapping). LabelsShow k.named k.dom (handles_at h k.dom) (labels_of ms)) (sym maps) show.labels;
   opens = subst (λ (n : ℕ). ShowsOpen s h tasks k n k.opened (open_call h k.dom.0) b.«open») (sym next)
       (subst (ShowsOpen s h tasks k a.next k.opened (open_call h k.dom.0)) (sym opened) show.opens);
@@ -285,8 +290,8 @@ module _ (s : Setting) (h : History) (scene : Scene) (before : World) (at : ℕ)
         (shows-same-actor s (went_on k.dom z saw ∷ h) tasks k (record a { «open» = Some now }) b next (maps ∙ keeps-maps) opened
         (shows-going s h tasks k a c z o now show here.opened tick.has known (goes (went_on k.dom z saw ∷ h) known) refl)))
 
-    pub goes-on : (seen : Seen) (old new : World) (b : Actor) → IsMade s h k i o seen old.ground.tables.items old.ground.pages.items → new.actors.items ≡ slice_set old.actors.items at b → new.ground ≡ old.ground → new.told ≡ old.told
-        → b.next ≡ a.next → b.mappings.items ≡ mappings_after o.step a.mappings.items → b.«open» ≡ Some now → TicksTo s (i ∷ h) tasks k j old new at On
+    pub goes-on : (seen : Seen) (old new : World) (b : Actor) → HasStepped s h k i o seen old.ground.tables.items old.ground.pages.items → new.actors.items ≡ slice_set old.actors.items at b → new.ground ≡ old.ground → new.told ≡ old.told
+        → b.next ≡ a.next → b.mappings.items ≡ mappings_after o.step a.mappings.items → b.«open» ≡ Some now → TicksAsRun s (i ∷ h) tasks k j old new at On
     goes-on seen old new b made becomes ground told next maps opened = record {
       grows = ap (λ (x : Course). x.text) (leads-on types k k.opened i j refl leads going.0);
       actor = b;
@@ -326,7 +331,7 @@ module _ (s : Setting) (h : History) (scene : Scene) (before : World) (at : ℕ)
 
     -- the call of a line
     module _ (types : List (List ℕ)) (line : ℕ) (call : ScriptCall) (lost : Option Handle) (said : IsOfLine k.dom call lost c) (all : k.held ≡ handles_at h k.dom) (few : maps_answered_at h k.dom.0 + 1 ≤ a.next)
-        (answer : Answer) (told : EndsAs h k.dom c.request z saw v answer) (b : Actor) (closed : IsClosed (label_given call) v m b) where
+        (answer : Answer) (told : EndsAs h k.dom c.request z saw v answer) (b : Actor) (closed : CallIsOver (label_given call) v m b) where
       abbrev text : List ℕ
       text = k.text ++ answer_line types line k.dom answer
 
@@ -351,7 +356,7 @@ module _ (s : Setting) (h : History) (scene : Scene) (before : World) (at : ℕ)
           (subst (λ (hs : List Handle). ShowsCalls s (stepped k.dom (PinStep p) Taken (Some (answers.Mapped handle)) ∷ h) tasks
           (over_course k (with_name k.named k.dom (Some label.0) (Some handle)) hs (k.text ++ answer_line types line k.dom (answers.Mapped handle))) b) (sym (held-more k.held lost handle))
           (shows-more s h tasks k a b p handle label.0 (k.text ++ answer_line types line k.dom (answers.Mapped handle)) show all tick.shows.like.1.first tick.shows.named t.2 t.5 few next_b closed.none
-          (maps.0 ∙ ap (λ (ms : List Mapping). pins_of ms ++ p ∷ []) kept)
+          (maps.0 ∙ ap (λ (ms : List Mapping). mapping_pins ms ++ p ∷ []) kept)
           (maps.1 ∙ ap (λ (ms : List Mapping). apart_from (Some label.0) (labels_of ms) ++ Some label.0 ∷ []) kept))))))
 
       line-unmapped : IsNoMap v → (p : Held) (x : Handle) → z ≡ Unpin p (ByHandle x) → Goal z saw answer (label_given call)
@@ -394,7 +399,7 @@ module _ (s : Setting) (h : History) (scene : Scene) (before : World) (at : ℕ)
         by (Refused denial) is = line-plain (subst IsNoMap (sym is) tt)
 
     -- an unmap at the end of a list
-    back-shows : (x : Handle) (answer : Answer) (b : Actor) → c.request ≡ Unmap x → k.held ≡ handles_without x (handles_at h k.dom) → v ≡ Granted → EndsAs h k.dom c.request z saw v answer → IsClosed None v m b
+    back-shows : (x : Handle) (answer : Answer) (b : Actor) → c.request ≡ Unmap x → k.held ≡ handles_without x (handles_at h k.dom) → v ≡ Granted → EndsAs h k.dom c.request z saw v answer → CallIsOver None v m b
         → ShowsCalls s (stepped k.dom z saw (Some answer) ∷ h) tasks (record k { opened = resting }) b
     back-shows x answer b asks held granted told closed =
         let made = unmap-makes (known_at s h k.dom) k.dom x (values c) z (subst (λ (q : Asked). path (known_at s h k.dom) k.dom q (values c) ≡ Some (Makes z)) asks here.right.continues) in
@@ -412,7 +417,7 @@ module _ (s : Setting) (h : History) (scene : Scene) (before : World) (at : ℕ)
     item-over : i ≡ stepped k.dom z saw (Some ended.0)
     item-over = here.item ∙ ap (stepped k.dom z saw) ended.1
 
-    module _ (types : List (List ℕ)) (j : Course) (seen : Seen) (old mid new : World) (led : Led) (made : IsMade s h k i o seen old.ground.tables.items old.ground.pages.items)
+    module _ (types : List (List ℕ)) (j : Course) (seen : Seen) (old mid new : World) (led : Led) (made : HasStepped s h k i o seen old.ground.tables.items old.ground.pages.items)
         (set : mid.actors.items ≡ slice_set old.actors.items at m) (ground : mid.ground ≡ old.ground) (told : mid.told ≡ old.told) where
       tables-then : new.ground ≡ mid.ground → TablesShow s (i ∷ h) new.ground.tables.items
       tables-then e = subst (λ (g : Ground). TablesShow s (i ∷ h) g.tables.items) (sym (e ∙ ground)) made.tables_show
@@ -424,7 +429,7 @@ module _ (s : Setting) (h : History) (scene : Scene) (before : World) (at : ℕ)
       becomes-then b e = e ∙ ap (λ (xs : List Actor). slice_set xs at b) set ∙ set-again old.actors.items at m b
 
       line-ends : (line : ℕ) (call : ScriptCall) (lost : Option Handle) → IsOfTask tasks a.next k.dom line call o.task → IsOfLine k.dom call lost c → k.held ≡ handles_at h k.dom → maps_answered_at h k.dom.0 + 1 ≤ a.next
-          → j ≡ course_after types line call lost k i.answer → (t : Task) → t.dom ≡ k.dom → t.line ≡ line → t.deed ≡ Do call → Closes (i ∷ h) types t o.step v m mid new at led → TicksTo s (i ∷ h) tasks k j old new at led
+          → j ≡ course_after types line call lost k i.answer → (t : Task) → t.dom ≡ k.dom → t.line ≡ line → t.deed ≡ Do call → Closes (i ∷ h) types t o.step v m mid new at led → TicksAsRun s (i ∷ h) tasks k j old new at led
       line-ends line call lost task said all few leads t dom line-is deed x =
           let j-is : j ≡ course_answered types line call lost k ended.0 = leads ∙ ap (course_after types line call lost k) ended.1 in
           let tells : TellsEnd (stepped k.dom z saw (Some ended.0) ∷ h) z v x.answer = subst (λ (y : Item). TellsEnd (y ∷ h) z v x.answer) item-over
@@ -437,13 +442,13 @@ module _ (s : Setting) (h : History) (scene : Scene) (before : World) (at : ℕ)
             actor = x.actor;
             becomes = becomes-then x.actor x.becomes;
             shows = subst (λ (y : Course). ShowsCalls s (i ∷ h) tasks y x.actor) (sym j-is) (subst (λ (y : Item). ShowsCalls s (y ∷ h) tasks (course_answered types line call lost k ended.0) x.actor) (sym item-over)
-                (line-shows types line call lost said all few ended.0 ended.2 x.actor (subst (λ (l : Option (List ℕ)). IsClosed l v m x.actor) (ap label_in deed) x.closed)));
+                (line-shows types line call lost said all few ended.0 ended.2 x.actor (subst (λ (l : Option (List ℕ)). CallIsOver l v m x.actor) (ap label_given_by deed) x.closed)));
             tables = tables-then x.ground;
             pages = pages-then x.ground;
             told = x.told ∙ told;
           }
 
-      back-ends : (x : Handle) → c.request ≡ Unmap x → k.held ≡ handles_without x (handles_at h k.dom) → j ≡ back_after k i.answer → ClosesBack v m mid new at led → TicksTo s (i ∷ h) tasks k j old new at led
+      back-ends : (x : Handle) → c.request ≡ Unmap x → k.held ≡ handles_without x (handles_at h k.dom) → j ≡ back_after k i.answer → ClosesBack v m mid new at led → TicksAsRun s (i ∷ h) tasks k j old new at led
       back-ends x asks held leads y =
           let j-is : j ≡ record k { opened = resting } = leads ∙ ap (back_after k) ended.1 in
           record {
@@ -459,11 +464,11 @@ module _ (s : Setting) (h : History) (scene : Scene) (before : World) (at : ℕ)
 
   -- by whatever is open
   pub call-over : (types : List (List ℕ)) (j : Course) (seen : Seen) (old mid new : World) (result : Result Led SearchFault) (v : Verdict) (m : Actor) → next_in s h k.dom c saw ≡ Some (Done v) → m.next ≡ a.next → m.mappings.items ≡ mappings_after o.step a.mappings.items
-      → IsMade s h k i o seen old.ground.tables.items old.ground.pages.items → mid.actors.items ≡ slice_set old.actors.items at m → mid.ground ≡ old.ground → mid.told ≡ old.told → TickLeads types k k.opened i j
+      → HasStepped s h k i o seen old.ground.tables.items old.ground.pages.items → mid.actors.items ≡ slice_set old.actors.items at m → mid.ground ≡ old.ground → mid.told ≡ old.told → TickLeads types k k.opened i j
       → ((place : ℕ) (t : Task) → o.task ≡ Some place → slice_get tasks place ≡ Some t → IfOk result (Closes (i ∷ h) types t o.step v m mid new at))
-      → (o.task ≡ None → IfOk result (ClosesBack v m mid new at)) → IfOk result (TicksTo s (i ∷ h) tasks k j old new at)
+      → (o.task ≡ None → IfOk result (ClosesBack v m mid new at)) → IfOk result (TicksAsRun s (i ∷ h) tasks k j old new at)
   call-over types j seen old mid new result v m ends next_m maps_m made set ground told leads line back = by k.opened refl here.shows leads where
-    by : (opened : Opened) → k.opened ≡ opened → ShowsOpen s h tasks k a.next opened (Some c) (Some o) → TickLeads types k opened i j → IfOk result (TicksTo s (i ∷ h) tasks k j old new at)
+    by : (opened : Opened) → k.opened ≡ opened → ShowsOpen s h tasks k a.next opened (Some c) (Some o) → TickLeads types k opened i j → IfOk result (TicksAsRun s (i ∷ h) tasks k j old new at)
     by resting e shown led = absurd shown
     by (calling number call lost) e shown led = let task = shown.1 in
         IfOk-weaker result _ _ (λ x closes. line-ends v ends m next_m maps_m types j seen old mid new x made set ground told number call lost shown.1 shown.2 shown.3

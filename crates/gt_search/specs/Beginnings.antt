@@ -21,7 +21,7 @@ pub record BeginsAlike (one other : CallerKnowledge) (dom : DomId) (request : Re
   pub first : first_phase one dom (asked request) ≡ first_phase other dom (asked request)
 
 -- the call is open: no rule stood at its beginning, and this is its first step
-pub record IsOpened (k : CallerKnowledge) (dom : DomId) (request : Request) (call : Call) (step : Step) : Type 0 where
+pub record OpensAsRun (k : CallerKnowledge) (dom : DomId) (request : Request) (call : Call) (step : Step) : Type 0 where
   pub unanswered : begun_of k dom request ≡ None
   pub said : IsSaid k.header request
   pub caller : call.caller ≡ dom
@@ -31,5 +31,5 @@ pub record IsOpened (k : CallerKnowledge) (dom : DomId) (request : Request) (cal
 
 -- a call begins so: it is open, or over by the first rule that stands at its beginning
 abbrev pub OpensSo : CallerKnowledge → DomId → Request → Opened → Type 0
-OpensSo k dom request (Open call step) = IsOpened k dom request call step
+OpensSo k dom request (Open call step) = OpensAsRun k dom request call step
 OpensSo k dom request (Done verdict) = begun_of k dom request ≡ Some verdict

@@ -2,34 +2,20 @@
 -- are the places of mappings.
 use Rattle.std.specs.Prelude.{◌≡◌, ◌≤◌, ◌+◌, ◌↔◌, ℕ, suc, List, [], ◌∷◌, length, map, drop, Option, Some, None}
 use Rattle.std.specs.Prelude.{slice_get}
-use Rattle.gt_types.specs.declared.DomId.{DomId}
-use Rattle.gt_handles.specs.Handles.{HandleMap}
-use Rattle.gt_handles.specs.declared.handles.Handle.{Handle}
-use Rattle.gt_calls.specs.declared.action.Action.TheVariants.{Step as Makes}
-use Rattle.gt_calls.specs.declared.held.Held.{Held}
-use Rattle.gt_calls.specs.declared.request.Asked.{Asked}
-use Rattle.gt_calls.specs.declared.request.Asked.TheVariants.{Unmap, Load, Store}
-use Rattle.gt_calls.specs.declared.request.Request.{Request}
-use Rattle.gt_calls.specs.Asking.{asked, bytes_given_by}
-use Rattle.gt_calls.specs.Path.{path}
-use Rattle.gt_calls.specs.Rules.{CallerKnowledge, entry_in, knowledge_of, own_generation}
-use Rattle.gt_calls.specs.Standing.{IsAt}
-use Rattle.gt_core.specs.History.{History, Setting, Underway, entry_at, generation_at, known_at, mappings_at}
-use Rattle.gt_core.specs.History.{maps_answered_at, open_call, table_at, values}
-use Rattle.gt_host.specs.Rights.{may_by}
-use Rattle.gt_host.specs.Runs.{Named, SaysRequest, handle_named}
-use Rattle.gt_lines.specs.declared.calls.ScriptCall.{ScriptCall}
-use Rattle.gt_replay.specs.Courses.{Course, Opened, resting, calling, giving}
-use Rattle.gt_replay.specs.Orders.{given_up, handles_without}
-use Rattle.gt_script.specs.Lists.{Task}
-use Rattle.gt_script.specs.declared.tasks.DeedBy.TheVariants.{Do}
-use Rattle.gt_search.specs.Mappings.{labels_of, pins_of}
+use Rattle.gt_search.specs.Prelude.{DomId, HandleMap, Handle, Makes, Held, Asked, Load, Store, Request, asked}
+use Rattle.gt_search.specs.Prelude.{bytes_given_by, path, CallerKnowledge, entry_in, knowledge_of, own_generation, IsAt}
+use Rattle.gt_search.specs.Prelude.{History, Setting, Underway, entry_at, generation_at, known_at, mappings_at}
+use Rattle.gt_search.specs.Prelude.{maps_answered_at, open_call, table_at, values, may_by, Named, SaysRequest}
+use Rattle.gt_search.specs.Prelude.{handle_named, ScriptCall, Course, resting, calling, giving, given_up}
+use Rattle.gt_search.specs.Prelude.{handles_without, Task, Do, Table}
+use Rattle.gt_calls.specs.declared.request.Asked.TheVariants.{Unmap}
+use Rattle.gt_replay.specs.Courses.{Opened}
+use Rattle.gt_search.specs.Mappings.{labels_of, mapping_pins}
 use Rattle.gt_search.specs.Placing.{pin_by_place}
 use Rattle.gt_search.specs.Renaming.{asked_under}
 use Rattle.gt_search.specs.declared.actor.Actor.{Actor}
 use Rattle.gt_search.specs.declared.actor.Open.{Open}
 use Rattle.gt_search.specs.declared.scene.Scene.{Scene}
-use Rattle.gt_world.specs.declared.table.Table.{Table}
 
 -- what a domain of a state knows, if these are its mappings by their handles
 abbrev pub known_in : Scene → Table → HandleMap Held → CallerKnowledge
@@ -54,8 +40,8 @@ no_mappings = record { slots = []; given = 0; room = 0 }
 abbrev pub handles_at : History → DomId → List Handle
 handles_at h d = map (λ (m : Handle × Held). m.0) (mappings_at h d.0)
 
-abbrev pub pins_at : History → DomId → List Held
-pins_at h d = map (λ (m : Handle × Held). m.1) (mappings_at h d.0)
+abbrev pub pins_mapped_at : History → DomId → List Held
+pins_mapped_at h d = map (λ (m : Handle × Held). m.1) (mappings_at h d.0)
 
 -- the serials rise, from this number on and up to that one
 abbrev pub Rise : ℕ → List Handle → ℕ → Type 0
@@ -72,7 +58,7 @@ LabelsShow named d handles labels =
 
 -- what a domain knows by what happened, with the places of its mappings as the serials of their handles
 abbrev pub known_by_place : Setting → History → DomId → CallerKnowledge
-known_by_place s h d = record (known_at s h d) { mapping = pin_by_place (pins_at h d); maps_answered = 0 }
+known_by_place s h d = record (known_at s h d) { mapping = pin_by_place (pins_mapped_at h d); maps_answered = 0 }
 
 -- what is asked through a mapping is asked by the handle whose serial is its place
 abbrev pub AsksByPlace : List Handle → Handle → Asked → Type 0
@@ -137,6 +123,6 @@ pub record ShowsCalls (s : Setting) (h : History) (tasks : List Task) (k : Cours
   pub begun : a.next ≤ length tasks
   pub few : maps_answered_at h k.dom.0 + tasks_open k.opened ≤ a.next
   pub rising : Rise 0 (handles_at h k.dom) (maps_answered_at h k.dom.0)
-  pub pins : pins_of a.mappings.items ≡ pins_at h k.dom
+  pub pins : mapping_pins a.mappings.items ≡ pins_mapped_at h k.dom
   pub labels : LabelsShow k.named k.dom (handles_at h k.dom) (labels_of a.mappings.items)
   pub opens : ShowsOpen s h tasks k a.next k.opened (open_call h k.dom.0) a.«open»

@@ -23,18 +23,18 @@ pub record SameKnown (s : Setting) (h g : History) (d : DomId) : Type 0 where
   pub known : known_at s g d ≡ known_at s h d
 
 -- the entry is being granted
-abbrev pub IsStoring : Phase → Type 0
-IsStoring (Storing gref entry) = Unit {0}
-IsStoring (StoringSecond gref entry) = Unit {0}
-IsStoring phase = ⊥
+abbrev pub IsGranting : Phase → Type 0
+IsGranting (Storing gref entry) = Unit {0}
+IsGranting (StoringSecond gref entry) = Unit {0}
+IsGranting phase = ⊥
 
 -- as far as what is left to do of this call asks for it, the domain knows in the state what it knew by what happened: its
 -- own entries only while one is being granted
 pub record StillKnows (s : Setting) (h : History) (d : DomId) (scene : Scene) (t : Table) (call : Call) : Type 0 where
   pub domains : scene.roster.domains.items ≡ s.domains
   pub may : may_by scene.rights ≡ s.may
-  pub entries : (p : Phase) → call.phase ≡ Some p → IsStoring p → entry_in t.own.items ≡ (λ r. entry_at h d.0 r)
-  pub generations : (p : Phase) → call.phase ≡ Some p → IsStoring p
+  pub entries : (p : Phase) → call.phase ≡ Some p → IsGranting p → entry_in t.own.items ≡ (λ r. entry_at h d.0 r)
+  pub generations : (p : Phase) → call.phase ≡ Some p → IsGranting p
       → own_generation scene.roster.first_gen t.own.items ≡ (λ r. generation_at s h d.0 r)
 
 -- the call of the run with this step too

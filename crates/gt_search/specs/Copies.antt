@@ -1,6 +1,6 @@
 -- States of a search once more, and domains at the start.
 use Rattle.std.specs.Prelude.{◌≡◌, List, [], ◌∷◌, None}
-use Rattle.gt_search.specs.Mappings.{labels_of, pins_of}
+use Rattle.gt_search.specs.Mappings.{labels_of, mapping_pins}
 use Rattle.gt_search.specs.declared.actor.Actor.{Actor}
 use Rattle.gt_search.specs.declared.scene.World.{World}
 use Rattle.gt_world.specs.Copies.{SamePages, SameTables}
@@ -14,7 +14,7 @@ pub record IsFirstActor (a : Actor) : Type 0 where
 -- the other domain is as far, with the same mappings under the same labels, and the same call open
 pub record SameActor (one other : Actor) : Type 0 where
   pub next : other.next ≡ one.next
-  pub pins : pins_of other.mappings.items ≡ pins_of one.mappings.items
+  pub pins : mapping_pins other.mappings.items ≡ mapping_pins one.mappings.items
   pub labels : labels_of other.mappings.items ≡ labels_of one.mappings.items
   pub open_call : other.«open» ≡ one.«open»
 

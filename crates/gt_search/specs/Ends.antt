@@ -1,5 +1,6 @@
 -- Which domains of a state are at the ends of their lists, and which moves the domains have.
-use Rattle.std.specs.Prelude.{◌≡◌, ◌++◌, ◌&&◌, ◌==◌, not, nat_le, Bool, if◌then◌else◌, ℕ, suc, List, [], ◌∷◌, length, map}
+use Rattle.std.specs.Prelude.{◌≡◌, ◌++◌, ◌&&◌, ◌==◌, not, nat_le, Bool, if◌then◌else◌, ℕ, suc, List, [], ◌∷◌, length}
+use Rattle.std.specs.Prelude.{map}
 use Rattle.std.specs.Prelude.{is_some, true, Some, slice_get, get_or}
 use Rattle.std.specs.List.{range_with_len}
 use Rattle.gt_replay.specs.declared.replay.Turn.{Turn}

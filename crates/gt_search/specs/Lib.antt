@@ -5,6 +5,7 @@ pub mod Copies
 pub mod Ends
 pub mod Mappings
 pub mod Placing
+pub mod Prelude
 pub mod Renaming
 pub mod Scenes
 pub mod Spaces

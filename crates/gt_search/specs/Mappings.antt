@@ -8,16 +8,16 @@ use Rattle.gt_calls.specs.declared.request.Holder.TheVariants.{Mapping as ByHand
 use Rattle.gt_search.specs.declared.actor.Mapping.{Mapping}
 
 -- the bytes of a label, if there is one
-abbrev pub said : Option (Bor (List ℕ)) → Option (List ℕ)
-said label = option_map (λ l. l.now) label
+abbrev pub label_bytes : Option (Bor (List ℕ)) → Option (List ℕ)
+label_bytes label = option_map (λ l. l.now) label
 
 -- the labels of these mappings
 abbrev pub labels_of : List Mapping → List (Option (List ℕ))
-labels_of ms = map (λ m. said m.label) ms
+labels_of ms = map (λ m. label_bytes m.label) ms
 
 -- their pins
-abbrev pub pins_of : List Mapping → List Held
-pins_of ms = map (λ m. m.held) ms
+abbrev pub mapping_pins : List Mapping → List Held
+mapping_pins ms = map (λ m. m.held) ms
 
 -- a label, unless it is the one given to another mapping
 abbrev pub unless_given : Option (List ℕ) → Option (List ℕ) → Option (List ℕ)

@@ -6,7 +6,7 @@ use Rattle.gt_handles.specs.Listing.{HasJust}
 use Rattle.gt_calls.specs.declared.held.Held.{Held}
 use Rattle.gt_host.specs.Naming.{AreNamed}
 use Rattle.gt_host.specs.Runs.{Named, with_name}
-use Rattle.gt_search.specs.Mappings.{labels_of, pins_of}
+use Rattle.gt_search.specs.Mappings.{labels_of, mapping_pins}
 use Rattle.gt_search.specs.declared.actor.Mapping.{Mapping}
 use Rattle.gt_search.specs.declared.names.Names.{Names}
 
@@ -16,23 +16,23 @@ CountFrom n [] = Unit {0}
 CountFrom n (handle ∷ more) = (handle.serial ≡ n) × CountFrom (suc n) more
 
 -- what these labels name, if these are the handles of their mappings: with what was named before, the last one first
-abbrev pub names_with : DomId → List Handle → List (Option (List ℕ)) → List Named → List Named
-names_with dom (handle ∷ handles) (label ∷ labels) named =
-    names_with dom handles labels (with_name named dom label (Some handle))
-names_with dom handles labels named = named
+abbrev pub place_names_after : DomId → List Handle → List (Option (List ℕ)) → List Named → List Named
+place_names_after dom (handle ∷ handles) (label ∷ labels) named =
+    place_names_after dom handles labels (with_name named dom label (Some handle))
+place_names_after dom handles labels named = named
 
 -- the same, with nothing named before
-abbrev pub names_in : DomId → List Handle → List (Option (List ℕ)) → List Named
-names_in dom handles labels = names_with dom handles labels []
+abbrev pub place_names : DomId → List Handle → List (Option (List ℕ)) → List Named
+place_names dom handles labels = place_names_after dom handles labels []
 
 -- each of these mappings has a handle whose serial is its place, by which its pin is found, and which its label names
 pub record ArePlaced (dom : DomId) (mappings : List Mapping) (n : Names) : Type 0 where
   pub pairs : List (Handle × Held)
   pub kept : HasJust n.mappings pairs (length mappings)
-  pub pins : map (λ (m : Handle × Held). m.1) pairs ≡ pins_of mappings
+  pub pins : map (λ (m : Handle × Held). m.1) pairs ≡ mapping_pins mappings
   pub handles : map (λ (m : Handle × Held). m.0) pairs ≡ n.handles.items
   pub places : CountFrom 0 n.handles.items
-  pub labels : AreNamed n.labels (names_in dom n.handles.items (labels_of mappings))
+  pub labels : AreNamed n.labels (place_names dom n.handles.items (labels_of mappings))
 
 -- the pin of the mapping whose place is the serial of this handle
 abbrev pub pin_by_place : List Held → Handle → Option Held

@@ -1,25 +1,15 @@
 -- When a state of a search shows a run of a script that has come some way.
 use Rattle.std.specs.Prelude.{◌≡◌, ◌++◌, ℕ, true, List, [], ◌∷◌, length, map, Some, slice_get, slice_set}
-use Rattle.gt_types.specs.Config.{IsWithinLimits}
-use Rattle.gt_core.specs.History.{History}
-use Rattle.gt_host.specs.Playing.{setting_of_script}
-use Rattle.gt_host.specs.Rights.{may_by, may_in}
-use Rattle.gt_replay.specs.Abreast.{CanComeNext, HaveAnswered, WereAnswered, history_in}
-use Rattle.gt_replay.specs.Courses.{Course, CourseLeads}
-use Rattle.gt_replay.specs.Orders.{Happening, IsRaisedBefore}
-use Rattle.gt_script.specs.Contents.{type_names}
-use Rattle.gt_script.specs.RunContents.{RunContents}
-use Rattle.gt_script.specs.RunScripts.{list_of}
-use Rattle.gt_script.specs.Stuck.{AreNumbered}
+use Rattle.gt_search.specs.Prelude.{IsWithinLimits, History, setting_of_script, may_by, may_in, CanComeNext}
+use Rattle.gt_search.specs.Prelude.{HaveAnswered, WereAnswered, history_in, Course, CourseLeads, Happening}
+use Rattle.gt_search.specs.Prelude.{IsRaisedBefore, type_names, RunContents, list_of, AreNumbered, Led, IsLikeReached}
+use Rattle.gt_search.specs.Prelude.{IsSettingOf, PagesShow, TablesShow}
 use Rattle.gt_search.specs.Calls.{ShowsCalls}
 use Rattle.gt_search.specs.Ends.{tasks_at}
 use Rattle.gt_search.specs.Starting.{Grows}
 use Rattle.gt_search.specs.declared.actor.Actor.{Actor}
-use Rattle.gt_ways.specs.declared.spaces.Led.{Led}
 use Rattle.gt_search.specs.declared.scene.Scene.{Scene}
 use Rattle.gt_search.specs.declared.scene.World.{World}
-use Rattle.gt_world.specs.Likeness.{IsLikeReached}
-use Rattle.gt_world.specs.Shows.{IsSettingOf, PagesShow, TablesShow}
 
 -- what all states have in common is of this script
 pub record IsSceneOf (c : RunContents) (scene : Scene) : Type 0 where
@@ -38,7 +28,7 @@ pub record WasAnsweredAll (h : History) (k : Course) : Type 0 where
   pub held : WereAnswered h k.dom.0 k.held
 
 -- the state shows a run of the script in which this happened, with its domains at these points of their courses
-pub record Shows (c : RunContents) (scene : Scene) (hs : List Happening) (ks : List Course) (w : World) : Type 0 where
+pub record SceneShows (c : RunContents) (scene : Scene) (hs : List Happening) (ks : List Course) (w : World) : Type 0 where
   pub domains : map (λ k. k.dom) ks ≡ map (λ d. d.id) c.head.domains
   pub many : length w.actors.items ≡ length ks
   pub each : (at : ℕ) (k : Course) (a : Actor) → slice_get ks at ≡ Some k → slice_get w.actors.items at ≡ Some a
@@ -55,6 +45,6 @@ pub record Shows (c : RunContents) (scene : Scene) (hs : List Happening) (ks : L
 abbrev pub MovesAlong : Scene → ℕ → ℕ → World → Led → World → Type 0
 MovesAlong scene place choice old led new =
     (c : RunContents) (hs : List Happening) (ks : List Course) (k j : Course) (x : Happening)
-    → IsSceneOf c scene → Shows c scene hs ks old → slice_get ks place ≡ Some k
+    → IsSceneOf c scene → SceneShows c scene hs ks old → slice_get ks place ≡ Some k
     → CourseLeads (type_names c.head) k choice x j → CanComeNext (setting_of_script c.head) hs x
-    → Grows led k.text j.text × Shows c scene (hs ++ x ∷ []) (slice_set ks place j) new
+    → Grows led k.text j.text × SceneShows c scene (hs ++ x ∷ []) (slice_set ks place j) new

@@ -9,7 +9,7 @@ use Rattle.gt_replay.specs.Orders.{Happening, MayGive}
 use Rattle.gt_replay.specs.declared.replay.Turn.{Turn}
 use Rattle.gt_script.specs.Contents.{type_names}
 use Rattle.gt_script.specs.RunContents.{RunContents}
-use Rattle.gt_search.specs.Scenes.{IsSceneOf, Shows}
+use Rattle.gt_search.specs.Scenes.{IsSceneOf, SceneShows}
 use Rattle.gt_search.specs.declared.scene.Scene.{Scene}
 use Rattle.gt_search.specs.declared.scene.World.{World}
 use Rattle.gt_ways.specs.Ways.{Ways}
@@ -30,7 +30,7 @@ pub record BeginsAt (scene : Scene) (p : Point) : Type 0 where
 
 -- by this turn a run comes from here to there: the domain at its place goes on with its choice, by a happening that may
 -- come next
-pub record LeadsTo (p : Point) (turn : Turn) (q : Point) : Type 0 where
+pub record RunComesTo (p : Point) (turn : Turn) (q : Point) : Type 0 where
   pub script : q.script ≡ p.script
   pub k : Course
   pub j : Course
@@ -64,10 +64,10 @@ scene_ways scene = record {
   Point = Point;
   domains = length scene.roster.domains.items;
   begins = BeginsAt scene;
-  next = LeadsTo;
+  next = RunComesTo;
   ends = λ p. AllCoursesEnd p.courses;
   printed = λ p. printed_by p.courses;
-  shows = λ w p. IsSceneOf p.script scene × Shows p.script scene p.happened p.courses w;
+  shows = λ w p. IsSceneOf p.script scene × SceneShows p.script scene p.happened p.courses w;
   blank = begins_blank scene;
 }
 

@@ -1,25 +1,14 @@
 -- How the call of a line begins in a state: as in the run.
 use Rattle.std.specs.Prelude.{◌≡◌, ◌++◌, ◌+◌, ℕ, suc, take, drop, List, ◌∷◌, Option, Some, None, slice_set}
-use Rattle.gt_types.specs.declared.DomId.{DomId}
-use Rattle.gt_handles.specs.declared.handles.Handle.{Handle}
-use Rattle.gt_calls.specs.declared.action.Step.{Step}
-use Rattle.gt_calls.specs.declared.call.Call.{Call}
-use Rattle.gt_calls.specs.declared.request.Request.{Request}
+use Rattle.gt_search.specs.Prelude.{DomId, Handle, Step, Call, Request, asked, begun_of, History, Setting, known_at}
+use Rattle.gt_search.specs.Prelude.{ScriptCall, Course, resting, Task, Do, Led, Answered, Nowhere, On}
 use Rattle.gt_calls.specs.declared.request.Request.TheVariants.{Unmap}
-use Rattle.gt_calls.specs.Asking.{asked, begun_of}
-use Rattle.gt_core.specs.History.{History, Setting, known_at}
-use Rattle.gt_lines.specs.declared.calls.ScriptCall.{ScriptCall}
-use Rattle.gt_replay.specs.Courses.{Course, resting}
-use Rattle.gt_script.specs.Lists.{Task}
-use Rattle.gt_script.specs.declared.tasks.DeedBy.TheVariants.{Do}
-use Rattle.gt_search.specs.Beginnings.{IsOpened}
+use Rattle.gt_search.specs.Beginnings.{OpensAsRun}
 use Rattle.gt_search.specs.Calls.{AsksByPlace, ShowsCalls, handles_at, known_by_place}
 use Rattle.gt_search.specs.Renaming.{asked_under}
 use Rattle.gt_search.specs.declared.actor.Actor.{Actor}
 use Rattle.gt_search.specs.declared.calls.Opening.{Opening as Opened}
 use Rattle.gt_search.specs.declared.calls.Opening.TheVariants.{Open, Done}
-use Rattle.gt_ways.specs.declared.spaces.Led.{Led}
-use Rattle.gt_ways.specs.declared.spaces.Led.TheVariants.{Answered, Nowhere, On}
 use Rattle.gt_search.specs.declared.scene.World.{World}
 
 -- a call began in a state as this request begins in the run: over, with the same verdict; or open, if it asks the same
@@ -29,7 +18,7 @@ BeginsAsRun s h d q (Done verdict) = begun_of (known_at s h d) d q ≡ Some verd
 BeginsAsRun s h d q (Open call step) =
     (begun_of (known_at s h d) d q ≡ None)
     × ((p : Request) × (place : Handle) × (asked p ≡ asked_under place (asked q))
-    × AsksByPlace (handles_at h d) place (asked q) × IsOpened (known_by_place s h d) d p call step)
+    × AsksByPlace (handles_at h d) place (asked q) × OpensAsRun (known_by_place s h d) d p call step)
 
 -- an unmap of the mapping at this place began in a state as that of this handle begins in the run: over, with the same
 -- verdict; or open, by a handle whose serial is the place
@@ -38,7 +27,7 @@ GivesAsRun s h d handle choice None = ⊥
 GivesAsRun s h d handle choice (Some (Done verdict)) = begun_of (known_at s h d) d (Unmap handle) ≡ Some verdict
 GivesAsRun s h d handle choice (Some (Open call step)) =
     (begun_of (known_at s h d) d (Unmap handle) ≡ None)
-    × ((place : Handle) × (place.serial ≡ choice) × IsOpened (known_by_place s h d) d (Unmap place) call step)
+    × ((place : Handle) × (place.serial ≡ choice) × OpensAsRun (known_by_place s h d) d (Unmap place) call step)
 
 -- a domain whose next task began with this call, and has this step to make
 abbrev pub opened_actor : Actor → Call → Step → Actor
@@ -78,7 +67,7 @@ pub record IsNextCall (k : Course) (t : Task) (ts : List Task) (call : ScriptCal
 
 -- by a move of the domain at this place the state comes to where this history brings the domain on its course, and its
 -- table stays as it was
-pub record MovesTo (s : Setting) (h : History) (tasks : List Task) (a : Actor) (k j : Course) (old new : World)
+pub record MovesAsRun (s : Setting) (h : History) (tasks : List Task) (a : Actor) (k j : Course) (old new : World)
     (at : ℕ) (led : Led) : Type 0 where
   pub grows : Grows led k.text j.text
   pub actor : Actor

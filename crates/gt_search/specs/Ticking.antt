@@ -1,43 +1,22 @@
 -- How the open call of a domain makes its next step in a state: as in the run.
 use Rattle.std.specs.Prelude.{◌≡◌, ◌+◌, ◌≤◌, ◌++◌, ℕ, List, [], ◌∷◌, take, drop, Option, Some, None}
 use Rattle.std.specs.Prelude.{slice_get, slice_set}
-use Rattle.gt_types.specs.declared.config.DomainConfig.{DomainConfig}
-use Rattle.gt_types.specs.declared.limits.TheConstants.{FRAME_SIZE}
-use Rattle.gt_calls.specs.declared.action.Seen.{Seen}
-use Rattle.gt_calls.specs.declared.action.Step.{Step}
-use Rattle.gt_calls.specs.declared.action.Step.TheVariants.{Read as ReadBytes, Unpin}
-use Rattle.gt_calls.specs.declared.action.Verdict.{Verdict}
-use Rattle.gt_calls.specs.declared.action.Verdict.TheVariants.{Granted, Mapped as KeptPin}
-use Rattle.gt_core.specs.Acting.{answer_of}
-use Rattle.gt_core.specs.History.{History, Setting, contents_at, seen_by}
-use Rattle.gt_core.specs.Legal.{IsItemOf, IsRight}
-use Rattle.gt_core.specs.declared.trace.Answer.{Answer}
-use Rattle.gt_core.specs.declared.trace.Answer.TheVariants.{Bytes as BytesAnswer}
-use Rattle.gt_core.specs.declared.trace.Bytes.{Bytes}
-use Rattle.gt_core.specs.declared.trace.Event.TheVariants.{Tick}
-use Rattle.gt_core.specs.declared.trace.Item.{Item}
-use Rattle.gt_host.specs.Printing.{answer_line}
-use Rattle.gt_host.specs.Rights.{may_by}
-use Rattle.gt_host.specs.Runs.{bytes_said, label_given}
-use Rattle.gt_replay.specs.Abreast.{HaveAnswered}
-use Rattle.gt_replay.specs.Courses.{Course, IsDoneIf, Opened, back_after, calling, course_after, giving, resting}
-use Rattle.gt_script.specs.Lists.{Deed, Task}
-use Rattle.gt_script.specs.declared.tasks.DeedBy.TheVariants.{Do}
+use Rattle.gt_search.specs.Prelude.{DomainConfig, FRAME_SIZE, Seen, Step, ReadBytes, Unpin, Verdict, Granted, KeptPin}
+use Rattle.gt_search.specs.Prelude.{answer_of, History, Setting, contents_at, seen_by, IsItemOf, IsRight, Answer}
+use Rattle.gt_search.specs.Prelude.{BytesAnswer, Bytes, Tick, Item, answer_line, may_by, bytes_said, label_given}
+use Rattle.gt_search.specs.Prelude.{HaveAnswered, Course, IsDoneIf, back_after, calling, course_after, giving, resting}
+use Rattle.gt_search.specs.Prelude.{Deed, Task, Do, Led, On, IsLikeReached, IsSettingOf, PagesShow, TablesShow, Page}
+use Rattle.gt_search.specs.Prelude.{Table}
+use Rattle.gt_replay.specs.Courses.{Opened}
 use Rattle.gt_search.specs.Calls.{ShowsCalls}
 use Rattle.gt_search.specs.Ends.{tasks_at}
-use Rattle.gt_search.specs.Mappings.{apart_from, given_back, labels_of, pins_of}
+use Rattle.gt_search.specs.Mappings.{apart_from, given_back, labels_of, mapping_pins}
 use Rattle.gt_search.specs.Starting.{Grows, PrintsLine}
 use Rattle.gt_search.specs.declared.actor.Actor.{Actor}
 use Rattle.gt_search.specs.declared.actor.Mapping.{Mapping}
 use Rattle.gt_search.specs.declared.actor.Open.{Open}
 use Rattle.gt_search.specs.declared.scene.Scene.{Scene}
 use Rattle.gt_search.specs.declared.scene.World.{World}
-use Rattle.gt_ways.specs.declared.spaces.Led.{Led}
-use Rattle.gt_ways.specs.declared.spaces.Led.TheVariants.{On}
-use Rattle.gt_world.specs.Likeness.{IsLikeReached}
-use Rattle.gt_world.specs.Shows.{IsSettingOf, PagesShow, TablesShow}
-use Rattle.gt_world.specs.declared.pages.Page.{Page}
-use Rattle.gt_world.specs.declared.table.Table.{Table}
 
 -- the state shows this history, and the domain at this place is where the history has brought it on this course
 pub record ShowsAt (s : Setting) (h : History) (scene : Scene) (w : World) (at : ℕ) (k : Course) (a : Actor)
@@ -61,7 +40,7 @@ TickLeads types k (calling line call lost) i j = j ≡ course_after types line c
 TickLeads types k giving i j = IsDoneIf i.answer × (j ≡ back_after k i.answer)
 
 -- by a step of the domain at this place the state comes to where this history brings the domain on its course
-pub record TicksTo (s : Setting) (h : History) (tasks : List Task) (k j : Course) (old new : World) (at : ℕ) (led : Led)
+pub record TicksAsRun (s : Setting) (h : History) (tasks : List Task) (k j : Course) (old new : World) (at : ℕ) (led : Led)
     : Type 0 where
   pub grows : Grows led k.text j.text
   pub actor : Actor
@@ -88,9 +67,9 @@ task_in tasks None = None
 task_in tasks (Some place) = slice_get tasks place
 
 -- the label to which a task gives its mapping
-abbrev pub label_in : Deed → Option (List ℕ)
-label_in (Do call) = label_given call
-label_in deed = None
+abbrev pub label_given_by : Deed → Option (List ℕ)
+label_given_by (Do call) = label_given call
+label_given_by deed = None
 
 -- the step
 
@@ -108,7 +87,7 @@ pub record IsTick (s : Setting) (h : History) (scene : Scene) (before : World) (
   pub right : IsRight s h i
 
 -- the step saw this, and these tables and pages show what has happened with it
-pub record IsMade (s : Setting) (h : History) (k : Course) (i : Item) (o : Open) (seen : Seen) (tables : List Table)
+pub record HasStepped (s : Setting) (h : History) (k : Course) (i : Item) (o : Open) (seen : Seen) (tables : List Table)
     (pages : List Page) : Type 0 where
   pub saw : seen ≡ seen_by s h k.dom o.step
   pub tables_show : TablesShow s (i ∷ h) tables
@@ -130,11 +109,11 @@ TellsEnd h step verdict answer = answer ≡ answer_of verdict
 -- with this verdict a domain has these mappings: one more after a map that is Ok, whose label names no other one
 abbrev pub MapsSo : Option (List ℕ) → Verdict → List Mapping → List Mapping → Type 0
 MapsSo label (KeptPin held) old new =
-    (pins_of new ≡ pins_of old ++ held ∷ []) × (labels_of new ≡ apart_from label (labels_of old) ++ label ∷ [])
+    (mapping_pins new ≡ mapping_pins old ++ held ∷ []) × (labels_of new ≡ apart_from label (labels_of old) ++ label ∷ [])
 MapsSo label verdict old new = new ≡ old
 
 -- the call of a domain is over with this verdict
-pub record IsClosed (label : Option (List ℕ)) (verdict : Verdict) (a b : Actor) : Type 0 where
+pub record CallIsOver (label : Option (List ℕ)) (verdict : Verdict) (a b : Actor) : Type 0 where
   pub next : b.next ≡ a.next
   pub none : b.«open» ≡ None
   pub maps : MapsSo label verdict a.mappings.items b.mappings.items
@@ -147,7 +126,7 @@ pub record Closes (h : History) (types : List (List ℕ)) (t : Task) (last : Ste
   pub prints : PrintsLine led (answer_line types t.line t.dom answer)
   pub actor : Actor
   pub becomes : new.actors.items ≡ slice_set old.actors.items at actor
-  pub closed : IsClosed (label_in t.deed) verdict a actor
+  pub closed : CallIsOver (label_given_by t.deed) verdict a actor
   pub ground : new.ground ≡ old.ground
   pub told : new.told ≡ old.told
 
@@ -157,6 +136,6 @@ pub record ClosesBack (verdict : Verdict) (a : Actor) (old new : World) (at : �
   pub granted : verdict ≡ Granted
   pub actor : Actor
   pub becomes : new.actors.items ≡ slice_set old.actors.items at actor
-  pub closed : IsClosed None verdict a actor
+  pub closed : CallIsOver None verdict a actor
   pub ground : new.ground ≡ old.ground
   pub told : new.told ≡ old.told

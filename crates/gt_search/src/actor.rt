@@ -1,6 +1,6 @@
 //! A domain in a state of the search.
 ghost use Rattle.std.specs.Prelude.{◌≡◌, ◌++◌, [], ◌∷◌, map};
-ghost use Rattle.gt_search.specs.Mappings.{labels_of, pins_of, apart_from, said, unless_given};
+ghost use Rattle.gt_search.specs.Mappings.{labels_of, mapping_pins, apart_from, label_bytes, unless_given};
 
 use gt_calls::{Call, Held, Holder, Step, Verdict};
 use std::alloc::{AllocError, Global};
@@ -34,7 +34,8 @@ pub struct Actor<'a> {
 // The mapping, without its label if that is the one given to another mapping.
 fn unless_given<'a>(mapping: Mapping<'a>, label: Option<&'a [u8]>) -> Mapping<'a>
     ensures pin { result.held ≡ mapping.entry.held }
-    ensures label { said result.label ≡ unless_given (said label.entry) (said mapping.entry.label) }
+    ensures label { label_bytes result.label
+        ≡ unless_given (label_bytes label.entry) (label_bytes mapping.entry.label) }
 {
     if mapping.label == label {
         let held = mapping.held;
@@ -46,8 +47,9 @@ fn unless_given<'a>(mapping: Mapping<'a>, label: Option<&'a [u8]>) -> Mapping<'a
 
 // None of these mappings has this label from now on.
 fn unlabel<'a>(mappings: &mut Vec<Mapping<'a>>, label: Option<&'a [u8]>)
-    ensures pins { pins_of mappings.new.items ≡ pins_of mappings.old.items }
-    ensures labels { labels_of mappings.new.items ≡ apart_from (said label.entry) (labels_of mappings.old.items) }
+    ensures pins { mapping_pins mappings.new.items ≡ mapping_pins mappings.old.items }
+    ensures labels { labels_of mappings.new.items
+        ≡ apart_from (label_bytes label.entry) (labels_of mappings.old.items) }
 {
     for mapping in mappings.as_mut_slice() {
         *mapping = unless_given(*mapping, label);
@@ -57,9 +59,9 @@ fn unlabel<'a>(mappings: &mut Vec<Mapping<'a>>, label: Option<&'a [u8]>)
 impl<'a> Actor<'a> {
     ghost use Rattle.std.specs.Prelude.{◌≡◌, ◌+◌, ◌<◌, ◌^◌, ◌++◌, [], ◌∷◌, OnOk, IfOk};
     ghost use Rattle.gt_search.specs.Starting.{giving_actor, opened_actor, passed_actor};
-    ghost use Rattle.gt_search.specs.Mappings.{labels_of, pins_of, apart_from, said, given_back};
+    ghost use Rattle.gt_search.specs.Mappings.{labels_of, mapping_pins, apart_from, label_bytes, given_back};
     ghost use Rattle.gt_search.specs.Copies.{IsFirstActor, SameActor};
-    ghost use Rattle.gt_search.specs.Ticking.{IsClosed, mappings_after};
+    ghost use Rattle.gt_search.specs.Ticking.{CallIsOver, mappings_after};
 
     /// A domain before the first task of its list.
     pub fn new(alloc: Global) -> Actor<'a>
@@ -109,9 +111,10 @@ impl<'a> Actor<'a> {
 
     /// It has a new mapping. Its label names no other one from now on.
     pub fn map(&mut self, label: Option<&'a [u8]>, held: Held) -> Result<(), AllocError>
-        ensures pins { OnOk result (pins_of self.new.mappings.items ≡ pins_of self.old.mappings.items ++ held ∷ []) }
+        ensures pins { OnOk result
+            (mapping_pins self.new.mappings.items ≡ mapping_pins self.old.mappings.items ++ held ∷ []) }
         ensures labels { OnOk result (labels_of self.new.mappings.items ≡
-            apart_from (said label.entry) (labels_of self.old.mappings.items) ++ said label.entry ∷ []) }
+            apart_from (label_bytes label.entry) (labels_of self.old.mappings.items) ++ label_bytes label.entry ∷ []) }
         ensures rest { OnOk result (self.new ≡ record self.old { mappings = self.new.mappings }) }
     {
         unlabel(&mut self.mappings, label);
@@ -144,7 +147,7 @@ impl<'a> Actor<'a> {
 
     /// Its call is over with this verdict. A mapping that it gets so has this label.
     pub fn close(&mut self, label: Option<&'a [u8]>, verdict: Verdict) -> Result<(), AllocError>
-        ensures { OnOk result (IsClosed (said label.entry) verdict self.old self.new) }
+        ensures { OnOk result (CallIsOver (label_bytes label.entry) verdict self.old self.new) }
     {
         self.open = None;
         match verdict {

@@ -7,8 +7,8 @@ ghost use Rattle.gt_core.specs.Acting.{answer_of};
 ghost use Rattle.gt_entry.specs.Entries.{IsEntry};
 ghost use Rattle.gt_host.specs.Runs.{Named, SaysRequest};
 ghost use Rattle.gt_search.specs.Ends.{choices};
-ghost use Rattle.gt_search.specs.Mappings.{said};
-ghost use Rattle.gt_search.specs.Ticking.{bytes_by, label_in};
+ghost use Rattle.gt_search.specs.Mappings.{label_bytes};
+ghost use Rattle.gt_search.specs.Ticking.{bytes_by, label_given_by};
 ghost use Rattle.gt_types.specs.declared.DomId.{DomId};
 
 use crate::actor::{Actor, Open};
@@ -58,7 +58,7 @@ fn said(alloc: Global, task: Option<&Task>) -> Result<Vec<u8>, SearchFault>
 
 // The label to which a task gives its mapping.
 fn label_of<'a>(task: &Task<'a>) -> Option<&'a [u8]>
-    ensures { said result ≡ label_in task.now.deed }
+    ensures { label_bytes result ≡ label_given_by task.now.deed }
 {
     match &task.deed {
         Deed::Do(call) => label_given(call),
@@ -103,7 +103,8 @@ impl<'s, 'a> Scene<'s, 'a> {
     ghost use Rattle.gt_types.specs.declared.config.DomainConfig.{DomainConfig};
     ghost use Rattle.gt_replay.specs.Courses.{Course, IsDoneIf, back_after, course_after, resting};
     ghost use Rattle.gt_script.specs.Lists.{Task};
-    ghost use Rattle.gt_search.specs.Starting.{BeginsAsRun, GivesAsRun, IsNextCall, MovesTo, PassesTo, PrintsLine, held_but};
+    ghost use Rattle.gt_search.specs.Starting.{BeginsAsRun, GivesAsRun, IsNextCall, MovesAsRun, PassesTo, PrintsLine};
+    ghost use Rattle.gt_search.specs.Starting.{held_but};
     ghost use Rattle.gt_calls.specs.Following.{Goes, IsLeftAlike};
     ghost use Rattle.gt_calls.specs.Rules.{CallerKnowledge, knows};
     ghost use Rattle.gt_host.specs.Rights.{may_by};
@@ -114,8 +115,8 @@ impl<'s, 'a> Scene<'s, 'a> {
     ghost use Rattle.gt_core.specs.declared.trace.Event.TheVariants.{Tick};
     ghost use Rattle.gt_core.specs.declared.trace.Item.{Item};
     ghost use Rattle.gt_search.specs.Scenes.{MovesAlong};
-    ghost use Rattle.gt_search.specs.Ticking.{Closes, ClosesBack, IsMade, IsTick, ReadsInFrame, ShowsAt, TellsEnd};
-    ghost use Rattle.gt_search.specs.Ticking.{TickLeads, TicksTo, bytes_by, task_in};
+    ghost use Rattle.gt_search.specs.Ticking.{Closes, ClosesBack, HasStepped, IsTick, ReadsInFrame, ShowsAt, TellsEnd};
+    ghost use Rattle.gt_search.specs.Ticking.{TickLeads, TicksAsRun, bytes_by, task_in};
     ghost use Rattle.gt_search.specs.declared.scene.World.{World};
     ghost use Rattle.gt_world.specs.Shows.{PagesShow};
 
@@ -208,7 +209,7 @@ impl<'s, 'a> Scene<'s, 'a> {
             ShowsCalls s h (tasks_at self.now at) k a → KnowsTable s h k.dom self.now t →
             IsNextCall k task.now ts call.now → SaysRequest k.named k.dom call.now q →
             BeginsRight s h (beginning k.dom q answer) q →
-            IfOk result (MovesTo s (beginning k.dom q answer ∷ h) (tasks_at self.now at) a k
+            IfOk result (MovesAsRun s (beginning k.dom q answer ∷ h) (tasks_at self.now at) a k
             (course_after self.now.types.items task.now.line call.now (given_up q) (record k { tasks = ts }) answer)
             world.old world.new at) }
     {
@@ -260,7 +261,7 @@ impl<'s, 'a> Scene<'s, 'a> {
             ShowsCalls s h (tasks_at self.now turn.place) k a → KnowsTable s h k.dom self.now t →
             k.opened ≡ resting → slice_get k.held turn.choice ≡ Some handle →
             BeginsRight s h (beginning k.dom (Unmap handle) answer) (Unmap handle) → IsDoneIf answer →
-            IfOk result (MovesTo s (beginning k.dom (Unmap handle) answer ∷ h) (tasks_at self.now turn.place) a k
+            IfOk result (MovesAsRun s (beginning k.dom (Unmap handle) answer ∷ h) (tasks_at self.now turn.place) a k
             (back_after (held_but k turn.choice) answer) world.old world.new turn.place) }
     {
         let Some(domain) = self.roster.config().domains.get(turn.place) else {
@@ -297,7 +298,7 @@ impl<'s, 'a> Scene<'s, 'a> {
     fn make(&self, ground: &mut Ground, at: usize, open: Open) -> Result<Seen, SearchFault>
         ensures { (s : Setting) (h : History) (before : World) (k : Course) (a : Actor) (i : Item) →
             IsTick s h self.now before at k a «open» i → ground.old ≡ before.ground →
-            IfOk result (λ seen. IsMade s h k i «open» seen ground.new.tables.items ground.new.pages.items) }
+            IfOk result (λ seen. HasStepped s h k i «open» seen ground.new.tables.items ground.new.pages.items) }
     {
         let given = self.given(at, open)?;
         ground.write(self.alloc, open.step, given.as_slice())?;
@@ -407,8 +408,8 @@ impl<'s, 'a> Scene<'s, 'a> {
         ensures { (s : Setting) (h : History) (before : World) (k j : Course) (a : Actor) (i : Item) →
             IsTick s h self.now before at k a «open» i → TickLeads self.now.types.items k k.opened i j →
             world.old.actors ≡ before.actors →
-            IsMade s h k i «open» seen world.old.ground.tables.items world.old.ground.pages.items →
-            IfOk result (TicksTo s (i ∷ h) (tasks_at self.now at) k j world.old world.new at) }
+            HasStepped s h k i «open» seen world.old.ground.tables.items world.old.ground.pages.items →
+            IfOk result (TicksAsRun s (i ∷ h) (tasks_at self.now at) k j world.old world.new at) }
     {
         let Some(actor) = world.actors.get_mut(at) else {
             return Ok(Led::Nowhere);
@@ -433,7 +434,7 @@ impl<'s, 'a> Scene<'s, 'a> {
         ensures { (s : Setting) (h : History) (k j : Course) (a : Actor) (i : Item) →
             ShowsAt s h self.now world.old at k a → a.«open» ≡ Some «open» → IsItemOf (Tick k.dom) i → IsRight s h i →
             TickLeads self.now.types.items k k.opened i j →
-            IfOk result (TicksTo s (i ∷ h) (tasks_at self.now at) k j world.old world.new at) }
+            IfOk result (TicksAsRun s (i ∷ h) (tasks_at self.now at) k j world.old world.new at) }
     {
         let seen = self.make(&mut world.ground, at, open)?;
         self.settle(world, at, open, seen)

@@ -1,7 +1,7 @@
 //! Whether states are the same.
 ghost use Rattle.std.specs.Prelude.{◌≡◌, IsTrue};
 ghost use Rattle.gt_search.specs.Copies.{SameActor, SameActors, SameWorld};
-ghost use Rattle.gt_search.specs.Mappings.{labels_of, pins_of, said};
+ghost use Rattle.gt_search.specs.Mappings.{labels_of, mapping_pins, label_bytes};
 
 use crate::actor::{Actor, Mapping, Open};
 use crate::scene::World;
@@ -466,7 +466,7 @@ fn same_open(one: Option<Open>, other: Option<Open>) -> bool
 }
 
 fn same_label(one: Option<&[u8]>, other: Option<&[u8]>) -> bool
-    ensures { IsTrue result → said other.entry ≡ said one.entry }
+    ensures { IsTrue result → label_bytes other.entry ≡ label_bytes one.entry }
 {
     match (one, other) {
         (None, None) => true,
@@ -476,7 +476,7 @@ fn same_label(one: Option<&[u8]>, other: Option<&[u8]>) -> bool
 }
 
 fn same_mappings(one: &[Mapping], other: &[Mapping]) -> bool
-    ensures pins { IsTrue result → pins_of other.now ≡ pins_of one.now }
+    ensures pins { IsTrue result → mapping_pins other.now ≡ mapping_pins one.now }
     ensures labels { IsTrue result → labels_of other.now ≡ labels_of one.now }
 {
     if one.len() != other.len() {

@@ -128,7 +128,7 @@ impl<'s, 'a> Scene<'s, 'a> {
     ghost use Rattle.gt_script.specs.RunContents.{RunContents, run_told};
     ghost use Rattle.gt_script.specs.Stuck.{AreNumbered};
     ghost use Rattle.gt_search.specs.Ends.{tasks_at};
-    ghost use Rattle.gt_search.specs.Scenes.{IsSceneOf, Shows};
+    ghost use Rattle.gt_search.specs.Scenes.{IsSceneOf, SceneShows};
 
     /// The common part of the states of a script.
     pub fn new(alloc: Global, script: &'s RunScript<'a>) -> Result<Scene<'s, 'a>, SearchFault>
@@ -150,7 +150,7 @@ impl<'s, 'a> Scene<'s, 'a> {
 
     /// The state in which nothing has happened.
     pub fn start(&self) -> Result<World<'a>, AllocError>
-        ensures { (c : RunContents) → IsSceneOf c self.now → IfOk result (Shows c self.now [] (first_courses c)) }
+        ensures { (c : RunContents) → IsSceneOf c self.now → IfOk result (SceneShows c self.now [] (first_courses c)) }
     {
         let domains = self.roster.config().domains.as_slice();
         let actors = first_actors(self.alloc, domains.len())?;

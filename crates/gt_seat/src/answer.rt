@@ -47,8 +47,8 @@ pub struct Answer {
     pub rule: u32,
     /// The status of the public header `grant_table.h`: 0, or below it.
     pub status: i32,
-    /// What else it carries: 0 nothing, 1 a handle, 2 frames, 3 a version, 4 a size, 5 what the policy denies, 6 a field
-    /// of an entry's bytes, 7 a header's word, 8 an entry's word, 9 lost records.
+    /// What else it carries: 0 nothing, 1 a handle, 2 frames, 3 a version, 4 a size, 5 what the policy denies, 6 a
+    /// field of an entry's bytes, 7 a header's word, 8 an entry's word, 9 lost records.
     pub kind: u32,
     /// The domain whose word it carries.
     pub dom: u32,

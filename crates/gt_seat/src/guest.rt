@@ -229,7 +229,11 @@ impl<P: Allows + Drop> Guest<P> {
         ensures answered { MapAnswered P.may self.old.monitor self.old.domain
             (Request.Map dom gref flags) result self.new.domain }
         ensures told { Tells self.old.domain.trail
-            (record { dom = self.old.domain.seat.dom; call = Hypercall.Map dom gref flags; reply = mapping_reply result })
+            (record {
+              dom = self.old.domain.seat.dom;
+              call = Hypercall.Map dom gref flags;
+              reply = mapping_reply result;
+            })
             self.new.domain.trail }
     {
         self.domain.map(&self.monitor, dom, gref, flags)

@@ -1,11 +1,12 @@
 -- A state whose moves were all tried is done: its ways on are found.
-use Rattle.std.proofs.Common.{◌≡◌, ◌⊎◌, ◌<◌, ◌≤◌, ℕ, zero, suc, List, [], ◌∷◌, ◌++◌, length, map, ap, sym, ◌∙◌, refl, subst, arith, inl, inr, nat_eq, true}
+use Rattle.std.proofs.Common.{◌≡◌, ◌⊎◌, ◌<◌, ◌≤◌, ℕ, zero, suc, List, [], ◌∷◌, ◌++◌, length, map, ap, sym, ◌∙◌, refl}
+use Rattle.std.proofs.Common.{subst, arith, inl, inr, nat_eq, true}
 use Rattle.std.proofs.Common.{Option, Some, slice_get, slice_set, Bool, false, not, if◌then◌else◌}
 use Rattle.std.proofs.lemmas.Option.{none-some, same_Some, slice_get_within}
 use borrow.Author.Tests.{eqb-true}
-use Rattle.gt_ways.specs.Lists.{HasList, AreWhole, Grows, IsEmptyList}
+use Rattle.gt_ways.specs.Lists.{HasListAt, AreWhole, GrowsInto, IsEmptyList}
 use Rattle.gt_ways.specs.Ways.{Ways, GoesTo}
-use Rattle.gt_ways.specs.Exploring.{HasEnd, IsAmongEnds, AllHaveLists, NodeHolds, Holds, Grew, VisitHolds, Notes}
+use Rattle.gt_ways.specs.Exploring.{HasEnd, IsAmongEnds, AllHaveLists, NodeHolds, SearchHolds, Grew, VisitHolds, Notes}
 use Rattle.gt_ways.specs.declared.exploring.End.{End}
 use Rattle.gt_ways.specs.declared.exploring.Explorer.{Explorer}
 use Rattle.gt_ways.specs.declared.exploring.Node.{Node}
@@ -95,7 +96,7 @@ pub among_noted : {W : Type 0} (ways : Ways W) (s : Suffixes) (v : Visit) (e : E
 among_noted ways s v e w p q notes (list, end, has, prints) = (list, end_more v e w list notes.ends end, has, prints)
 
 -- a list that there is was noted
-pub visit_noted : {W : Type 0} (ways : Ways W) (ex : Explorer W) (v : Visit) (e : End) (w : Visit) → Notes v e w → HasList ex.suffixes e.list → VisitHolds ways ex v → VisitHolds ways ex w
+pub visit_noted : {W : Type 0} (ways : Ways W) (ex : Explorer W) (v : Visit) (e : End) (w : Visit) → Notes v e w → HasListAt ex.suffixes e.list → VisitHolds ways ex v → VisitHolds ways ex w
 visit_noted ways ex v e w notes has holds = record {
   world = holds.world;
   there = ap (λ (n : ℕ). slice_get ex.states.worlds.items n) notes.state ∙ holds.there;
@@ -110,9 +111,9 @@ visit_noted ways ex v e w notes has holds = record {
   numbers = notes.numbers holds.numbers;
 }
   where
-    either : (at : ℕ) (d : End) → (slice_get v.ends.items at ≡ Some d) ⊎ ((d ≡ e) × (at ≡ length v.ends.items)) → HasList ex.suffixes d.list
+    either : (at : ℕ) (d : End) → (slice_get v.ends.items at ≡ Some d) ⊎ ((d ≡ e) × (at ≡ length v.ends.items)) → HasListAt ex.suffixes d.list
     either at d (inl was) = holds.lists at d was
-    either at d (inr (one, place)) = subst (λ (i : End). HasList ex.suffixes i.list) (sym one) has
+    either at d (inr (one, place)) = subst (λ (i : End). HasListAt ex.suffixes i.list) (sym one) has
 
     by : ((w.ends.items ≡ v.ends.items) ⊎ (w.ends.items ≡ v.ends.items ++ e ∷ [])) → AllHaveLists ex.suffixes w.ends.items
     by (inl same) = λ at d there. holds.lists at d (ap (λ (l : List End). slice_get l at) (sym same) ∙ there)
@@ -136,13 +137,13 @@ grew_done : {W : Type 0} (old new : Explorer W) (n : Node) → new.states ≡ ol
 grew_done old new n states suffixes nodes = record {
   worlds = no_more old.states.worlds.items new.states.worlds.items (ap (λ s. s.worlds.items) states);
   nodes = (n ∷ [], nodes);
-  suffixes = subst (λ (s : Suffixes). Grows old.suffixes s) (sym suffixes) (grows_same old.suffixes);
+  suffixes = subst (λ (s : Suffixes). GrowsInto old.suffixes s) (sym suffixes) (grows_same old.suffixes);
 }
 
-pub holds_done : {W : Type 0} (ways : Ways W) (old new : Explorer W) (v : Visit) → Holds ways old → VisitHolds ways old v → length v.turns.items ≤ v.next → new.states ≡ old.states
+pub holds_done : {W : Type 0} (ways : Ways W) (old new : Explorer W) (v : Visit) → SearchHolds ways old → VisitHolds ways old v → length v.turns.items ≤ v.next → new.states ≡ old.states
     → new.suffixes ≡ old.suffixes → new.nodes.items ≡ old.nodes.items ++ node_of v ∷ []
     → ((state i : ℕ) → slice_get new.done.items state ≡ Some (Some i) → (slice_get old.done.items state ≡ Some (Some i)) ⊎ ((state ≡ v.state) × (i ≡ length old.nodes.items)))
-    → Holds ways new × Grew old new
+    → SearchHolds ways new × Grew old new
 holds_done ways old new v holds visit all states suffixes nodes done = (
   record {
     whole = subst AreWhole (sym suffixes) holds.whole;

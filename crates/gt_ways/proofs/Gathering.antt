@@ -1,10 +1,12 @@
 -- The ways on by a turn are gathered from the state that it leads to.
-use Rattle.std.proofs.Common.{◌≡◌, ◌⊎◌, ◌<◌, ◌≤◌, ℕ, zero, suc, ◌+◌, List, ◌++◌, length, ap, sym, ◌∙◌, refl, subst, arith, inl, inr}
+use Rattle.std.proofs.Common.{◌≡◌, ◌⊎◌, ◌<◌, ◌≤◌, ℕ, zero, suc, ◌+◌, List, ◌++◌, length, ap, sym, ◌∙◌, refl, subst}
+use Rattle.std.proofs.Common.{arith, inl, inr}
 use Rattle.std.proofs.Common.{Option, Some, slice_get, append_assoc}
 use Rattle.std.proofs.lemmas.Option.{same_Some, slice_get_within}
-use Rattle.gt_ways.specs.Lists.{HasList, AreWhole, Grows, IsLine, IsLonger, line_by, rest_by}
+use Rattle.gt_ways.specs.Lists.{HasListAt, AreWhole, GrowsInto, HasItsLine, IsLonger, line_by, rest_by}
 use Rattle.gt_ways.specs.Ways.{Ways, PrintsTo}
-use Rattle.gt_ways.specs.Exploring.{HasEnd, AllByTurn, NodeHolds, Holds, Grew, VisitHolds, Notes, Leads, Gathered}
+use Rattle.gt_ways.specs.Exploring.{HasEnd, AllByTurn, NodeHolds, SearchHolds, Grew, VisitHolds, Notes, TurnLeads}
+use Rattle.gt_ways.specs.Exploring.{Gathered}
 use Rattle.gt_ways.specs.declared.exploring.End.{End}
 use Rattle.gt_ways.specs.declared.exploring.Explorer.{Explorer}
 use Rattle.gt_ways.specs.declared.exploring.Node.{Node}
@@ -18,16 +20,16 @@ use Rattle.gt_ways.proofs.Finding.{end_more, visit_noted}
 
 -- the ways on to the first of the lists that the other state leads to are gathered
 pub record IsGathering {W : Type 0} (ways : Ways W) (old : Explorer W) (v : Visit) (turn : Turn) (line : Option Line) (done : Node) (ex : Explorer W) (w : Visit) (i : ℕ) : Type 0 where
-  pub holds : Holds ways ex
+  pub holds : SearchHolds ways ex
   pub grew : Grew old ex
   pub visit : VisitHolds ways ex w
   pub next : w.next ≡ v.next
   pub turns : w.turns ≡ v.turns
   pub state : w.state ≡ v.state
   pub found : (at : ℕ) (e : End) → at < i → slice_get done.ends.items at ≡ Some e
-      → (list : ℕ) × HasEnd w.ends.items list × HasList ex.suffixes list × IsLonger ex.suffixes line e.list list
+      → (list : ℕ) × HasEnd w.ends.items list × HasListAt ex.suffixes list × IsLonger ex.suffixes line e.list list
 
-pub gathers_first : {W : Type 0} (ways : Ways W) (old : Explorer W) (v : Visit) (turn : Turn) (line : Option Line) (done : Node) → Holds ways old → VisitHolds ways old v → IsGathering ways old v turn line done old v 0
+pub gathers_first : {W : Type 0} (ways : Ways W) (old : Explorer W) (v : Visit) (turn : Turn) (line : Option Line) (done : Node) → SearchHolds ways old → VisitHolds ways old v → IsGathering ways old v turn line done old v 0
 gathers_first ways old v turn line done holds visit = record {
   holds = holds;
   grew = grew_same old;
@@ -39,8 +41,8 @@ gathers_first ways old v turn line done holds visit = record {
 }
 
 -- what the turn leads to, when the search has come on
-leads_on : {W : Type 0} (ways : Ways W) (old : Explorer W) (v : Visit) (turn : Turn) (node : ℕ) (line : Option Line) (done : Node) (ex : Explorer W) → Holds ways old → VisitHolds ways old v
-    → Leads ways old v turn node line → slice_get old.nodes.items node ≡ Some done → Grew old ex → IsLine old.suffixes line
+leads_on : {W : Type 0} (ways : Ways W) (old : Explorer W) (v : Visit) (turn : Turn) (node : ℕ) (line : Option Line) (done : Node) (ex : Explorer W) → SearchHolds ways old → VisitHolds ways old v
+    → TurnLeads ways old v turn node line → slice_get old.nodes.items node ≡ Some done → Grew old ex → HasItsLine old.suffixes line
     → (w u : W) → slice_get ex.states.worlds.items v.state ≡ Some w → slice_get ex.states.worlds.items done.state ≡ Some u
     → (p m : ways.Point) → ways.shows w p → ways.next p turn m
     → ways.shows u m × PrintsTo ways (line_by ex.suffixes line) p m
@@ -55,7 +57,7 @@ leads_on ways old v turn node line done ex holds visit leads is grew has w u her
       λ at. led.1 at ∙ ap (λ (i : List ℕ). ways.printed p at ++ i) (sym (line_kept old.suffixes ex.suffixes line at grew.suffixes has)),
     )
 
-longer_on : (s t : Suffixes) (line : Option Line) (list n : ℕ) → AreWhole s → Grows s t → IsLine s line → HasList s list → HasList s n → IsLonger s line list n → IsLonger t line list n
+longer_on : (s t : Suffixes) (line : Option Line) (list n : ℕ) → AreWhole s → GrowsInto s t → HasItsLine s line → HasListAt s list → HasListAt s n → IsLonger s line list n → IsLonger t line list n
 longer_on s t line list n whole grows is has also longer = λ at.
     rest_kept s t n at whole grows also ∙ longer at
     ∙ ap (λ (i : List ℕ). i ++ rest_by s list at) (sym (line_kept s t line at grows is))
@@ -80,8 +82,8 @@ noted_of turn node list e = record { list = list; onward = Some (record { turn =
 -- the next list was gathered
 pub gathers_more : {W : Type 0} (ways : Ways W) (old : Explorer W) (v : Visit) (turn : Turn) (node : ℕ) (line : Option Line) (done : Node) (ex : Explorer W) (w : Visit) (i : ℕ) (e : End)
     (t : Suffixes) (list : ℕ) (u : Visit)
-    → slice_get old.nodes.items node ≡ Some done → IsLine ex.suffixes line → IsGathering ways old v turn line done ex w i → slice_get done.ends.items i ≡ Some e → Grows ex.suffixes t → (HasList ex.suffixes e.list → HasList t list)
-    → (AreWhole ex.suffixes → HasList ex.suffixes e.list → IsLonger t line e.list list)
+    → slice_get old.nodes.items node ≡ Some done → HasItsLine ex.suffixes line → IsGathering ways old v turn line done ex w i → slice_get done.ends.items i ≡ Some e → GrowsInto ex.suffixes t → (HasListAt ex.suffixes e.list → HasListAt t list)
+    → (AreWhole ex.suffixes → HasListAt ex.suffixes e.list → IsLonger t line e.list list)
     → Notes w (record { list = list; onward = Some (record { turn = turn; node = node; list = e.list }) }) u
     → IsGathering ways old v turn line done (record ex { suffixes = t }) u (i + 1)
 gathers_more ways old v turn node line done ex w i e t list u is line_on gathers there grows lists longers notes = record {
@@ -104,7 +106,7 @@ gathers_more ways old v turn node line done ex w i e t list u is line_on gathers
     grew : Grew old (with_suffixes ex t)
     grew = grew_on old ex (with_suffixes ex t) gathers.grew on
 
-    holds : Holds ways (with_suffixes ex t)
+    holds : SearchHolds ways (with_suffixes ex t)
     holds = holds_on ways ex (with_suffixes ex t) on refl (λ state j so. so) gathers.holds
 
     now : VisitHolds ways (with_suffixes ex t) w
@@ -116,20 +118,20 @@ gathers_more ways old v turn node line done ex w i e t list u is line_on gathers
     it : NodeHolds ways ex done
     it = gathers.holds.nodes node done here
 
-    was : HasList ex.suffixes e.list
+    was : HasListAt ex.suffixes e.list
     was = it.lists i e there
 
-    has : HasList t list
+    has : HasListAt t list
     has = lists was
 
     longer : IsLonger t line e.list list
     longer = longers gathers.holds.whole was
 
     found : (at : ℕ) (d : End) → at < i + 1 → slice_get done.ends.items at ≡ Some d
-        → (n : ℕ) × HasEnd u.ends.items n × HasList t n × IsLonger t line d.list n
+        → (n : ℕ) × HasEnd u.ends.items n × HasListAt t n × IsLonger t line d.list n
     found at d lt so = by (less_or at i lt)
       where
-        by : (at < i) ⊎ (at ≡ i) → (n : ℕ) × HasEnd u.ends.items n × HasList t n × IsLonger t line d.list n
+        by : (at < i) ⊎ (at ≡ i) → (n : ℕ) × HasEnd u.ends.items n × HasListAt t n × IsLonger t line d.list n
         by (inl less) =
             let f = gathers.found at d less so in (
               f.0,
@@ -147,7 +149,7 @@ gathers_more ways old v turn node line done ex w i e t list u is line_on gathers
 
 -- all were gathered
 pub gathers_all : {W : Type 0} (ways : Ways W) (old : Explorer W) (v : Visit) (turn : Turn) (node : ℕ) (line : Option Line) (done : Node) (ex : Explorer W) (w : Visit) (i : ℕ)
-    → Holds ways old → VisitHolds ways old v → Leads ways old v turn node line → slice_get old.nodes.items node ≡ Some done → IsLine old.suffixes line
+    → SearchHolds ways old → VisitHolds ways old v → TurnLeads ways old v turn node line → slice_get old.nodes.items node ≡ Some done → HasItsLine old.suffixes line
     → length done.ends.items ≤ i → IsGathering ways old v turn line done ex w i → Gathered ways old v turn ex w
 gathers_all ways old v turn node line done ex w i first visit leads is line_is all gathers = record {
   holds = gathers.holds;

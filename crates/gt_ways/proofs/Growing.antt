@@ -3,9 +3,9 @@ use Rattle.std.proofs.Common.{◌≡◌, ℕ, zero, suc, List, [], ◌∷◌, �
 use Rattle.std.proofs.Common.{Some, slice_get}
 use Rattle.std.proofs.lemmas.List.{append-nil}
 use Rattle.std.proofs.lemmas.Option.{none-some}
-use Rattle.gt_ways.specs.Lists.{HasList, AreWhole, Grows, rest_by}
+use Rattle.gt_ways.specs.Lists.{HasListAt, AreWhole, GrowsInto, rest_by}
 use Rattle.gt_ways.specs.Ways.{Ways, PrintsTo}
-use Rattle.gt_ways.specs.Exploring.{IsAmongEnds, AllHaveLists, NodeHolds, Holds, Grew, VisitHolds}
+use Rattle.gt_ways.specs.Exploring.{IsAmongEnds, AllHaveLists, NodeHolds, SearchHolds, Grew, VisitHolds}
 use Rattle.gt_ways.specs.declared.exploring.End.{End}
 use Rattle.gt_ways.specs.declared.exploring.Explorer.{Explorer}
 use Rattle.gt_ways.specs.declared.exploring.Node.{Node}
@@ -31,13 +31,13 @@ both_more xs ys zs (a, first) (b, second) = (a ++ b, second ∙ ap (λ l. l ++ b
 
 -- lists of answers
 
-prints_grown : {W : Type 0} (ways : Ways W) (s t : Suffixes) (n : ℕ) (p q : ways.Point) → AreWhole s → Grows s t → HasList s n → PrintsTo ways (rest_by s n) p q → PrintsTo ways (rest_by t n) p q
+prints_grown : {W : Type 0} (ways : Ways W) (s t : Suffixes) (n : ℕ) (p q : ways.Point) → AreWhole s → GrowsInto s t → HasListAt s n → PrintsTo ways (rest_by s n) p q → PrintsTo ways (rest_by t n) p q
 prints_grown ways s t n p q whole grows has prints = λ at. prints at ∙ ap (λ w. ways.printed p at ++ w) (sym (rest_kept s t n at whole grows has))
 
-pub among_grown : {W : Type 0} (ways : Ways W) (s t : Suffixes) (ends : List End) (p q : ways.Point) → AreWhole s → Grows s t → IsAmongEnds ways s ends p q → IsAmongEnds ways t ends p q
+pub among_grown : {W : Type 0} (ways : Ways W) (s t : Suffixes) (ends : List End) (p q : ways.Point) → AreWhole s → GrowsInto s t → IsAmongEnds ways s ends p q → IsAmongEnds ways t ends p q
 among_grown ways s t ends p q whole grows (list, end, has, prints) = (list, end, list_grown s t list grows has, prints_grown ways s t list p q whole grows has prints)
 
-pub lists_grown : (s t : Suffixes) (ends : List End) → Grows s t → AllHaveLists s ends → AllHaveLists t ends
+pub lists_grown : (s t : Suffixes) (ends : List End) → GrowsInto s t → AllHaveLists s ends → AllHaveLists t ends
 lists_grown s t ends grows lists = λ at e there. list_grown s t e.list grows (lists at e there)
 
 -- searches
@@ -78,7 +78,7 @@ visit_on ways old new v whole grew holds = record {
 
 -- a search that has done no more states
 pub holds_on : {W : Type 0} (ways : Ways W) (old new : Explorer W) → Grew old new → new.nodes.items ≡ old.nodes.items
-    → ((state i : ℕ) → slice_get new.done.items state ≡ Some (Some i) → slice_get old.done.items state ≡ Some (Some i)) → Holds ways old → Holds ways new
+    → ((state i : ℕ) → slice_get new.done.items state ≡ Some (Some i) → slice_get old.done.items state ≡ Some (Some i)) → SearchHolds ways old → SearchHolds ways new
 holds_on ways old new grew same done holds = record {
   whole = grew.suffixes.whole holds.whole;
   empty = (list_grown old.suffixes new.suffixes 0 grew.suffixes holds.empty.0, λ at. rest_kept old.suffixes new.suffixes 0 at holds.whole grew.suffixes holds.empty.0 ∙ holds.empty.1 at);

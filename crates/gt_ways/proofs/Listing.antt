@@ -1,5 +1,6 @@
 -- What lists of answers say stays when lines and lists are added.
-use Rattle.std.proofs.Common.{◌≡◌, ◌<◌, ◌≤◌, ◌==◌, ℕ, zero, suc, Bool, true, false, List, [], ◌∷◌, ◌++◌, length, ap, sym, ◌∙◌, refl, subst, arith, append_assoc, length-append}
+use Rattle.std.proofs.Common.{◌≡◌, ◌<◌, ◌≤◌, ◌==◌, ℕ, zero, suc, Bool, true, false, List, [], ◌∷◌, ◌++◌, length, ap}
+use Rattle.std.proofs.Common.{sym, ◌∙◌, refl, subst, arith, append_assoc, length-append}
 use Rattle.std.proofs.Common.{Option, None, Some, slice_get, ◌&&◌, if◌then◌else◌}
 use borrow.Author.Tests.{eqb-true}
 use Rattle.std.proofs.Common.{◌+◌, nat_eq}
@@ -10,7 +11,8 @@ use Rattle.std.specs.Global.{Vec}
 use Rattle.std.specs.List.{insert, flat_map, range_with_len}
 use Rattle.std.proofs.Common.{get_or, take}
 use lib.Pointwise.{pointwise}
-use Rattle.gt_ways.specs.Lists.{IsBefore, items_at, printed_of, rest_by, line_by, HasLine, HasList, HasLines, AllHaveLines, AreWhole, IsLine, Grows, IsLonger}
+use Rattle.gt_ways.specs.Lists.{IsBefore, items_at, printed_of, rest_by, line_by, HasLine, HasListAt, HasLines}
+use Rattle.gt_ways.specs.Lists.{AllHaveLines, AreWhole, HasItsLine, GrowsInto, IsLonger}
 use Rattle.gt_ways.specs.declared.suffixes.Line.{Line}
 use Rattle.gt_ways.specs.declared.suffixes.Suffixes.{Suffixes}
 
@@ -71,7 +73,7 @@ printed_kept lines more (l ∷ ls) at has =
     ap (λ w. (if l.place == at then w else []) ++ printed_of (lines ++ more) ls at) (items_kept lines more l.number has.0)
     ∙ ap (λ w. (if l.place == at then items_at lines l.number else []) ++ w) (printed_kept lines more ls at has.1)
 
-pub rest_kept : (s t : Suffixes) (n at : ℕ) → AreWhole s → Grows s t → HasList s n → rest_by t n at ≡ rest_by s n at
+pub rest_kept : (s t : Suffixes) (n at : ℕ) → AreWhole s → GrowsInto s t → HasListAt s n → rest_by t n at ≡ rest_by s n at
 rest_kept s t n at whole grows has =
     ap (λ ls. printed_of t.lines.keys ls at) (ap (λ vs. items_at vs n) grows.lists.1 ∙ items_kept s.lists.keys grows.lists.0 n has)
     ∙ ap (λ lines. printed_of lines (items_at s.lists.keys n) at) grows.lines.1
@@ -100,7 +102,7 @@ printed_insert lines (k ∷ ls) (suc i) l at le before =
     ∙ one_of_two k.place l.place at (items_at lines k.number) (items_at lines l.number) (printed_of lines ls at) (before zero k (omega arith) refl)
 
 -- one line was added
-pub line_added : (s t : Suffixes) (b : Bool) (key : Vec ℕ) → t.lists ≡ s.lists → t.lines.keys ≡ (if b then s.lines.keys else s.lines.keys ++ key ∷ []) → Grows s t
+pub line_added : (s t : Suffixes) (b : Bool) (key : Vec ℕ) → t.lists ≡ s.lists → t.lines.keys ≡ (if b then s.lines.keys else s.lines.keys ++ key ∷ []) → GrowsInto s t
 line_added s t b key lists is =
     let more = adds_key b s.lines.keys t.lines.keys key is in
     let many : length s.lines.keys ≤ length t.lines.keys = by (length more.0) (ap length more.1 ∙ length-append s.lines.keys more.0) in
@@ -118,7 +120,7 @@ has_line s n line v is same = (slice_get_within s.lines.keys n v is, items_store
 
 -- one list was added
 pub list_added : (s t : Suffixes) (b : Bool) (old key : Vec Line) (list at : ℕ) (line : Line) → t.lines ≡ s.lines → t.lists.keys ≡ (if b then s.lists.keys else s.lists.keys ++ key ∷ [])
-    → slice_get s.lists.keys list ≡ Some old → line.number < length s.lines.keys → key.items ≡ insert old.items at line → Grows s t
+    → slice_get s.lists.keys list ≡ Some old → line.number < length s.lines.keys → key.items ≡ insert old.items at line → GrowsInto s t
 list_added s t b old key list at line lines is there number items =
     record {
       lines = ([], ap (λ x. x.keys) lines ∙ sym (append-nil s.lines.keys));
@@ -135,7 +137,7 @@ list_added s t b old key list at line lines is there number items =
     by false whole has = all_both (length s.lines.keys) s.lists.keys (key ∷ []) whole (has, tt)
 
 -- the list that was found or added is the longer one
-pub is_longer : (s t : Suffixes) (old v : Vec Line) (key : List Line) (list n at : ℕ) (line : Line) → AreWhole s → Grows s t → t.lines ≡ s.lines
+pub is_longer : (s t : Suffixes) (old v : Vec Line) (key : List Line) (list n at : ℕ) (line : Line) → AreWhole s → GrowsInto s t → t.lines ≡ s.lines
     → slice_get s.lists.keys list ≡ Some old → key ≡ insert old.items at line → at ≤ length old.items → IsBefore at line.place old.items
     → slice_get t.lists.keys n ≡ Some v → key ≡ v.items → IsLonger t (Some line) list n
 is_longer s t old v key list n at line whole grows lines there items le before is same = λ place.
@@ -147,13 +149,13 @@ is_longer s t old v key list n at line whole grows lines there items le before i
 
 -- growing
 
-pub grows_same : (s : Suffixes) → Grows s s
+pub grows_same : (s : Suffixes) → GrowsInto s s
 grows_same s = record { lines = ([], sym (append-nil s.lines.keys)); lists = ([], sym (append-nil s.lists.keys)); whole = λ whole. whole }
 
 appended : {X : Type 0} (xs ys zs : List X) → (more : List X) × (ys ≡ xs ++ more) → (more : List X) × (zs ≡ ys ++ more) → (more : List X) × (zs ≡ xs ++ more)
 appended xs ys zs (a, first) (b, second) = (a ++ b, second ∙ ap (λ l. l ++ b) first ∙ append_assoc xs a b)
 
-pub grows_on : (s t u : Suffixes) → Grows s t → Grows t u → Grows s u
+pub grows_on : (s t u : Suffixes) → GrowsInto s t → GrowsInto t u → GrowsInto s u
 grows_on s t u first second = record {
   lines = appended s.lines.keys t.lines.keys u.lines.keys first.lines second.lines;
   lists = appended s.lists.keys t.lists.keys u.lists.keys first.lists second.lists;
@@ -163,14 +165,14 @@ grows_on s t u first second = record {
 within_more : {X : Type 0} (xs ys : List X) (n : ℕ) → (more : List X) × (ys ≡ xs ++ more) → n < length xs → n < length ys
 within_more xs ys n (more, is) lt = let len : length ys ≡ length xs + length more = ap length is ∙ length-append xs more in omega (arith, lt, len)
 
-pub list_grown : (s t : Suffixes) (n : ℕ) → Grows s t → HasList s n → HasList t n
+pub list_grown : (s t : Suffixes) (n : ℕ) → GrowsInto s t → HasListAt s n → HasListAt t n
 list_grown s t n grows has = within_more s.lists.keys t.lists.keys n grows.lists has
 
-pub line_grown : (s t : Suffixes) (line : Option Line) → Grows s t → IsLine s line → IsLine t line
+pub line_grown : (s t : Suffixes) (line : Option Line) → GrowsInto s t → HasItsLine s line → HasItsLine t line
 line_grown s t None grows is = tt
 line_grown s t (Some l) grows is = within_more s.lines.keys t.lines.keys l.number grows.lines is
 
-pub line_kept : (s t : Suffixes) (line : Option Line) (at : ℕ) → Grows s t → IsLine s line → line_by t line at ≡ line_by s line at
+pub line_kept : (s t : Suffixes) (line : Option Line) (at : ℕ) → GrowsInto s t → HasItsLine s line → line_by t line at ≡ line_by s line at
 line_kept s t None at grows is = refl
 line_kept s t (Some l) at grows is =
     ap (λ w. if l.place == at then w else []) (ap (λ v. items_at v l.number) grows.lines.1 ∙ items_kept s.lines.keys grows.lines.0 l.number is)

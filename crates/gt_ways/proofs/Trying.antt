@@ -1,12 +1,17 @@
 -- The states whose moves are being tried.
-use Rattle.std.proofs.Common.{◌≡◌, ◌⊎◌, ◌<◌, ◌≤◌, ℕ, zero, suc, ◌+◌, List, [], ◌∷◌, ◌++◌, length, map, ap, sym, ◌∙◌, refl, subst, arith, inl, inr}
-use Rattle.std.proofs.Common.{Result, Ok, Err, OnOk, length-append, Option, Some, None, slice_get, Bool, true, false, ◌==◌, if◌then◌else◌}
+use Rattle.std.proofs.Common.{◌≡◌, ◌⊎◌, ◌<◌, ◌≤◌, ℕ, zero, suc, ◌+◌, List, [], ◌∷◌, ◌++◌, length, map, ap, sym, ◌∙◌}
+use Rattle.std.proofs.Common.{refl, subst, arith, inl, inr}
+use Rattle.std.proofs.Common.{Result, Ok, Err, OnOk, length-append, Option, Some, None, slice_get, Bool, true, false}
+use Rattle.std.proofs.Common.{◌==◌, if◌then◌else◌}
 use Rattle.std.proofs.lemmas.List.{append-nil}
 use Rattle.std.proofs.lemmas.Option.{none-some, same_Some}
 use Rattle.std.specs.List.{flat_map, range_with_len}
-use Rattle.gt_ways.specs.Lists.{HasList, AreWhole, rest_by}
-use Rattle.gt_ways.specs.Ways.{Ways, HasEachTurn, IsShownSo, LedFits, MayEnd, MovesTo, PrintsTo, ShowsFirst, only_at, text_at, text_led}
-use Rattle.gt_ways.specs.Exploring.{AllHaveLists, AllByTurn, AllTextsFound, EachVisitHolds, IsNumbered, IsLineOf, Holds, Grew, VisitHolds, Notes, Leads, Gathered, Stepped, Starts, Finishes}
+use Rattle.gt_ways.specs.Lists.{HasListAt, AreWhole, rest_by}
+use Rattle.gt_ways.specs.Ways.{Ways, HasEachTurn, IsShownSo, LedFits, MayEnd, MovesTo, PrintsTo, ShowsFirst, only_at}
+use Rattle.gt_ways.specs.Ways.{text_at, text_led}
+use Rattle.gt_ways.specs.Exploring.{AllHaveLists, AllByTurn, AllTextsFound, EachVisitHolds, IsNumbered, IsLineOf}
+use Rattle.gt_ways.specs.Exploring.{SearchHolds}
+use Rattle.gt_ways.specs.Exploring.{Grew, VisitHolds, Notes, TurnLeads, Gathered, Stepped, SearchStarts, SearchFinishes}
 use Rattle.gt_ways.specs.declared.exploring.End.{End}
 use Rattle.gt_ways.specs.declared.exploring.Explorer.{Explorer}
 use Rattle.gt_ways.specs.declared.exploring.Found.{Found}
@@ -66,7 +71,7 @@ tries_more ways ex v turn next holds le there found = record {
 -- a move
 
 -- it leads nowhere, so the domain has no move
-pub steps_nowhere : {W : Type 0} (ways : Ways W) (ex : Explorer W) (v : Visit) (turn : Turn) (here copied moved : W) (led : Led) (next : ℕ) → Holds ways ex → VisitHolds ways ex v
+pub steps_nowhere : {W : Type 0} (ways : Ways W) (ex : Explorer W) (v : Visit) (turn : Turn) (here copied moved : W) (led : Led) (next : ℕ) → SearchHolds ways ex → VisitHolds ways ex v
     → slice_get v.turns.items v.next ≡ Some turn → slice_get ex.states.worlds.items v.state ≡ Some here → IsShownSo ways here copied → MovesTo ways copied turn led moved → led ≡ leds.Nowhere
     → next ≤ v.next + 1 → Stepped ways ex (record v { next = next }) None ex
 steps_nowhere ways ex v turn here copied moved led next holds visit at there copies moves nowhere le = record {
@@ -79,7 +84,7 @@ steps_nowhere ways ex v turn here copied moved led next holds visit at there cop
 }
 
 -- the search after the line of a move was numbered
-line_on : {W : Type 0} (ways : Ways W) (old new : Explorer W) (place : ℕ) (led : Led) (line : Option Line) → IsLineOf old place led line new → Holds ways old → Holds ways new × Grew old new
+line_on : {W : Type 0} (ways : Ways W) (old new : Explorer W) (place : ℕ) (led : Led) (line : Option Line) → IsLineOf old place led line new → SearchHolds ways old → SearchHolds ways new × Grew old new
 line_on ways old new place led line is holds = (holds_on ways old new grew (ap (λ n. n.items) is.nodes) (λ state i so. ap (λ d. slice_get d.items state) (sym is.done) ∙ so) holds, grew)
   where
     grew : Grew old new
@@ -97,8 +102,8 @@ numbered_more : {W : Type 0} (ways : Ways W) (old : List W) (w : W) (n : ℕ) (n
 numbered_more ways old w n new (inl was) = no_more old new was.0
 numbered_more ways old w n new (inr next) = (w ∷ [], next.1)
 
-numbered_on : {W : Type 0} (ways : Ways W) (old : Explorer W) (states : States W) (w : W) (n : ℕ) → IsNumbered ways old.states.worlds.items w n states.worlds.items → Holds ways old
-    → Holds ways (with_states old states) × Grew old (with_states old states)
+numbered_on : {W : Type 0} (ways : Ways W) (old : Explorer W) (states : States W) (w : W) (n : ℕ) → IsNumbered ways old.states.worlds.items w n states.worlds.items → SearchHolds ways old
+    → SearchHolds ways (with_states old states) × Grew old (with_states old states)
 numbered_on ways old states w n is holds = (holds_on ways old (with_states old states) grew refl (λ state i so. so) holds, grew)
   where
     grew : Grew old (with_states old states)
@@ -129,8 +134,8 @@ fits_prints ways (leds.Answered line) place p q fits = fits
 
 -- it leads to a state that is new
 pub steps_new : {W : Type 0} (ways : Ways W) (old mid : Explorer W) (states : States W) (v : Visit) (turn : Turn) (moved : W) (led : Led) (line : Option Line) (state : ℕ) (new : Explorer W) (deeper : Visit)
-    → Holds ways old → VisitHolds ways old v → IsLineOf old turn.place led line mid → IsNumbered ways mid.states.worlds.items moved state states.worlds.items
-    → (Holds ways (with_states mid states) → Holds ways new × Grew (with_states mid states) new × VisitHolds ways new deeper) → Stepped ways old v (Some deeper) new
+    → SearchHolds ways old → VisitHolds ways old v → IsLineOf old turn.place led line mid → IsNumbered ways mid.states.worlds.items moved state states.worlds.items
+    → (SearchHolds ways (with_states mid states) → SearchHolds ways new × Grew (with_states mid states) new × VisitHolds ways new deeper) → Stepped ways old v (Some deeper) new
 steps_new ways old mid states v turn moved led line state new deeper holds visit lines numbers visits =
     let first = line_on ways old mid turn.place led line lines holds in
     let second = numbered_on ways mid states moved state numbers first.0 in
@@ -141,10 +146,10 @@ steps_new ways old mid states v turn moved led line state new deeper holds visit
 -- it leads to a state that is done
 pub steps_on : {W : Type 0} (ways : Ways W) (old mid : Explorer W) (states : States W) (v : Visit) (turn : Turn) (here copied moved : W) (led : Led) (line : Option Line) (state node : ℕ) (new : Explorer W)
     (w : Visit) (next : ℕ)
-    → Holds ways old → VisitHolds ways old v → slice_get v.turns.items v.next ≡ Some turn → slice_get old.states.worlds.items v.state ≡ Some here → IsShownSo ways here copied
+    → SearchHolds ways old → VisitHolds ways old v → slice_get v.turns.items v.next ≡ Some turn → slice_get old.states.worlds.items v.state ≡ Some here → IsShownSo ways here copied
     → MovesTo ways copied turn led moved → IsLineOf old turn.place led line mid → IsNumbered ways mid.states.worlds.items moved state states.worlds.items
     → slice_get mid.done.items state ≡ Some (Some node)
-    → (Holds ways (with_states mid states) → VisitHolds ways (with_states mid states) v → Leads ways (with_states mid states) v turn node line
+    → (SearchHolds ways (with_states mid states) → VisitHolds ways (with_states mid states) v → TurnLeads ways (with_states mid states) v turn node line
     → Gathered ways (with_states mid states) v turn new w)
     → next ≤ w.next + 1 → Stepped ways old (record w { next = next }) None new
 steps_on ways old mid states v turn here copied moved led line state node new w next holds visit at there copies moves lines numbers is gathers le =
@@ -159,10 +164,10 @@ steps_on ways old mid states v turn here copied moved led line state node new w 
       deeper = tt;
     }
   where
-    first : Holds ways mid × Grew old mid
+    first : SearchHolds ways mid × Grew old mid
     first = line_on ways old mid turn.place led line lines holds
 
-    second : Holds ways (with_states mid states) × Grew mid (with_states mid states)
+    second : SearchHolds ways (with_states mid states) × Grew mid (with_states mid states)
     second = numbered_on ways mid states moved state numbers first.0
 
     both : Grew old (with_states mid states)
@@ -171,7 +176,7 @@ steps_on ways old mid states v turn here copied moved led line state node new w 
     now : VisitHolds ways (with_states mid states) v
     now = visit_on ways old (with_states mid states) v holds.whole both visit
 
-    leads : Leads ways (with_states mid states) v turn node line
+    leads : TurnLeads ways (with_states mid states) v turn node line
     leads =
         let it = second.0.done state node is in
         record {
@@ -192,7 +197,7 @@ steps_on ways old mid states v turn here copied moved led line state node new w 
 abbrev pub with_done : {W : Type 0} → Explorer W → Vec (Option ℕ) → Explorer W
 with_done ex done = record ex { done = done }
 
-done_on : {W : Type 0} (ways : Ways W) (old : Explorer W) (done : Vec (Option ℕ)) → done.items ≡ old.done.items ++ None ∷ [] → Holds ways old → Holds ways (with_done old done) × Grew old (with_done old done)
+done_on : {W : Type 0} (ways : Ways W) (old : Explorer W) (done : Vec (Option ℕ)) → done.items ≡ old.done.items ++ None ∷ [] → SearchHolds ways old → SearchHolds ways (with_done old done) × Grew old (with_done old done)
 done_on ways old done is holds = (holds_on ways old (with_done old done) grew refl (λ state i so. by state i (last_or old.done.items None (Some i) state (ap (λ (l : List (Option ℕ)). slice_get l state) (sym is) ∙ so))) holds, grew)
   where
     grew : Grew old (with_done old done)
@@ -216,7 +221,7 @@ below_none at next is lt = omega (arith, is, lt)
 pub visits_on : {W : Type 0} (ways : Ways W) (old : Explorer W) (done : Vec (Option ℕ)) (v : Visit) (world : W) → done.items ≡ old.done.items ++ None ∷ [] → slice_get old.states.worlds.items v.state ≡ Some world
     → HasEachTurn ways world v.turns.items → v.next ≡ 0 → v.ends.items ≡ [] → v.lists.keys ≡ []
     → (MayEnd ways world → ⊥)
-    → Holds ways old → Holds ways (with_done old done) × Grew old (with_done old done) × VisitHolds ways (with_done old done) v
+    → SearchHolds ways old → SearchHolds ways (with_done old done) × Grew old (with_done old done) × VisitHolds ways (with_done old done) v
 visits_on ways old done v world more there turns none ends keys goes holds =
     let it = done_on ways old done more holds in (
       it.0,
@@ -238,7 +243,7 @@ prints_none ways rest p none = λ at. sym (append-nil (ways.printed p at)) ∙ a
 -- they may end there: the empty list was noted
 pub visits_end : {W : Type 0} (ways : Ways W) (old : Explorer W) (done : Vec (Option ℕ)) (v w : Visit) (onward : Option Onward) (world : W) → done.items ≡ old.done.items ++ None ∷ []
     → slice_get old.states.worlds.items v.state ≡ Some world → HasEachTurn ways world v.turns.items → v.next ≡ 0 → v.ends.items ≡ [] → v.lists.keys ≡ []
-    → Notes v (record { list = 0; onward = onward }) w → Holds ways old → Holds ways (with_done old done) × Grew old (with_done old done) × VisitHolds ways (with_done old done) w
+    → Notes v (record { list = 0; onward = onward }) w → SearchHolds ways old → SearchHolds ways (with_done old done) × Grew old (with_done old done) × VisitHolds ways (with_done old done) w
 visits_end ways old done v w onward world more there turns none ends keys notes holds =
     let it = done_on ways old done more holds in (
       it.0,
@@ -259,9 +264,9 @@ visits_end ways old done v w onward world more there turns none ends keys notes 
     numbers : map (λ (e : End). e.list) v.ends.items ≡ v.lists.keys
     numbers = ap (map (λ (e : End). e.list)) ends ∙ sym keys
 
-    either : (at : ℕ) (e : End) → (slice_get v.ends.items at ≡ Some e) ⊎ ((e ≡ record { list = 0; onward = onward }) × (at ≡ length v.ends.items)) → HasList old.suffixes e.list
+    either : (at : ℕ) (e : End) → (slice_get v.ends.items at ≡ Some e) ⊎ ((e ≡ record { list = 0; onward = onward }) × (at ≡ length v.ends.items)) → HasListAt old.suffixes e.list
     either at e (inl was) = absurd (none_there v.ends.items at e ends was)
-    either at e (inr (one, place)) = subst (λ (i : End). HasList old.suffixes i.list) (sym one) holds.empty.0
+    either at e (inr (one, place)) = subst (λ (i : End). HasListAt old.suffixes i.list) (sym one) holds.empty.0
 
     by : ((w.ends.items ≡ v.ends.items) ⊎ (w.ends.items ≡ v.ends.items ++ record { list = 0; onward = onward } ∷ [])) → AllHaveLists old.suffixes w.ends.items
     by (inl same) = λ at e is. absurd (none_there v.ends.items at e ends (ap (λ (l : List End). slice_get l at) (sym same) ∙ is))
@@ -283,13 +288,13 @@ first_there : {W : Type 0} (ways : Ways W) (old : List W) (w : W) (n : ℕ) (new
 first_there ways old w n new none (inl (same, (v, at, shows))) = absurd (none_there old n v none at)
 first_there ways old w n new none (inr (next, more)) = ap (λ l. slice_get l 0) (more ∙ ap (λ l. l ++ w ∷ []) none)
 
-pub starts_on : {W : Type 0} (ways : Ways W) (old : Explorer W) (states : States W) (w : W) (n : ℕ) → Starts ways old → IsNumbered ways old.states.worlds.items w n states.worlds.items
-    → Holds ways (with_states old states) × (slice_get states.worlds.items 0 ≡ Some w)
+pub starts_on : {W : Type 0} (ways : Ways W) (old : Explorer W) (states : States W) (w : W) (n : ℕ) → SearchStarts ways old → IsNumbered ways old.states.worlds.items w n states.worlds.items
+    → SearchHolds ways (with_states old states) × (slice_get states.worlds.items 0 ≡ Some w)
 starts_on ways old states w n starts numbers =
     ((numbered_on ways old states w n numbers starts.holds).0, first_there ways old.states.worlds.items w n states.worlds.items starts.none numbers)
 
-pub finishes_on : {W : Type 0} (ways : Ways W) (old mid new : Explorer W) (w : W) → slice_get old.states.worlds.items 0 ≡ Some w → ShowsFirst ways w → Grew old mid → Holds ways new × Grew mid new
-    → Finishes ways new
+pub finishes_on : {W : Type 0} (ways : Ways W) (old mid new : Explorer W) (w : W) → slice_get old.states.worlds.items 0 ≡ Some w → ShowsFirst ways w → Grew old mid → SearchHolds ways new × Grew mid new
+    → SearchFinishes ways new
 finishes_on ways old mid new w there shows grew on = record {
   holds = on.0;
   first = w;
@@ -308,8 +313,8 @@ whole_text : {W : Type 0} (ways : Ways W) (rest : ℕ → List ℕ) (p q : ways.
 whole_text ways rest p q begins prints =
     same_texts (ways.printed q) rest 0 ways.domains (λ at. prints at ∙ ap (λ (i : List ℕ). i ++ rest at) (ways.blank p begins at))
 
-pub text_found : {W : Type 0} (ways : Ways W) (ex : Explorer W) (over : Finishes ways ex) (node : ℕ) (found : Found) → slice_get ex.done.items 0 ≡ Some (Some node)
-    → ((n : Node) (at : ℕ) (e : End) → slice_get ex.nodes.items node ≡ Some n → slice_get n.ends.items at ≡ Some e → HasList ex.suffixes e.list
+pub text_found : {W : Type 0} (ways : Ways W) (ex : Explorer W) (over : SearchFinishes ways ex) (node : ℕ) (found : Found) → slice_get ex.done.items 0 ≡ Some (Some node)
+    → ((n : Node) (at : ℕ) (e : End) → slice_get ex.nodes.items node ≡ Some n → slice_get n.ends.items at ≡ Some e → HasListAt ex.suffixes e.list
     → (o : Order) × (slice_get found.orders.items at ≡ Some o) × (o.text.items ≡ flat_map (rest_by ex.suffixes e.list) (range_with_len 0 ways.domains)))
     → AllTextsFound ways found
 text_found ways ex over node found first orders = λ p turns q begins goes.
@@ -330,14 +335,14 @@ text_found ways ex over node found first orders = λ p turns q begins goes.
 -- each of the first ends has its text among these orders
 abbrev pub HaveTexts : Suffixes → ℕ → List End → List Order → ℕ → Type 0
 HaveTexts s domains ends orders i =
-    (at : ℕ) (e : End) → at < i → slice_get ends at ≡ Some e → HasList s e.list
+    (at : ℕ) (e : End) → at < i → slice_get ends at ≡ Some e → HasListAt s e.list
     → (o : Order) × (slice_get orders at ≡ Some o) × (o.text.items ≡ flat_map (rest_by s e.list) (range_with_len 0 domains))
 
 pub texts_more : (s : Suffixes) (domains i : ℕ) (ends : List End) (e : End) (old new : List Order) (o : Order) → length old ≡ i → slice_get ends i ≡ Some e → new ≡ old ++ o ∷ []
-    → (HasList s e.list → o.text.items ≡ flat_map (rest_by s e.list) (range_with_len 0 domains)) → HaveTexts s domains ends old i → HaveTexts s domains ends new (i + 1)
+    → (HasListAt s e.list → o.text.items ≡ flat_map (rest_by s e.list) (range_with_len 0 domains)) → HaveTexts s domains ends old i → HaveTexts s domains ends new (i + 1)
 texts_more s domains i ends e old new o many there more text each = λ at d lt is has. by at d (less_or at i lt) is has
   where
-    by : (at : ℕ) (d : End) → (at < i) ⊎ (at ≡ i) → slice_get ends at ≡ Some d → HasList s d.list
+    by : (at : ℕ) (d : End) → (at < i) ⊎ (at ≡ i) → slice_get ends at ≡ Some d → HasListAt s d.list
         → (p : Order) × (slice_get new at ≡ Some p) × (p.text.items ≡ flat_map (rest_by s d.list) (range_with_len 0 domains))
     by at d (inl less) is has =
         let was = each at d less is has in
@@ -346,7 +351,7 @@ texts_more s domains i ends e old new o many there more text each = λ at d lt i
         let one : d ≡ e = same_Some d e (sym is ∙ ap (λ (n : ℕ). slice_get ends n) same ∙ there) in (
           o,
           ap (λ (l : List Order). slice_get l at) more ∙ ap (λ (n : ℕ). slice_get (old ++ o ∷ []) n) (same ∙ sym many) ∙ at_last old o,
-          text (subst (λ (f : End). HasList s f.list) one has) ∙ ap (λ (f : End). flat_map (rest_by s f.list) (range_with_len 0 domains)) (sym one),
+          text (subst (λ (f : End). HasListAt s f.list) one has) ∙ ap (λ (f : End). flat_map (rest_by s f.list) (range_with_len 0 domains)) (sym one),
         )
 
 pub length_more : (old new : List Order) (o : Order) (i : ℕ) → length old ≡ i → new ≡ old ++ o ∷ [] → length new ≡ i + 1

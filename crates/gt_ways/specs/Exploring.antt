@@ -1,7 +1,7 @@
 -- What a search knows of the states that it has met.
 use Rattle.std.specs.Prelude.{◌≡◌, ◌⊎◌, ◌++◌, ◌<◌, ℕ, List, [], ◌∷◌, map, length, Option, Some, slice_get, IfSome}
 use Rattle.gt_replay.specs.declared.replay.Turn.{Turn}
-use Rattle.gt_ways.specs.Lists.{HasList, AreWhole, Grows, IsEmptyList, IsLine, line_by, rest_by}
+use Rattle.gt_ways.specs.Lists.{HasListAt, AreWhole, GrowsInto, IsEmptyList, HasItsLine, line_by, rest_by}
 use Rattle.gt_ways.specs.Ways.{Ways, GoesTo, IsShownSo, PrintsTo, ShowsFirst, only_at, text_at, text_led}
 use Rattle.gt_ways.specs.declared.exploring.End.{End}
 use Rattle.gt_ways.specs.declared.exploring.Explorer.{Explorer}
@@ -32,7 +32,7 @@ HasEnd ends list = (at : ℕ) × (e : End) × (slice_get ends at ≡ Some e) × 
 
 -- one of these ends has a list that says what is printed from here to there
 abbrev pub IsAmongEnds : {W : Type 0} → (ways : Ways W) → Suffixes → List End → ways.Point → ways.Point → Type 0
-IsAmongEnds ways s ends p q = (list : ℕ) × HasEnd ends list × HasList s list × PrintsTo ways (rest_by s list) p q
+IsAmongEnds ways s ends p q = (list : ℕ) × HasEnd ends list × HasListAt s list × PrintsTo ways (rest_by s list) p q
 
 -- each way on from what this state shows is among these ends
 abbrev pub AllAreFound : {W : Type 0} → Ways W → Suffixes → W → List End → Type 0
@@ -48,7 +48,7 @@ AllByTurn ways s w ends turn =
 
 -- each of the ends has a list that there is
 abbrev pub AllHaveLists : Suffixes → List End → Type 0
-AllHaveLists s ends = (at : ℕ) (e : End) → slice_get ends at ≡ Some e → HasList s e.list
+AllHaveLists s ends = (at : ℕ) (e : End) → slice_get ends at ≡ Some e → HasListAt s e.list
 
 -- searches
 
@@ -60,7 +60,7 @@ pub record NodeHolds {W : Type 0} (ways : Ways W) (ex : Explorer W) (n : Node) :
   pub lists : AllHaveLists ex.suffixes n.ends.items
 
 -- what holds in a search
-pub record Holds {W : Type 0} (ways : Ways W) (ex : Explorer W) : Type 0 where
+pub record SearchHolds {W : Type 0} (ways : Ways W) (ex : Explorer W) : Type 0 where
   pub whole : AreWhole ex.suffixes
   pub empty : IsEmptyList ex.suffixes 0
   pub nodes : (i : ℕ) (n : Node) → slice_get ex.nodes.items i ≡ Some n → NodeHolds ways ex n
@@ -71,7 +71,7 @@ pub record Holds {W : Type 0} (ways : Ways W) (ex : Explorer W) : Type 0 where
 pub record Grew {W : Type 0} (old new : Explorer W) : Type 0 where
   pub worlds : (more : List W) × (new.states.worlds.items ≡ old.states.worlds.items ++ more)
   pub nodes : (more : List Node) × (new.nodes.items ≡ old.nodes.items ++ more)
-  pub suffixes : Grows old.suffixes new.suffixes
+  pub suffixes : GrowsInto old.suffixes new.suffixes
 
 -- a state's moves are being tried: its ways on by the turns that were tried are found
 pub record VisitHolds {W : Type 0} (ways : Ways W) (ex : Explorer W) (v : Visit) : Type 0 where
@@ -104,12 +104,12 @@ pub record IsLineOf {W : Type 0} (old : Explorer W) (place : ℕ) (led : Led) (m
   pub states : new.states ≡ old.states
   pub done : new.done ≡ old.done
   pub nodes : new.nodes ≡ old.nodes
-  pub suffixes : Grows old.suffixes new.suffixes
-  pub line : IsLine new.suffixes made
+  pub suffixes : GrowsInto old.suffixes new.suffixes
+  pub line : HasItsLine new.suffixes made
   pub printed : (at : ℕ) → line_by new.suffixes made at ≡ only_at place (text_led led) at
 
 -- by this turn, which prints this line, the state leads to that of this node
-pub record Leads {W : Type 0} (ways : Ways W) (ex : Explorer W) (v : Visit) (turn : Turn) (node : ℕ)
+pub record TurnLeads {W : Type 0} (ways : Ways W) (ex : Explorer W) (v : Visit) (turn : Turn) (node : ℕ)
     (line : Option Line) : Type 0 where
   pub done : Node
   pub there : slice_get ex.nodes.items node ≡ Some done
@@ -120,7 +120,7 @@ pub record Leads {W : Type 0} (ways : Ways W) (ex : Explorer W) (v : Visit) (tur
 -- the ways on by this turn were gathered
 pub record Gathered {W : Type 0} (ways : Ways W) (old : Explorer W) (v : Visit) (turn : Turn) (new : Explorer W)
     (w : Visit) : Type 0 where
-  pub holds : Holds ways new
+  pub holds : SearchHolds ways new
   pub grew : Grew old new
   pub visit : VisitHolds ways new w
   pub next : w.next ≡ v.next
@@ -130,7 +130,7 @@ pub record Gathered {W : Type 0} (ways : Ways W) (old : Explorer W) (v : Visit) 
 -- a turn was tried, or leads to a state that is new
 pub record Stepped {W : Type 0} (ways : Ways W) (old : Explorer W) (v : Visit) (other : Option Visit) (new : Explorer W)
     : Type 0 where
-  pub holds : Holds ways new
+  pub holds : SearchHolds ways new
   pub grew : Grew old new
   pub visit : VisitHolds ways new v
   pub deeper : IfSome other (VisitHolds ways new)
@@ -138,13 +138,13 @@ pub record Stepped {W : Type 0} (ways : Ways W) (old : Explorer W) (v : Visit) (
 -- the whole search
 
 -- the search begins
-pub record Starts {W : Type 0} (ways : Ways W) (ex : Explorer W) : Type 0 where
-  pub holds : Holds ways ex
+pub record SearchStarts {W : Type 0} (ways : Ways W) (ex : Explorer W) : Type 0 where
+  pub holds : SearchHolds ways ex
   pub none : ex.states.worlds.items ≡ []
 
 -- the search is over: the first state shows the runs that begin
-pub record Finishes {W : Type 0} (ways : Ways W) (ex : Explorer W) : Type 0 where
-  pub holds : Holds ways ex
+pub record SearchFinishes {W : Type 0} (ways : Ways W) (ex : Explorer W) : Type 0 where
+  pub holds : SearchHolds ways ex
   pub first : W
   pub there : slice_get ex.states.worlds.items 0 ≡ Some first
   pub shows : ShowsFirst ways first

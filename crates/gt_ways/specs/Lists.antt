@@ -34,8 +34,8 @@ abbrev pub HasLine : Suffixes → ℕ → List ℕ → Type 0
 HasLine s n bytes = (n < length s.lines.keys) × (items_at s.lines.keys n ≡ bytes)
 
 -- there is a list with this number
-abbrev pub HasList : Suffixes → ℕ → Type 0
-HasList s n = n < length s.lists.keys
+abbrev pub HasListAt : Suffixes → ℕ → Type 0
+HasListAt s n = n < length s.lists.keys
 
 -- each line of a list has a number that there is
 abbrev pub HasLines : ℕ → List Line → Type 0
@@ -52,19 +52,19 @@ abbrev pub AreWhole : Suffixes → Type 0
 AreWhole s = AllHaveLines (length s.lines.keys) s.lists.keys
 
 -- the answer, if there is one, has a line that there is
-abbrev pub IsLine : Suffixes → Option Line → Type 0
-IsLine s None = Unit {0}
-IsLine s (Some l) = l.number < length s.lines.keys
+abbrev pub HasItsLine : Suffixes → Option Line → Type 0
+HasItsLine s None = Unit {0}
+HasItsLine s (Some l) = l.number < length s.lines.keys
 
 -- there may be more lines and lists now; those that were there are as they were
-pub record Grows (s t : Suffixes) : Type 0 where
+pub record GrowsInto (s t : Suffixes) : Type 0 where
   pub lines : (more : List (Vec ℕ)) × (t.lines.keys ≡ s.lines.keys ++ more)
   pub lists : (more : List (Vec Line)) × (t.lists.keys ≡ s.lists.keys ++ more)
   pub whole : AreWhole s → AreWhole t
 
 -- by the list of this number nothing is printed
 abbrev pub IsEmptyList : Suffixes → ℕ → Type 0
-IsEmptyList s n = HasList s n × ((at : ℕ) → rest_by s n at ≡ [])
+IsEmptyList s n = HasListAt s n × ((at : ℕ) → rest_by s n at ≡ [])
 
 -- by this list the domains print what they print by that one, with an answer before it, if there is one
 abbrev pub IsLonger : Suffixes → Option Line → ℕ → ℕ → Type 0

@@ -1,7 +1,7 @@
 //! The search.
 ghost use Rattle.std.specs.Prelude.{◌≡◌, ◌⊎◌, ℕ, IfOk, IsTrue, slice_get, Some};
 ghost use Rattle.std.specs.Option.{option_map};
-ghost use Rattle.gt_ways.specs.Exploring.{AllTextsFound, Starts};
+ghost use Rattle.gt_ways.specs.Exploring.{AllTextsFound, SearchStarts};
 
 use crate::fault::SearchFault;
 use crate::spaces::{Led, Space};
@@ -126,9 +126,10 @@ fn leads_nowhere(led: &Led) -> bool
 
 impl<W: Drop> Explorer<W> {
     ghost use Rattle.std.specs.Prelude.{◌≡◌, ◌≤◌, Some, IfOk, IfSome, OnOk, length, slice_get};
-    ghost use Rattle.gt_ways.specs.Lists.{IsLine};
-    ghost use Rattle.gt_ways.specs.Exploring.{Holds, EachVisitHolds, VisitHolds, Grew, Leads, Gathered, Stepped};
-    ghost use Rattle.gt_ways.specs.Exploring.{AllTextsFound, IsLineOf, Starts, Finishes};
+    ghost use Rattle.gt_ways.specs.Lists.{HasItsLine};
+    ghost use Rattle.gt_ways.specs.Exploring.{SearchHolds, EachVisitHolds, VisitHolds, Grew, TurnLeads, Gathered};
+    ghost use Rattle.gt_ways.specs.Exploring.{Stepped};
+    ghost use Rattle.gt_ways.specs.Exploring.{AllTextsFound, IsLineOf, SearchStarts, SearchFinishes};
 
     // The node of a state that is done.
     fn node_of(&self, state: usize) -> Option<usize>
@@ -142,8 +143,9 @@ impl<W: Drop> Explorer<W> {
 
     // The state is met for the first time: its moves are to be tried.
     fn visit<S: Space<State = W>>(&mut self, space: &S, state: usize) -> Result<Visit, SearchFault>
-        ensures holds { Holds (S.ways space.now) self.old → IfOk result (λ v.
-            Holds (S.ways space.now) self.new × Grew self.old self.new × VisitHolds (S.ways space.now) self.new v) }
+        ensures holds { SearchHolds (S.ways space.now) self.old → IfOk result (λ v.
+            SearchHolds (S.ways space.now) self.new × Grew self.old self.new
+            × VisitHolds (S.ways space.now) self.new v) }
     {
         let Some(world) = self.states.world(state) else {
             return Err(SearchFault::States);
@@ -189,9 +191,9 @@ impl<W: Drop> Explorer<W> {
         node: usize,
         line: Option<Line>,
     ) -> Result<(), AllocError>
-        requires { IsLine self.old.suffixes line }
-        ensures { Holds (S.ways _space.now) self.old → VisitHolds (S.ways _space.now) self.old visit.old →
-            Leads (S.ways _space.now) self.old visit.old turn node line →
+        requires { HasItsLine self.old.suffixes line }
+        ensures { SearchHolds (S.ways _space.now) self.old → VisitHolds (S.ways _space.now) self.old visit.old →
+            TurnLeads (S.ways _space.now) self.old visit.old turn node line →
             OnOk result (Gathered (S.ways _space.now) self.old visit.old turn self.new visit.new) }
     {
         let Some(done) = node_at(self.nodes.as_slice(), node) else {
@@ -218,7 +220,7 @@ impl<W: Drop> Explorer<W> {
         visit: &mut Visit,
         turn: Turn,
     ) -> Result<Option<Visit>, SearchFault>
-        ensures { Holds (S.ways space.now) self.old → VisitHolds (S.ways space.now) self.old visit.old →
+        ensures { SearchHolds (S.ways space.now) self.old → VisitHolds (S.ways space.now) self.old visit.old →
             slice_get visit.old.turns.items visit.old.next ≡ Some turn →
             IfOk result (λ deeper. Stepped (S.ways space.now) self.old visit.new deeper self.new) }
     {
@@ -248,9 +250,9 @@ impl<W: Drop> Explorer<W> {
 
     // All moves of the state have been tried.
     fn finish<S: Space<State = W>>(&mut self, _space: &S, visit: Visit) -> Result<(), AllocError>
-        ensures { Holds (S.ways _space.now) self.old → VisitHolds (S.ways _space.now) self.old visit →
+        ensures { SearchHolds (S.ways _space.now) self.old → VisitHolds (S.ways _space.now) self.old visit →
             length visit.turns.items ≤ visit.next →
-            OnOk result (Holds (S.ways _space.now) self.new × Grew self.old self.new) }
+            OnOk result (SearchHolds (S.ways _space.now) self.new × Grew self.old self.new) }
     {
         let node = self.nodes.as_slice().len();
         let state = visit.state;
@@ -266,8 +268,8 @@ impl<W: Drop> Explorer<W> {
         space: &S,
         stack: &mut Vec<Visit>,
     ) -> Result<bool, SearchFault>
-        ensures { Holds (S.ways space.now) self.old → EachVisitHolds (S.ways space.now) self.old stack.old.items →
-            OnOk result (Holds (S.ways space.now) self.new × Grew self.old self.new
+        ensures { SearchHolds (S.ways space.now) self.old → EachVisitHolds (S.ways space.now) self.old stack.old.items →
+            OnOk result (SearchHolds (S.ways space.now) self.new × Grew self.old self.new
             × EachVisitHolds (S.ways space.now) self.new stack.new.items) }
     {
         let Some(mut visit) = stack.pop() else {
@@ -287,8 +289,8 @@ impl<W: Drop> Explorer<W> {
 
     // Goes through all states from this one on.
     fn walk<S: Space<State = W>>(&mut self, space: &S, first: Visit) -> Result<(), SearchFault>
-        ensures { Holds (S.ways space.now) self.old → VisitHolds (S.ways space.now) self.old first →
-            OnOk result (Holds (S.ways space.now) self.new × Grew self.old self.new) }
+        ensures { SearchHolds (S.ways space.now) self.old → VisitHolds (S.ways space.now) self.old first →
+            OnOk result (SearchHolds (S.ways space.now) self.new × Grew self.old self.new) }
     {
         let mut stack = Vec::new(self.alloc);
         stack.push(first)?;
@@ -327,7 +329,7 @@ impl<W: Drop> Explorer<W> {
 
     // Goes through all states of the space.
     fn run<S: Space<State = W>>(&mut self, space: &S) -> Result<(), SearchFault>
-        ensures { Starts (S.ways space.now) self.old → OnOk result (Finishes (S.ways space.now) self.new) }
+        ensures { SearchStarts (S.ways space.now) self.old → OnOk result (SearchFinishes (S.ways space.now) self.new) }
     {
         let world = space.start()?;
         let key = space.key(&world)?;
@@ -338,7 +340,7 @@ impl<W: Drop> Explorer<W> {
 
     // What was found: an order for each list of answers that the first state leads to.
     fn found<S: Space<State = W>>(&self, space: &S) -> Result<Found, SearchFault>
-        ensures { Finishes (S.ways space.now) self.now → IfOk result (AllTextsFound (S.ways space.now)) }
+        ensures { SearchFinishes (S.ways space.now) self.now → IfOk result (AllTextsFound (S.ways space.now)) }
     {
         let Some(first) = self.node_of(0) else {
             return Err(SearchFault::Circle);
@@ -364,7 +366,7 @@ fn new_explorer<S: Space>(
     space: &S,
     limit: usize,
 ) -> Result<Explorer<S::State>, AllocError>
-    ensures { IfOk result (Starts (S.ways space.now)) }
+    ensures { IfOk result (SearchStarts (S.ways space.now)) }
 {
     Ok(Explorer {
         alloc,

@@ -51,7 +51,7 @@ fn with_line(alloc: Global, list: &[Line], line: Line) -> Result<Vec<Line>, Allo
 impl Suffixes {
     ghost use Rattle.std.specs.Prelude.{◌≡◌, ◌++◌, ℕ, Some, IfOk, OnOk};
     ghost use Rattle.std.specs.List.{flat_map, range_with_len};
-    ghost use Rattle.gt_ways.specs.Lists.{AreWhole, Grows, HasLine, HasList, IsEmptyList, IsLine, IsLonger};
+    ghost use Rattle.gt_ways.specs.Lists.{AreWhole, GrowsInto, HasLine, HasListAt, IsEmptyList, HasItsLine, IsLonger};
     ghost use Rattle.gt_ways.specs.Lists.{line_by, printed_of, rest_by};
 
     /// Only the empty list.
@@ -70,7 +70,7 @@ impl Suffixes {
 
     /// The number of a line's bytes.
     pub fn line(&mut self, line: Vec<u8>) -> Result<usize, AllocError>
-        ensures grows { OnOk result (Grows self.old self.new) }
+        ensures grows { OnOk result (GrowsInto self.old self.new) }
         ensures line { IfOk result (λ n. HasLine self.new n line.items) }
     {
         let (number, _) = self.lines.insert_full(line)?;
@@ -79,10 +79,10 @@ impl Suffixes {
 
     /// The number of this list with an answer more, if there is one.
     pub fn longer(&mut self, list: usize, line: Option<Line>) -> Result<usize, AllocError>
-        requires { IsLine self.old line }
-        ensures grows { OnOk result (Grows self.old self.new) }
-        ensures there { HasList self.old list → IfOk result (λ n. HasList self.new n) }
-        ensures longer { AreWhole self.old → HasList self.old list →
+        requires { HasItsLine self.old line }
+        ensures grows { OnOk result (GrowsInto self.old self.new) }
+        ensures there { HasListAt self.old list → IfOk result (λ n. HasListAt self.new n) }
+        ensures longer { AreWhole self.old → HasListAt self.old list →
             IfOk result (λ n. IsLonger self.new line list n) }
     {
         let Some(line) = line else {
@@ -122,7 +122,7 @@ impl Suffixes {
 
     /// What so many domains print by the list of this number, the first one's lines first.
     pub fn text(&self, list: usize, domains: usize) -> Result<Vec<u8>, AllocError>
-        ensures { HasList self.now list → IfOk result (λ text.
+        ensures { HasListAt self.now list → IfOk result (λ text.
             text.items ≡ flat_map (rest_by self.now list) (range_with_len 0 domains)) }
     {
         let mut text = Vec::new(self.alloc);

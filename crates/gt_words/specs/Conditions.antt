@@ -89,7 +89,7 @@ HasLooked t r v word =
     (seen (steps_on t r v) ≡ Some (last_seen t r v)) × ((last_seen t r v).word ≡ word) × HasBody (last_seen t r v)
 
 -- the view has a pin of that kind of a Via to the entry r of the domain t, which forwarded the seat's domain,
--- and the record x permits the owner of that Via (own, after grant_table.h, transitive)
+-- and the record x permits the owner of that Via (after grant_table.h, transitive)
 pub record PermitsOwnerOfVia (k : Layout) (t r : ℕ) (v : View) (d : Dir) (x : EntryRecord) : Type 0 where
   pub owner : ℕ
   pub reference : ℕ
@@ -108,7 +108,7 @@ MayPin k t r v d x =
     ⊎ (ForwardsPin x.entry (id_at k.ids v.position) d ⊎ PermitsOwnerOfVia k t r v d x)
 
 -- the seat may pin the entry r of the domain t from this word: it looked at it last, read the body words
--- since, and the word is not invalid, has room and permits it (own, after grant_table.h)
+-- since, and the word is not invalid, has room and permits it (after grant_table.h)
 pub record CanPin (k : Layout) (t r : ℕ) (d : Dir) (word : ℕ) (v : View) : Type 0 where
   pub looked : HasLooked t r v word
   pub valid : IsValid word
@@ -116,7 +116,7 @@ pub record CanPin (k : Layout) (t r : ℕ) (d : Dir) (word : ℕ) (v : View) : T
   pub permitted : MayPin k t r v d (record_seen (last_seen t r v))
 
 -- the word is the idle one of the owner's last record, which is invalid and not worn, and
--- the seat stored the entry's body words (own, after grant_table.h)
+-- the seat stored the entry's body words (after grant_table.h)
 pub record CanPublish (e : Entry) (r word : ℕ) (v : View) : Type 0 where
   pub idle : IsIdleOf (last_of r v) word
   pub none_yet : (last_of r v).entry ≡ Invalid
@@ -124,7 +124,7 @@ pub record CanPublish (e : Entry) (r word : ℕ) (v : View) : Type 0 where
   pub some : e ≢ Invalid
   pub spelled : IsSpelled e (own_body r First v) (own_body r Second v)
 
--- the word is the idle one of the owner's last record, which is an entry (own, after grant_table.h)
+-- the word is the idle one of the owner's last record, which is an entry (after grant_table.h)
 pub record CanRevoke (r word : ℕ) (v : View) : Type 0 where
   pub idle : IsIdleOf (last_of r v) word
   pub some : (last_of r v).entry ≢ Invalid
@@ -135,14 +135,14 @@ pub record CanWithdraw (r word : ℕ) (v : View) : Type 0 where
   pub some : (last_of r v).entry ≢ Invalid
 
 -- the word is one of the owner's last record, which is an entry with this
--- readonly, and not worn (own, after grant_table.h)
+-- readonly, and not worn (after grant_table.h)
 pub record CanTurn (ro : Bool) (r word : ℕ) (v : View) : Type 0 where
   pub word_is : IsWordOf (last_of r v) word
   pub some : (last_of r v).entry ≢ Invalid
   pub now : is_read_only (last_of r v).entry ≡ ro
   pub room : (last_of r v).generation < LAST_GENERATION
 
--- the word is such a one of a writable entry, without write pins (own, after grant_table.h)
+-- the word is such a one of a writable entry, without write pins (after grant_table.h)
 abbrev pub CanDemote : ℕ → ℕ → View → Type 0
 CanDemote r word v = CanTurn false r word v × (pins_in Write word ≡ 0)
 

@@ -61,8 +61,8 @@ pub fn every_word_follows_from_the_views()
 {}
 
 /// A law: a step that leads from a state that words and views show to another such state is taken then. It comes right
-/// after all steps before it, and says the word that is there. So no body tells a step of another moment, or a word that
-/// its step did not find.
+/// after all steps before it, and says the word that is there. So no body tells a step of another moment, or a word
+/// that its step did not find.
 pub fn every_step_is_taken_then()
     ensures { StepsAreTakenThen }
 {}
@@ -78,7 +78,8 @@ pub fn every_allowed_step_says_what_is_there()
 {}
 
 /// A law: each step of a history, whoever took it, was taken at its moment. Words and views stood so before it, it says
-/// the word that was there, a pin is of the last record then, and it takes each entry and header to what its event gives.
+/// the word that was there, a pin is of the last record then, and it takes each entry and header to what its event
+/// gives.
 pub fn every_step_of_a_history_happened()
     ensures { EachStepHappened }
 {}

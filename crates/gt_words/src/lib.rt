@@ -5,8 +5,8 @@
 //! the core: who was granted what, with each pin counted. So a revocation that is answered Ok was made
 //! while no domain had a pin of its entry.
 //!
-//! Each call promises, by its contract, the state in which its step was made, and what the step made of it. All steps of
-//! all domains have one order. At run time views and steps cost nothing. No call but `Words::new` takes memory, and
+//! Each call promises, by its contract, the state in which its step was made, and what the step made of it. All steps
+//! of all domains have one order. At run time views and steps cost nothing. No call but `Words::new` takes memory, and
 //! none waits.
 //!
 //! It uses `atomic_table`, whose rule is `Shows` of specs/Rule.antt, the words of `gt_entry`, and

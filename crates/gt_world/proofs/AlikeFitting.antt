@@ -1,23 +1,33 @@
 -- A step that is right fits too after a history that is, but for keys, one that a core stands for.
-use Rattle.gt_core.proofs.Words.{◌≡◌, ◌≢◌, ◌<◌, ◌≤◌, ◌+◌, ℕ, refl, Bool, List, [], ◌∷◌, ◌++◌, length, Option, Some, None, cond, sym}
+use Rattle.gt_core.proofs.Words.{◌≡◌, ◌≢◌, ◌<◌, ◌≤◌, ◌+◌, ℕ, refl, Bool, List, [], ◌∷◌, ◌++◌, length, Option, Some}
+use Rattle.gt_core.proofs.Words.{None, cond, sym}
 use Rattle.gt_core.proofs.Words.{ap, ◌∙◌, arith, subst, ◌==◌, eqb-true, eq-eqb, none-some, same_Some, cond_both}
-use Rattle.gt_core.proofs.Words.{count_by, sum_by-cons, option_map, DomId, Dir, Handle, Held, Holder, ByMapping, ByLeg, Seen, Taken, Missed}
-use Rattle.gt_core.proofs.Words.{Makes, Verdict, Step, PinStep, Unpin, StoreHeader, Exchange, ReadBytes, State, state_of, Asked, Unmap}
-use Rattle.gt_core.proofs.Words.{History, Setting, Pin, Underway, live, open_call, values, word_at, seen_by, known_at, legs_at, numbered, without}
-use Rattle.gt_core.proofs.Words.{generation_at, is_pin_on, mappings_at, mapping_of, gather, by_leg, path, begun, after_beginning, CallerKnowledge}
-use Rattle.gt_core.proofs.Words.{OpenAgrees, CallAgrees, IsRight, StepsRightIn, StateAgrees, bare_handle, bare_step, AsksKnown, IsRun, AreAlike}
+use Rattle.gt_core.proofs.Words.{count_by, sum_by-cons, option_map, DomId, Dir, Handle, Held, Holder, ByMapping, ByLeg}
+use Rattle.gt_core.proofs.Words.{Seen, Taken, Missed}
+use Rattle.gt_core.proofs.Words.{Makes, Verdict, Step, PinStep, Unpin, StoreHeader, Exchange, ReadBytes, State}
+use Rattle.gt_core.proofs.Words.{state_of, Asked, Unmap}
+use Rattle.gt_core.proofs.Words.{History, Setting, Pin, Underway, live, open_call, values, word_at, seen_by, known_at}
+use Rattle.gt_core.proofs.Words.{legs_at, numbered, without}
+use Rattle.gt_core.proofs.Words.{generation_at, is_pin_on, mappings_at, mapping_of, gather, by_leg, path, begun}
+use Rattle.gt_core.proofs.Words.{after_beginning, CallerKnowledge}
+use Rattle.gt_core.proofs.Words.{OpenAgrees, CallAgrees, IsRight, StepsRightIn, StateAgrees, bare_handle, bare_step}
+use Rattle.gt_core.proofs.Words.{AsksKnown, IsRun, AreAlike}
 use Rattle.gt_core.proofs.Words.{raise_of, LAST_GENERATION, MAX_PINS, Justified, Load, Store}
-use Rattle.gt_core.proofs.{Phases.makes-same, Steps.See.state-there, Steps.Unpin.loses-leg, Steps.Unpin.loses-mapping, Steps.Unpin.Loses}
-use Rattle.gt_core.proofs.{Steps.Observers.stepped, WithoutKeys.bare, WithoutKeys.bared, WithoutKeys.bare-same, WithoutKeys.bare_asked}
-use Rattle.gt_core.proofs.{WithoutKeys.bare_call, WithoutKeys.values-bare, Pins.mapping-bare, Pins.known-bare, Pins.word-bare}
-use Rattle.gt_core.proofs.{Pins.live-bare, Pins.bare_pin, Pins.bare_pins, HandlesGiven.open-known, HandlesGiven.CallKnown, AlikeRuns.bare_action}
+use Rattle.gt_core.proofs.{Phases.makes-same, Steps.See.state-there, Steps.Unpin.loses-leg, Steps.Unpin.loses-mapping}
+use Rattle.gt_core.proofs.{Steps.Unpin.Loses}
+use Rattle.gt_core.proofs.{Steps.Observers.stepped, WithoutKeys.bare, WithoutKeys.bared, WithoutKeys.bare-same}
+use Rattle.gt_core.proofs.{WithoutKeys.bare_asked}
+use Rattle.gt_core.proofs.{WithoutKeys.bare_call, WithoutKeys.values-bare, Pins.mapping-bare, Pins.known-bare}
+use Rattle.gt_core.proofs.{Pins.word-bare}
+use Rattle.gt_core.proofs.{Pins.live-bare, Pins.bare_pin, Pins.bare_pins, HandlesGiven.open-known}
+use Rattle.gt_core.proofs.{HandlesGiven.CallKnown, AlikeRuns.bare_action}
 use Rattle.gt_core.specs.Prelude.{WriteBytes, CopyBytes}
 use Rattle.gt_core.specs.GoingOn.{CanBeReached}
 use Rattle.gt_core.specs.declared.underway.Open.{Open}
 use Rattle.gt_core.specs.declared.trace.Happened.TheVariants.{Stepped}
 use Rattle.gt_core.specs.declared.trace.Item.{Item}
 use Rattle.gt_calls.specs.Path.{by_mapping}
-use Rattle.gt_world.specs.Shows.{IsOfRun, LooksInRun, StepFits}
+use Rattle.gt_world.specs.Shows.{IsInRun, LooksInRun, StepFits}
 use Rattle.gt_world.specs.Likeness.{LikeReachedFits}
 use Rattle.gt_world.proofs.Showing.{item-is}
 use Rattle.gt_world.proofs.Fitting.{looks, fits, own-legs, copy-frames, from-looks, to-looks, of-place}
@@ -184,7 +194,7 @@ same-run s h g x i z seen alike reached here (Some c) (Some w) hu gw (Some o) a 
     let f = from-bare s h x.id z (subst (Fits0 s h x.id) (sym same) (to-bare s h x.id o.step (to-alike s h g alike x.id o.step (fit s g reached x here o w a o.step refl)))) in
     (f.looks, subst (StepFits s h x.id z) (sym right.sees) (step-fits s h x.id c z f right.justified right.continues))
 
-like-fits : (s : Setting) (h g : History) (i : Item) (z : Step) (seen : Seen) → AreAlike s h g → CanBeReached s g → IsOfRun s i.actor → IsRight s h i → i.happened ≡ Stepped z seen → LooksInRun s i.actor z × StepFits s h i.actor z seen
+like-fits : (s : Setting) (h g : History) (i : Item) (z : Step) (seen : Seen) → AreAlike s h g → CanBeReached s g → IsInRun s i.actor → IsRight s h i → i.happened ≡ Stepped z seen → LooksInRun s i.actor z × StepFits s h i.actor z seen
 like-fits s h g i z seen alike reached run right is =
     let st = reached.1.domains in let xs = reached.0.domains in
     let some : state_of xs i.actor.0 ≢ None = λ e. run (subst (StateAgrees s g i.actor) e (st.each i.actor)) in
@@ -196,7 +206,7 @@ like-fits s h g i z seen alike reached run right is =
 
 pub like-fits-step : LikeReachedFits
 like-fits-step s h i at d made step seen (g, alike, reached) right is placed actor same =
-    let run : IsOfRun s i.actor = subst (IsOfRun s) (sym actor) (of-place s.domains at d placed) in
+    let run : IsInRun s i.actor = subst (IsInRun s) (sym actor) (of-place s.domains at d placed) in
     let f = like-fits s h g i made seen alike reached run right is in (
       record { domain = d; placed = placed; actor = actor; made = made; happened = is; same = same; fits = f.1 },
       from-looks s i.actor step (subst (LooksInRun s i.actor) same (to-looks s i.actor made f.0)),

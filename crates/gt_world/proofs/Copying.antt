@@ -1,5 +1,6 @@
 -- Tables and pages once more, and those at the start.
-use Rattle.std.proofs.Common.{◌≡◌, ◌≢◌, ℕ, zero, suc, ◌+◌, ◌≤◌, ◌%◌, ◌==◌, ◌&&◌, Bool, cond, List, [], ◌∷◌, ◌++◌, length, slice_get, Some}
+use Rattle.std.proofs.Common.{◌≡◌, ◌≢◌, ℕ, zero, suc, ◌+◌, ◌≤◌, ◌%◌, ◌==◌, ◌&&◌, Bool, cond, List, [], ◌∷◌, ◌++◌}
+use Rattle.std.proofs.Common.{length, slice_get, Some}
 use Rattle.std.proofs.Common.{refl, sym, ap, ◌∙◌, subst, arith, ◌<◌, ◌-◌, true, false, get_or, replicate, take}
 use Rattle.std.proofs.lemmas.List.{take_more}
 use Rattle.std.specs.Prelude.{All, AllPairs}
@@ -14,7 +15,8 @@ use Rattle.gt_types.specs.declared.config.Config.{Config}
 use Rattle.gt_types.specs.declared.limits.TheConstants.{FRAME_SIZE, LAST_GENERATION, LAST_VERSION, MAX_TABLE_FRAMES}
 use Rattle.gt_entry.specs.declared.header.Header.{Header}
 use Rattle.gt_frames.specs.Bytes.{zeros, written}
-use Rattle.gt_core.specs.History.{History, Setting, header_from, table_at, entry_at, raises_at, generation_at, live, body_at}
+use Rattle.gt_core.specs.History.{History, Setting, header_from, table_at, entry_at, raises_at, generation_at, live}
+use Rattle.gt_core.specs.History.{body_at}
 use Rattle.gt_core.specs.History.{patches_at}
 use Rattle.gt_world.specs.Pages.{kept_bytes, padded}
 use Rattle.gt_world.specs.Rows.{counts_in}

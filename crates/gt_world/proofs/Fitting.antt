@@ -1,29 +1,38 @@
 -- A step that is right after a history that a core stands for fits.
-use Rattle.gt_core.proofs.Words.{◌≡◌, ◌≢◌, ◌≤◌, ◌+◌, ℕ, refl, Bool, true, List, [], ◌∷◌, ◌++◌, length, Option, Some, None, cond, sym}
-use Rattle.gt_core.proofs.Words.{ap, ◌∙◌, arith, subst, ◌==◌, eqb-true, none-some, same_Some, cond_both, reverse, length-reverse, reverse_onto, domain_of}
-use Rattle.gt_core.proofs.Words.{DomId, Held, ByMapping, ByLeg, Seen, Taken, Missed, Step, LookHeader, LookControl, LookBody}
+use Rattle.gt_core.proofs.Words.{◌≡◌, ◌≢◌, ◌≤◌, ◌+◌, ℕ, refl, Bool, true, List, [], ◌∷◌, ◌++◌, length, Option, Some}
+use Rattle.gt_core.proofs.Words.{None, cond, sym}
+use Rattle.gt_core.proofs.Words.{ap, ◌∙◌, arith, subst, ◌==◌, eqb-true, none-some, same_Some, cond_both, reverse}
+use Rattle.gt_core.proofs.Words.{length-reverse, reverse_onto, domain_of}
+use Rattle.gt_core.proofs.Words.{DomId, Held, ByMapping, ByLeg, Seen, Taken, Missed, Step, LookHeader, LookControl}
+use Rattle.gt_core.proofs.Words.{LookBody}
 use Rattle.gt_core.proofs.Words.{PinStep, Unpin, StoreHeader, Exchange, ReadBytes, State, state_of}
-use Rattle.gt_core.proofs.Words.{History, Setting, Underway, live, open_call, values, word_at, seen_by, legs_at, numbered, without}
-use Rattle.gt_core.proofs.Words.{DomainsStand, StateAgrees, OpenAgrees, CallAgrees, IsLegalHistory, IsRight, StepsRightIn}
-use Rattle.gt_core.proofs.{Phases.IsHere, Phases.makes-same, EachStep.each-step, Steps.See.IsWithin, Steps.See.state-there, Steps.Pin.can-pin}
-use Rattle.gt_core.proofs.{Steps.Exchange.can-change, Steps.Unpin.loses-leg, Steps.Unpin.loses-mapping, Steps.Unpin.Loses}
+use Rattle.gt_core.proofs.Words.{History, Setting, Underway, live, open_call, values, word_at, seen_by, legs_at}
+use Rattle.gt_core.proofs.Words.{numbered, without}
+use Rattle.gt_core.proofs.Words.{DomainsStand, StateAgrees, OpenAgrees, CallAgrees, IsLegalHistory, IsRight}
+use Rattle.gt_core.proofs.Words.{StepsRightIn}
+use Rattle.gt_core.proofs.{Phases.IsHere, Phases.makes-same, EachStep.each-step, Steps.See.IsWithin}
+use Rattle.gt_core.proofs.{Steps.See.state-there, Steps.Pin.can-pin}
+use Rattle.gt_core.proofs.{Steps.Exchange.can-change, Steps.Unpin.loses-leg, Steps.Unpin.loses-mapping}
+use Rattle.gt_core.proofs.{Steps.Unpin.Loses}
 use Rattle.gt_core.proofs.{Steps.Store.header-fits}
 use Rattle.gt_core.specs.Prelude.{WriteBytes, CopyBytes}
 use Rattle.gt_core.specs.GoingOn.{CanBeReached}
-use Rattle.gt_core.proofs.Words.{zero, suc, false, eq-eqb, false≢true, slice_get, DomainConfig, Asked, Copy, Spot, FRAME_SIZE, CopyIsJustified, Justified}
+use Rattle.gt_core.proofs.Words.{zero, suc, false, eq-eqb, false≢true, slice_get, DomainConfig, Asked, Copy, Spot}
+use Rattle.gt_core.proofs.Words.{FRAME_SIZE, CopyIsJustified, Justified}
 use Rattle.gt_core.proofs.Steps.Observers.{stepped}
 use Rattle.gt_core.specs.declared.underway.Open.{Open}
 use Rattle.gt_core.specs.declared.trace.Happened.{Happened}
 use Rattle.gt_core.specs.declared.trace.Happened.TheVariants.{Began, Stepped}
 use Rattle.gt_core.specs.declared.trace.Item.{Item}
-use Rattle.gt_world.specs.Shows.{IsOfRun, LooksInRun, StepFits, PagesShow, TablesShow, unheld, RightStepsFit, BeginningsChangeNothing}
+use Rattle.gt_world.specs.Shows.{IsInRun, LooksInRun, StepFits, PagesShow, TablesShow, unheld, RightStepsFit}
+use Rattle.gt_world.specs.Shows.{BeginningsChangeNothing}
 use Rattle.gt_world.proofs.Showing.{item-is, tables-begun}
 use Rattle.gt_world.proofs.Writings.{pages-begun}
 
 -- a domain with a state is one of the run
-of-state : (s : Setting) (h : History) (xs : List State) (dom : DomId) → DomainsStand s h xs → state_of xs dom.0 ≢ None → IsOfRun s dom
+of-state : (s : Setting) (h : History) (xs : List State) (dom : DomId) → DomainsStand s h xs → state_of xs dom.0 ≢ None → IsInRun s dom
 of-state s h xs dom st some = by (state_of xs dom.0) refl (st.each dom) where
-  by : (o : Option State) → state_of xs dom.0 ≡ o → StateAgrees s h dom o → IsOfRun s dom
+  by : (o : Option State) → state_of xs dom.0 ≡ o → StateAgrees s h dom o → IsInRun s dom
   by None e a = absurd (some e)
   by (Some x) e a = a.0
 
@@ -80,7 +89,7 @@ same-step s h xs x i step seen legal st here (Some o) (Some c) a right =
     let same : o.step ≡ step = makes-same o.step step (same_Some _ _ (sym a.follows ∙ right.continues)) in
     (looks s h xs x o c legal st here a step same, subst (StepFits s h x.id step) (sym right.sees) (fits s h xs x o c legal st here a step same right.justified))
 
-pub right-fits : (s : Setting) (h : History) (i : Item) (step : Step) (seen : Seen) → CanBeReached s h → IsOfRun s i.actor → IsRight s h i → i.happened ≡ Stepped step seen → LooksInRun s i.actor step × StepFits s h i.actor step seen
+pub right-fits : (s : Setting) (h : History) (i : Item) (step : Step) (seen : Seen) → CanBeReached s h → IsInRun s i.actor → IsRight s h i → i.happened ≡ Stepped step seen → LooksInRun s i.actor step × StepFits s h i.actor step seen
 right-fits s h i step seen (core, stands) run right is =
     let st = stands.domains in let xs = core.domains in
     let some : state_of xs i.actor.0 ≢ None = λ e. run (subst (StateAgrees s h i.actor) e (st.each i.actor)) in
@@ -112,7 +121,7 @@ of-place (x ∷ xs) (suc at) c e = by (x.id.0 == c.id.0) (of-place xs at c e) wh
 
 pub right-steps-fit : RightStepsFit
 right-steps-fit s h i at d made step seen reached right is placed actor same =
-    let run : IsOfRun s i.actor = subst (IsOfRun s) (sym actor) (of-place s.domains at d placed) in
+    let run : IsInRun s i.actor = subst (IsInRun s) (sym actor) (of-place s.domains at d placed) in
     let f = right-fits s h i made seen reached run right is in (
       record { domain = d; placed = placed; actor = actor; made = made; happened = is; same = same; fits = f.1 },
       from-looks s i.actor step (subst (LooksInRun s i.actor) same (to-looks s i.actor made f.0)),

@@ -1,20 +1,36 @@
 -- A history that is, but for keys, one that a core stands for is so with each right item more.
-use Rattle.gt_core.proofs.Words.{◌≡◌, ◌≢◌, ◌≤◌, ◌+◌, ◌-◌, ◌⊎◌, inl, inr, ℕ, refl, Bool, true, false, List, [], ◌∷◌, ◌++◌, length, Option}
-use Rattle.gt_core.proofs.Words.{Some, None, cond, sym, ap, ◌∙◌, arith, subst, ◌==◌, ◌&&◌, none-some, same_Some, reverse, option_map, sum_by_push}
-use Rattle.gt_core.proofs.Words.{is_some, take, drop, get_or, ltb, eqb-true, DomId, Handle, Held, HandleMap, Slot, value_of, same_handle}
-use Rattle.gt_core.proofs.Words.{Seen, Nothing, Action, Makes, Done, Verdict, Granted, KeptPin, Step, Unpin, ReadBytes, ByMapping}
-use Rattle.gt_core.proofs.Words.{Denial, Asked, Load, Peek, Phase, Storing, StoringSecond, Exchanging, Looking, Changing, Walking, Accessing, Asking, Last, Ending}
-use Rattle.gt_core.proofs.Words.{Call, State, state_of, History, Setting, Underway, open_call, values, known_at, seen_by, path, sees, knowledge_of}
-use Rattle.gt_core.proofs.Words.{OpenAgrees, CallAgrees, StateAgrees, StateStands, IsRight, StepsRight, StepsRightIn, BeginsRight, AnsweredBy}
-use Rattle.gt_core.proofs.Words.{AreAlike, IsRun, AsksKnown, IsKnown, IsGiven, told_items, told_item, bare_handle, bare_step, bare_request}
-use Rattle.gt_core.proofs.Words.{Adds, MayDo, Goes, action_at, phase_after, next_to_give, last_first, PhaseStands, begun_of, asked, IsSaid}
-use Rattle.gt_core.proofs.Words.{table_at, gives_back, verdict_in, stood, position, domain_of, IsReadable, IsLoadOf, contents_at, CallerKnowledge}
-use Rattle.gt_core.proofs.{Phases.makes-same, Phases.by-leg, Phases.by-giving, Steps.See.state-there, Steps.Observers.stepped}
-use Rattle.gt_core.proofs.{WithoutKeys.bare, WithoutKeys.bared, WithoutKeys.bare-same, WithoutKeys.bare_asked, WithoutKeys.bare_call}
-use Rattle.gt_core.proofs.{WithoutKeys.values-bare, WithoutKeys.contents-bare, HandlesGiven.open-known, HandlesGiven.CallKnown, AlikeRuns.bare_action}
-use Rattle.gt_core.proofs.{AlikeRuns.does-alike, AlikeRuns.alike-grows, GoingOn.open-calls-can-go-on, GoingOn.open-calls-can-access}
-use Rattle.gt_core.proofs.{Ticking.Ticks, Ticking.ticks, Steps.Write.open-readable, Steps.Write.frames-begun, GoingOn.calls-can-begin, GoingOn.runs-start}
-use Rattle.gt_core.proofs.{Beginning.began, Beginning.begin-answers, AgreementKept.known-same, Playing.legal-grows, Pins.known-bare}
+use Rattle.gt_core.proofs.Words.{◌≡◌, ◌≢◌, ◌≤◌, ◌+◌, ◌-◌, ◌⊎◌, inl, inr, ℕ, refl, Bool, true, false, List, [], ◌∷◌}
+use Rattle.gt_core.proofs.Words.{◌++◌, length, Option}
+use Rattle.gt_core.proofs.Words.{Some, None, cond, sym, ap, ◌∙◌, arith, subst, ◌==◌, ◌&&◌, none-some, same_Some}
+use Rattle.gt_core.proofs.Words.{reverse, option_map, sum_by_push}
+use Rattle.gt_core.proofs.Words.{is_some, take, drop, get_or, ltb, eqb-true, DomId, Handle, Held, HandleMap, Slot}
+use Rattle.gt_core.proofs.Words.{value_of, same_handle}
+use Rattle.gt_core.proofs.Words.{Seen, Nothing, Action, Makes, Done, Verdict, Granted, KeptPin, Step, Unpin, ReadBytes}
+use Rattle.gt_core.proofs.Words.{ByMapping}
+use Rattle.gt_core.proofs.Words.{Denial, Asked, Load, Peek, Phase, Storing, StoringSecond, Exchanging, Looking}
+use Rattle.gt_core.proofs.Words.{Changing, Walking, Accessing, Asking, Last, Ending}
+use Rattle.gt_core.proofs.Words.{Call, State, state_of, History, Setting, Underway, open_call, values, known_at}
+use Rattle.gt_core.proofs.Words.{seen_by, path, sees, knowledge_of}
+use Rattle.gt_core.proofs.Words.{OpenAgrees, CallAgrees, StateAgrees, StateStands, IsRight, StepsRight, StepsRightIn}
+use Rattle.gt_core.proofs.Words.{BeginsRight, AnsweredBy}
+use Rattle.gt_core.proofs.Words.{AreAlike, IsRun, AsksKnown, IsKnown, IsGiven, told_items, told_item, bare_handle}
+use Rattle.gt_core.proofs.Words.{bare_step, bare_request}
+use Rattle.gt_core.proofs.Words.{Adds, MayDo, Goes, action_at, phase_after, next_to_give, last_first, PhaseStands}
+use Rattle.gt_core.proofs.Words.{begun_of, asked, IsSaid}
+use Rattle.gt_core.proofs.Words.{table_at, gives_back, verdict_in, stood, position, domain_of, IsReadable, IsLoadOf}
+use Rattle.gt_core.proofs.Words.{contents_at, CallerKnowledge}
+use Rattle.gt_core.proofs.{Phases.makes-same, Phases.by-leg, Phases.by-giving, Steps.See.state-there}
+use Rattle.gt_core.proofs.{Steps.Observers.stepped}
+use Rattle.gt_core.proofs.{WithoutKeys.bare, WithoutKeys.bared, WithoutKeys.bare-same, WithoutKeys.bare_asked}
+use Rattle.gt_core.proofs.{WithoutKeys.bare_call}
+use Rattle.gt_core.proofs.{WithoutKeys.values-bare, WithoutKeys.contents-bare, HandlesGiven.open-known}
+use Rattle.gt_core.proofs.{HandlesGiven.CallKnown, AlikeRuns.bare_action}
+use Rattle.gt_core.proofs.{AlikeRuns.does-alike, AlikeRuns.alike-grows, GoingOn.open-calls-can-go-on}
+use Rattle.gt_core.proofs.{GoingOn.open-calls-can-access}
+use Rattle.gt_core.proofs.{Ticking.Ticks, Ticking.ticks, Steps.Write.open-readable, Steps.Write.frames-begun}
+use Rattle.gt_core.proofs.{GoingOn.calls-can-begin, GoingOn.runs-start}
+use Rattle.gt_core.proofs.{Beginning.began, Beginning.begin-answers, AgreementKept.known-same, Playing.legal-grows}
+use Rattle.gt_core.proofs.{Pins.known-bare}
 use Rattle.gt_core.proofs.{Rows.found, Rows.not-found, Rows.has_id}
 use Rattle.gt_core.proofs.Words.{mapping_of, mappings_at}
 use Rattle.gt_core.specs.Alike.{HappensKnown}
@@ -24,7 +40,8 @@ use Rattle.gt_calls.proofs.Advancing.{continues}
 use Rattle.gt_calls.specs.Machine.{standing_after}
 use Rattle.gt_core.specs.Prelude.{WriteBytes, CopyBytes}
 use Rattle.gt_core.specs.Acting.{answer_of}
-use Rattle.gt_core.specs.GoingOn.{AccessAnsweredSo, AnsweredSo, CanBeReached, IsAccess, IsOnWords, TellsAccess, step_after}
+use Rattle.gt_core.specs.GoingOn.{AccessAnsweredSo, AnsweredSo, CanBeReached, IsAccess, IsOnWords, TellsAccess}
+use Rattle.gt_core.specs.GoingOn.{step_after}
 use Rattle.gt_core.specs.Legal.{next_in}
 use Rattle.gt_core.specs.Alike.{ToldItem, bare_bytes, told_part}
 use Rattle.gt_calls.specs.Asking.{FitsAsked}
@@ -42,7 +59,7 @@ use Rattle.gt_core.specs.declared.trace.Item.{Item}
 use Rattle.std.proofs.lemmas.List.{get_or_append_left, get_or_push, get_or_past, length_push}
 use Rattle.std.proofs.lemmas.Bool.Decides.{nat_tests}
 use Rattle.gt_world.specs.Likeness.{AsksFit, LikeReachedGoesOn, LikeReachedStarts}
-use Rattle.gt_world.specs.Shows.{IsOfRun}
+use Rattle.gt_world.specs.Shows.{IsInRun}
 use Rattle.gt_world.proofs.Showing.{item-is}
 use Rattle.gt_world.proofs.AlikeFitting.{same-bare, path-at, finds-same, FindsSame}
 
@@ -280,7 +297,7 @@ tick-home s h g x i z seen alike reached here a named (Some c) None hu gw o b ri
 tick-home s h g x i z seen alike reached here a named (Some c) (Some w) hu gw None b right = absurd b
 tick-home s h g x i z seen alike reached here a named (Some c) (Some w) hu gw (Some o) b right = goes-on s h g alike reached x here a named c w o hu gw b z seen i.answer right
 
-pub tick-like : (s : Setting) (h g : History) (i : Item) (z : Step) (seen : Seen) → AreAlike s h g → CanBeReached s g → IsOfRun s i.actor → IsRight s h i → i.happened ≡ Stepped z seen → GoesOnLike s h g i
+pub tick-like : (s : Setting) (h g : History) (i : Item) (z : Step) (seen : Seen) → AreAlike s h g → CanBeReached s g → IsInRun s i.actor → IsRight s h i → i.happened ≡ Stepped z seen → GoesOnLike s h g i
 tick-like s h g i z seen alike reached run right is =
     let st = reached.1.domains in let xs = reached.0.domains in
     let some : state_of xs i.actor.0 ≢ None = λ e. run (subst (StateAgrees s g i.actor) e (st.each i.actor)) in
@@ -363,7 +380,7 @@ no-call : (o : Option Underway) → None ≡ option_map bare_call o → o ≡ No
 no-call None e = refl
 no-call (Some c) e = absurd (none-some (bare_call c) e)
 
-module _ (s : Setting) (h g : History) (alike : AreAlike s h g) (reached : CanBeReached s g) (d : DomId) (run : IsOfRun s d) (request : Request) (answer : Option Answer) (right : BeginsRight s h (began d request answer) request)
+module _ (s : Setting) (h g : History) (alike : AreAlike s h g) (reached : CanBeReached s g) (d : DomId) (run : IsInRun s d) (request : Request) (answer : Option Answer) (right : BeginsRight s h (began d request answer) request)
     (known : AsksKnown h d.0 (asked request)) (fits : FitsAsked (asked request)) where
   r : Renamed g d request
   r = renamed s h g d request alike known
@@ -419,13 +436,13 @@ module _ (s : Setting) (h g : History) (alike : AreAlike s h g) (reached : CanBe
     by None e = begin-opens e answer refl
     by (Some v) e = begin-ends v e
 
-begin-like : (s : Setting) (h g : History) (i : Item) (request : Request) → AreAlike s h g → CanBeReached s g → IsOfRun s i.actor → IsRight s h i → i.happened ≡ Began request → AsksKnown h i.actor.0 (asked request) → FitsAsked (asked request) → GoesOnLike s h g i
+begin-like : (s : Setting) (h g : History) (i : Item) (request : Request) → AreAlike s h g → CanBeReached s g → IsInRun s i.actor → IsRight s h i → i.happened ≡ Began request → AsksKnown h i.actor.0 (asked request) → FitsAsked (asked request) → GoesOnLike s h g i
 begin-like s h g i request alike reached run right is known fits = let same = began-is i i.actor request refl is in
     subst (GoesOnLike s h g) (sym same) (begin-home s h g alike reached i.actor run request i.answer (subst (IsRight s h) same right) known fits)
 
 -- each item
 
-item-like : (s : Setting) (h g : History) (i : Item) (x : Happened) → i.happened ≡ x → AreAlike s h g → CanBeReached s g → IsOfRun s i.actor → IsRight s h i → HappensKnown h i → AsksFit x → GoesOnLike s h g i
+item-like : (s : Setting) (h g : History) (i : Item) (x : Happened) → i.happened ≡ x → AreAlike s h g → CanBeReached s g → IsInRun s i.actor → IsRight s h i → HappensKnown h i → AsksFit x → GoesOnLike s h g i
 item-like s h g i (Stepped z seen) is alike reached run right known fits = tick-like s h g i z seen alike reached run right is
 item-like s h g i (Began request) is alike reached run right known fits = begin-like s h g i request alike reached run right is
     (let same = began-is i i.actor request refl is in subst (HappensKnown h) same known) fits

@@ -1,5 +1,6 @@
 -- What steps see in tables is what the history left.
-use Rattle.std.proofs.Common.{◌≡◌, ◌≢◌, ℕ, zero, suc, ◌<◌, ◌==◌, Bool, true, false, cond, List, [], ◌∷◌, length, slice_get}
+use Rattle.std.proofs.Common.{◌≡◌, ◌≢◌, ℕ, zero, suc, ◌<◌, ◌==◌, Bool, true, false, cond, List, [], ◌∷◌, length}
+use Rattle.std.proofs.Common.{slice_get}
 use Rattle.std.proofs.Common.{Option, Some, None, refl, sym, ap, ◌∙◌, subst, arith}
 use Rattle.std.proofs.lemmas.Bool.{eqb-true}
 use Rattle.std.proofs.lemmas.Option.{slice_get_within}
@@ -20,8 +21,8 @@ use Rattle.gt_calls.specs.declared.action.Seen.TheVariants.{Word}
 use Rattle.gt_core.specs.History.{History, Setting, entry_at, generation_at, reads_at, body_at, word_at}
 use Rattle.gt_core.specs.History.{seen_by, exchange_sees}
 use Rattle.gt_world.specs.Rows.{counts_in, word_in}
-use Rattle.gt_world.specs.Shows.{IsSettingOf, IsOfRun, LooksInRun, TableShows, TablesShow}
-use Rattle.gt_world.specs.Tables.{place_of_domain, table_in, header_seen, word_seen, body_seen, sees}
+use Rattle.gt_world.specs.Shows.{IsSettingOf, IsInRun, LooksInRun, TableShows, TablesShow}
+use Rattle.gt_world.specs.Tables.{place_of_domain, table_in, header_in_table, word_seen, body_in_table, step_sees}
 use Rattle.gt_world.specs.declared.table.Table.{Table}
 use Rattle.gt_world.proofs.Becoming.{placed}
 
@@ -41,7 +42,7 @@ some-there (t ∷ ts) (suc k) within = some-there ts k (omega arith)
 
 module _ (s : Setting) (h : History) (c : Config) (ts : List Table) (set : IsSettingOf c s) (shows : TablesShow s h ts) where
   -- its table is the one at that place
-  there : (d : DomId) → IsOfRun s d → (t : Table) × (table_in c.domains.items ts d.0 ≡ Some t) × TableShows s h d t
+  there : (d : DomId) → IsInRun s d → (t : Table) × (table_in c.domains.items ts d.0 ≡ Some t) × TableShows s h d t
   there d some = let f = found s.domains d some in let many = shows.many in let within = slice_get_within s.domains f.0 f.1 f.2 in
       let t = some-there ts f.0 (omega arith) in
       let id : f.1.id ≡ d = ap (λ (n : ℕ). record { 0 = n }) f.3 in
@@ -51,7 +52,7 @@ module _ (s : Setting) (h : History) (c : Config) (ts : List Table) (set : IsSet
         subst (λ (n : DomId). TableShows s h n t.0) id (shows.each f.0 f.1 t.0 f.2 t.1),
       )
 
-  word-is : (d : DomId) (r : ℕ) → IsOfRun s d → word_seen c.first_gen (table_in c.domains.items ts d.0) r ≡ word_at s h d.0 r
+  word-is : (d : DomId) (r : ℕ) → IsInRun s d → word_seen c.first_gen (table_in c.domains.items ts d.0) r ≡ word_at s h d.0 r
   word-is d r some = let t = there d some in let z = t.2.counts r in
       ap (λ (o : Option Table). word_seen c.first_gen o r) t.1
       ∙ ap (λ (n : ℕ). word_in n t.0.own.items t.0.counts.items r) set.first
@@ -60,12 +61,12 @@ module _ (s : Setting) (h : History) (c : Config) (ts : List Table) (set : IsSet
       ∙ ap (λ (n : ℕ). control_word (control_with (entry_at h d.0 r) (generation_at s h d.0 r) n (counts_in t.0.counts.items r).writes)) z.reads
       ∙ ap (λ (n : ℕ). control_word (control_with (entry_at h d.0 r) (generation_at s h d.0 r) (reads_at h d.0 r) n)) z.writes
 
-  body-is : (d : DomId) (r : ℕ) (half : Half) → IsOfRun s d → body_seen (table_in c.domains.items ts d.0) r half ≡ body_at h d.0 r half
-  body-is d r FirstHalf some = let t = there d some in ap (λ (o : Option Table). body_seen o r FirstHalf) t.1 ∙ (t.2.counts r).first
-  body-is d r SecondHalf some = let t = there d some in ap (λ (o : Option Table). body_seen o r SecondHalf) t.1 ∙ (t.2.counts r).second
+  body-is : (d : DomId) (r : ℕ) (half : Half) → IsInRun s d → body_in_table (table_in c.domains.items ts d.0) r half ≡ body_at h d.0 r half
+  body-is d r FirstHalf some = let t = there d some in ap (λ (o : Option Table). body_in_table o r FirstHalf) t.1 ∙ (t.2.counts r).first
+  body-is d r SecondHalf some = let t = there d some in ap (λ (o : Option Table). body_in_table o r SecondHalf) t.1 ∙ (t.2.counts r).second
 
-  pub saw : (d : DomId) (step : Step) → LooksInRun s d step → sees c.domains.items c.first_gen ts d step ≡ seen_by s h d step
-  saw d (LookHeader dom) run = let t = there dom run in ap (λ (n : ℕ). Word n) (ap header_seen t.1 ∙ ap header_word t.2.header)
+  pub saw : (d : DomId) (step : Step) → LooksInRun s d step → step_sees c.domains.items c.first_gen ts d step ≡ seen_by s h d step
+  saw d (LookHeader dom) run = let t = there dom run in ap (λ (n : ℕ). Word n) (ap header_in_table t.1 ∙ ap header_word t.2.header)
   saw d (LookControl dom gref) run = ap (λ (n : ℕ). Word n) (word-is dom gref.0 run)
   saw d (LookBody dom gref half) run = ap (λ (n : ℕ). Word n) (body-is dom gref.0 half run)
   saw d (PinStep p) run = ap (λ (n : ℕ). exchange_sees n p.word) (word-is p.dom p.gref.0 run)

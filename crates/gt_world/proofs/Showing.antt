@@ -1,7 +1,10 @@
 -- Tables show what happened, with one item more.
-use Rattle.gt_core.proofs.Words.{◌≡◌, ◌≢◌, ◌<◌, ◌≤◌, ◌+◌, ℕ, refl, Bool, true, false, List, [], ◌∷◌, Option, Some, None, ◌%◌}
-use Rattle.gt_core.proofs.Words.{cond, sym, ap, ◌∙◌, arith, subst, ◌==◌, ◌&&◌, slice_get, eqb-true, eq-eqb, min, DomId, Dir}
-use Rattle.gt_core.proofs.Words.{Read, Write, MAX_PINS, LAST_GENERATION, Half, FirstHalf, SecondHalf, Held, Holder, Header, GrantRef}
+use Rattle.gt_core.proofs.Words.{◌≡◌, ◌≢◌, ◌<◌, ◌≤◌, ◌+◌, ℕ, refl, Bool, true, false, List, [], ◌∷◌, Option, Some, None}
+use Rattle.gt_core.proofs.Words.{◌%◌}
+use Rattle.gt_core.proofs.Words.{cond, sym, ap, ◌∙◌, arith, subst, ◌==◌, ◌&&◌, slice_get, eqb-true, eq-eqb, min, DomId}
+use Rattle.gt_core.proofs.Words.{Dir}
+use Rattle.gt_core.proofs.Words.{Read, Write, MAX_PINS, LAST_GENERATION, Half, FirstHalf, SecondHalf, Held, Holder}
+use Rattle.gt_core.proofs.Words.{Header, GrantRef}
 use Rattle.gt_core.proofs.Words.{Seen, Taken, Step, PinStep, Unpin, StoreBody, StoreHeader, Exchange}
 use Rattle.gt_core.proofs.Words.{Change, History, Setting, live, entry_at}
 use Rattle.gt_core.proofs.Words.{raises_at, generation_at, body_at, table_at, is_pin_on, same_dir, without, count_by}
@@ -12,16 +15,20 @@ use Rattle.gt_core.specs.declared.trace.Answer.{Answer}
 use Rattle.gt_core.specs.declared.trace.Happened.{Happened}
 use Rattle.gt_core.specs.declared.trace.Happened.TheVariants.{Began, Stepped}
 use Rattle.gt_core.specs.declared.trace.Item.{Item}
-use Rattle.gt_core.proofs.{Steps.Observers.kept-entry, Steps.Observers.kept-raises, Steps.Observers.kept-table, Steps.Observers.unstored}
+use Rattle.gt_core.proofs.{Steps.Observers.kept-entry, Steps.Observers.kept-raises, Steps.Observers.kept-table}
+use Rattle.gt_core.proofs.{Steps.Observers.unstored}
 use Rattle.gt_core.proofs.{Steps.Observers.KeepsAll, Steps.Observers.stepped}
-use Rattle.gt_core.proofs.{Steps.Observers.pins_at, Steps.Observers.pinned-live, Steps.Observers.unpinned-live, Steps.Observers.new_pin}
-use Rattle.gt_core.proofs.{Steps.Observers.grown-count, Steps.Observers.exchanged-entry, Steps.Observers.exchanged-raises}
+use Rattle.gt_core.proofs.{Steps.Observers.pins_at, Steps.Observers.pinned-live, Steps.Observers.unpinned-live}
+use Rattle.gt_core.proofs.{Steps.Observers.new_pin}
+use Rattle.gt_core.proofs.{Steps.Observers.grown-count, Steps.Observers.exchanged-entry}
+use Rattle.gt_core.proofs.{Steps.Observers.exchanged-raises}
 use Rattle.gt_core.proofs.{Steps.Observers.exchanged-live}
 use Rattle.gt_calls.specs.Rules.{entry_in, own_generation}
 use Rattle.gt_entry.specs.Changes.{changed_entry}
 use Rattle.gt_core.specs.Effects.{slot_after}
 use Rattle.gt_world.specs.Rows.{counts_in}
-use Rattle.gt_world.specs.Shows.{CountsShow, IsItemOf, IsSettingOf, LosesOne, StepFits, TableShows, TablesShow, unheld}
+use Rattle.gt_world.specs.Shows.{CountsShow, IsItemOfStep, IsSettingOf, LosesOne, StepFits, TableShows, TablesShow}
+use Rattle.gt_world.specs.Shows.{unheld}
 use Rattle.gt_world.specs.Tables.{CountsChangeOf, HeaderStored, OneBecomes, OwnChangeOf, TablesAfter, place_of_domain}
 use Rattle.gt_core.specs.declared.pin_counts.PinCounts.{PinCounts}
 use Rattle.gt_core.specs.declared.pin_counts.CountsChange.{CountsChange}
@@ -262,7 +269,7 @@ pub item-is : (i : Item) (d : DomId) (z : Step) (seen : Seen) → i.actor ≡ d 
 item-is i d z seen a b = ap (λ (x : DomId). record { actor = x; happened = i.happened; answer = i.answer }) a ∙ ap (λ (x : Happened). record { actor = d; happened = x; answer = i.answer }) b
 
 -- the tables after a step show what happened with its item
-pub tables-shown : (c : Config) (s : Setting) (h : History) (i : Item) (at : ℕ) (step : Step) (seen : Seen) (old new : List Table) → IsSettingOf c s → TablesShow s h old → IsItemOf s h i at step seen
+pub tables-shown : (c : Config) (s : Setting) (h : History) (i : Item) (at : ℕ) (step : Step) (seen : Seen) (old new : List Table) → IsSettingOf c s → TablesShow s h old → IsItemOfStep s h i at step seen
     → TablesAfter c.domains.items c.first_gen at step seen old new → TablesShow s (i ∷ h) new
 tables-shown c s h i at step seen old new set shows item t =
     let made = subst (λ (ds : List DomainConfig). TablesAfter ds s.first_generation at step seen old new) set.domains (subst (λ (n : ℕ). TablesAfter c.domains.items n at step seen old new) set.first t) in

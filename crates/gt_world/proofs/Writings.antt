@@ -11,7 +11,7 @@ use Rattle.gt_core.specs.declared.trace.Answer.{Answer}
 use Rattle.gt_core.specs.declared.trace.Happened.TheVariants.{Began}
 use Rattle.gt_core.specs.declared.trace.Item.{Item}
 use Rattle.gt_world.specs.Pages.{page_contents, WritesPage}
-use Rattle.gt_world.specs.Shows.{IsGivenTo, IsItemOf, PagesShow, StepFits, unheld}
+use Rattle.gt_world.specs.Shows.{IsGivenTo, IsItemOfStep, PagesShow, StepFits, unheld}
 use Rattle.gt_world.specs.Writing.{IsInFrames, PagesAfter}
 use Rattle.gt_world.specs.declared.pages.Page.{Page}
 use Rattle.gt_world.proofs.Showing.{item-is}
@@ -75,11 +75,11 @@ from-frames (Unpin p holder) fits = fits
 from-frames z fits = fits
 
 -- its ranges are inside frames
-pub in-frames : (s : Setting) (h : History) (i : Item) (at : ℕ) (step : Step) (seen : Seen) → IsItemOf s h i at step seen → IsInFrames step
+pub in-frames : (s : Setting) (h : History) (i : Item) (at : ℕ) (step : Step) (seen : Seen) → IsItemOfStep s h i at step seen → IsInFrames step
 in-frames s h i at step seen item = from-frames step (subst IsInFrames item.same (to-frames s h i.actor seen item.made item.fits))
 
 -- the pages after a step show what happened with its item
-pub pages-shown : (s : Setting) (h : History) (i : Item) (at : ℕ) (step : Step) (seen : Seen) (given : List ℕ) (old new : List Page) → PagesShow h old → IsItemOf s h i at step seen → IsGivenTo h i.actor step given
+pub pages-shown : (s : Setting) (h : History) (i : Item) (at : ℕ) (step : Step) (seen : Seen) (given : List ℕ) (old new : List Page) → PagesShow h old → IsItemOfStep s h i at step seen → IsGivenTo h i.actor step given
     → PagesAfter step given old new → PagesShow (i ∷ h) new
 pages-shown s h i at step seen given old new shows item is t =
     let after = from-unheld given old new item.made (subst (λ (z : Step). PagesAfter z given old new) (sym item.same) (to-unheld given old new step t)) in

@@ -1,6 +1,7 @@
 pub mod Copies
 pub mod Likeness
 pub mod Pages
+pub mod Prelude
 pub mod Rows
 pub mod Shows
 pub mod Tables

@@ -16,7 +16,7 @@ use Rattle.gt_core.specs.Legal.{IsRight}
 use Rattle.gt_core.specs.declared.trace.Happened.{Happened}
 use Rattle.gt_core.specs.declared.trace.Happened.TheVariants.{Began, Stepped}
 use Rattle.gt_core.specs.declared.trace.Item.{Item}
-use Rattle.gt_world.specs.Shows.{IsItemOf, IsOfRun, LooksInRun, unheld}
+use Rattle.gt_world.specs.Shows.{IsItemOfStep, IsInRun, LooksInRun, unheld}
 
 -- the history is the same, but for the keys of handles, as one that some core stands for
 abbrev pub IsLikeReached : Setting → History → Type 0
@@ -27,7 +27,7 @@ abbrev pub LikeReachedFits : Type 0
 LikeReachedFits =
     (s : Setting) (h : History) (i : Item) (at : ℕ) (d : DomainConfig) (made step : Step) (seen : Seen)
     → IsLikeReached s h → IsRight s h i → i.happened ≡ Stepped made seen → slice_get s.domains at ≡ Some d
-    → i.actor ≡ d.id → unheld made ≡ unheld step → IsItemOf s h i at step seen × LooksInRun s i.actor step
+    → i.actor ≡ d.id → unheld made ≡ unheld step → IsItemOfStep s h i at step seen × LooksInRun s i.actor step
 
 -- if a call begins, the entry that it gives fits its types
 abbrev pub AsksFit : Happened → Type 0
@@ -37,7 +37,7 @@ AsksFit (Stepped step seen) = Unit {0}
 -- a history stays so with each right item of a domain of the run that asks for no handle but one that is known to it
 abbrev pub LikeReachedGoesOn : Type 0
 LikeReachedGoesOn =
-    (s : Setting) (h : History) (i : Item) → IsLikeReached s h → IsOfRun s i.actor → IsRight s h i → HappensKnown h i
+    (s : Setting) (h : History) (i : Item) → IsLikeReached s h → IsInRun s i.actor → IsRight s h i → HappensKnown h i
     → AsksFit i.happened → IsLikeReached s (i ∷ h)
 
 -- the empty history is so, in each configuration within the limits

@@ -37,5 +37,5 @@ pub record OwnBecomes (first : ℕ) (old new : List Own) (at : ℕ) (change : Ch
       else own_generation first old r)
 
 -- a body word of entry r
-abbrev pub body_in : List PinCounts → ℕ → Half → ℕ
-body_in counts r half = slot_body (Some (counts_in counts r)) half
+abbrev pub body_in_rows : List PinCounts → ℕ → Half → ℕ
+body_in_rows counts r half = slot_body (Some (counts_in counts r)) half

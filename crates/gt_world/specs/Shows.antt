@@ -2,33 +2,15 @@
 use Rattle.std.specs.Prelude.{◌≡◌, ◌≢◌, ◌==◌, ◌&&◌, ◌+◌, ◌≤◌, ◌<◌, ℕ, List, ◌∷◌, Some, None, length}
 use Rattle.std.specs.Prelude.{slice_get, AllPairs}
 use Rattle.std.specs.Prelude.{count_by, if◌then◌else◌}
-use Rattle.gt_types.specs.Names.{domain_of}
-use Rattle.gt_types.specs.declared.DomId.{DomId}
-use Rattle.gt_types.specs.declared.Dir.{Dir}
-use Rattle.gt_types.specs.declared.config.Config.{Config}
-use Rattle.gt_types.specs.declared.config.DomainConfig.{DomainConfig}
-use Rattle.gt_types.specs.declared.limits.TheConstants.{FRAME_SIZE, LAST_GENERATION, MAX_PINS}
-use Rattle.gt_entry.specs.declared.change.Half.TheVariants.{First as FirstHalf, Second as SecondHalf}
-use Rattle.gt_entry.specs.Changes.{raise_of}
-use Rattle.gt_calls.specs.Rules.{entry_in, own_generation}
-use Rattle.gt_calls.specs.declared.held.Held.{Held}
-use Rattle.gt_calls.specs.declared.request.Holder.TheVariants.{Leg as ByLeg}
-use Rattle.gt_calls.specs.declared.action.Step.{Step}
-use Rattle.gt_calls.specs.declared.action.Step.TheVariants.{LookHeader, LookControl, LookBody, Pin as PinStep, Unpin}
-use Rattle.gt_calls.specs.declared.action.Step.TheVariants.{StoreHeader, Exchange, Read as ReadBytes}
-use Rattle.gt_calls.specs.declared.action.Step.TheVariants.{Write as WriteBytes, Copy as CopyBytes}
-use Rattle.gt_calls.specs.declared.action.Seen.{Seen}
-use Rattle.gt_calls.specs.declared.action.Seen.TheVariants.{Taken}
-use Rattle.gt_core.specs.declared.trace.Item.{Item}
-use Rattle.gt_core.specs.declared.trace.Happened.TheVariants.{Began, Stepped}
-use Rattle.gt_core.specs.GoingOn.{CanBeReached}
-use Rattle.gt_core.specs.Legal.{IsRight}
-use Rattle.gt_calls.specs.declared.request.Request.{Request}
-use Rattle.gt_core.specs.History.{History, Setting, Pin, live, without, is_pin_on, same_dir, entry_at, generation_at}
-use Rattle.gt_core.specs.History.{body_at, table_at, reads_at, writes_at, contents_at, given_in, open_call}
+use Rattle.gt_world.specs.Prelude.{domain_of, DomId, Dir, Config, DomainConfig, FRAME_SIZE, LAST_GENERATION, MAX_PINS}
+use Rattle.gt_world.specs.Prelude.{FirstHalf, SecondHalf, raise_of, entry_in, own_generation, Held, ByLeg, Step}
+use Rattle.gt_world.specs.Prelude.{LookHeader, LookControl, LookBody, PinStep, Unpin, StoreHeader, Exchange, ReadBytes}
+use Rattle.gt_world.specs.Prelude.{WriteBytes, CopyBytes, Seen, Taken, Item, Began, Stepped, CanBeReached, IsRight}
+use Rattle.gt_world.specs.Prelude.{Request, History, Setting, Pin, live, without, is_pin_on, same_dir, entry_at}
+use Rattle.gt_world.specs.Prelude.{generation_at, body_at, table_at, reads_at, writes_at, contents_at, given_in}
+use Rattle.gt_world.specs.Prelude.{open_call, PinCounts}
 use Rattle.gt_world.specs.Pages.{page_contents}
 use Rattle.gt_world.specs.Rows.{counts_in}
-use Rattle.gt_core.specs.declared.pin_counts.PinCounts.{PinCounts}
 use Rattle.gt_world.specs.declared.pages.Page.{Page}
 use Rattle.gt_world.specs.declared.table.Table.{Table}
 
@@ -63,16 +45,16 @@ abbrev pub PagesShow : History → List Page → Type 0
 PagesShow h pages = (t f : ℕ) → page_contents pages t f ≡ contents_at h t f
 
 -- the domain is one of the run
-abbrev pub IsOfRun : Setting → DomId → Type 0
-IsOfRun s d = domain_of s.domains d ≢ None
+abbrev pub IsInRun : Setting → DomId → Type 0
+IsInRun s d = domain_of s.domains d ≢ None
 
 -- the domain at whose words a step of domain d looks is one of the run
 abbrev pub LooksInRun : Setting → DomId → Step → Type 0
-LooksInRun s d (LookHeader dom) = IsOfRun s dom
-LooksInRun s d (LookControl dom gref) = IsOfRun s dom
-LooksInRun s d (LookBody dom gref half) = IsOfRun s dom
-LooksInRun s d (PinStep p) = IsOfRun s p.dom
-LooksInRun s d (Exchange gref looked change) = IsOfRun s d
+LooksInRun s d (LookHeader dom) = IsInRun s dom
+LooksInRun s d (LookControl dom gref) = IsInRun s dom
+LooksInRun s d (LookBody dom gref half) = IsInRun s dom
+LooksInRun s d (PinStep p) = IsInRun s p.dom
+LooksInRun s d (Exchange gref looked change) = IsInRun s d
 LooksInRun s d step = Unit {0}
 
 -- the second list has one pin of this kind less on the entry of this pin, and else as many of each
@@ -99,7 +81,7 @@ unheld step = step
 
 -- the item is of this step, which saw this, of the domain at a place, but for what holds a pin that it gives back; and
 -- the step fits
-pub record IsItemOf (s : Setting) (h : History) (i : Item) (at : ℕ) (step : Step) (seen : Seen) : Type 0 where
+pub record IsItemOfStep (s : Setting) (h : History) (i : Item) (at : ℕ) (step : Step) (seen : Seen) : Type 0 where
   pub domain : DomainConfig
   pub placed : slice_get s.domains at ≡ Some domain
   pub actor : i.actor ≡ domain.id
@@ -118,7 +100,7 @@ abbrev pub RightStepsFit : Type 0
 RightStepsFit =
     (s : Setting) (h : History) (i : Item) (at : ℕ) (d : DomainConfig) (made step : Step) (seen : Seen)
     → CanBeReached s h → IsRight s h i → i.happened ≡ Stepped made seen → slice_get s.domains at ≡ Some d
-    → i.actor ≡ d.id → unheld made ≡ unheld step → IsItemOf s h i at step seen × LooksInRun s i.actor step
+    → i.actor ≡ d.id → unheld made ≡ unheld step → IsItemOfStep s h i at step seen × LooksInRun s i.actor step
 
 -- a call that begins changes no table, and writes no bytes
 abbrev pub BeginningsChangeNothing : Type 0

@@ -15,7 +15,7 @@ use Rattle.gt_calls.specs.declared.action.Seen.{Seen}
 use Rattle.gt_calls.specs.declared.action.Seen.TheVariants.{Nothing, Word, Taken}
 use Rattle.gt_core.specs.History.{exchange_sees}
 use Rattle.gt_core.specs.Effects.{slot_after}
-use Rattle.gt_world.specs.Rows.{counts_in, word_in, body_in, CountsBecome, OwnBecomes}
+use Rattle.gt_world.specs.Rows.{counts_in, word_in, body_in_rows, CountsBecome, OwnBecomes}
 use Rattle.gt_core.specs.declared.pin_counts.CountsChange.{CountsChange}
 use Rattle.gt_core.specs.declared.pin_counts.CountsChange.TheVariants.{Pinned, Unpinned, Stored}
 use Rattle.gt_world.specs.declared.table.Table.{Table}
@@ -78,9 +78,9 @@ abbrev pub table_in : List DomainConfig → List Table → ℕ → Option Table
 table_in ds ts d = option_and_then (slice_get ts) (place_of_domain ds d)
 
 -- the header word of a table, 0 if there is none
-abbrev pub header_seen : Option Table → ℕ
-header_seen None = 0
-header_seen (Some t) = header_word t.header
+abbrev pub header_in_table : Option Table → ℕ
+header_in_table None = 0
+header_in_table (Some t) = header_word t.header
 
 -- the control word of entry r of a table, 0 if there is none
 abbrev pub word_seen : ℕ → Option Table → ℕ → ℕ
@@ -88,20 +88,20 @@ word_seen first None r = 0
 word_seen first (Some t) r = word_in first t.own.items t.counts.items r
 
 -- a body word of entry r of a table, 0 if there is none
-abbrev pub body_seen : Option Table → ℕ → Half → ℕ
-body_seen None r half = 0
-body_seen (Some t) r half = body_in t.counts.items r half
+abbrev pub body_in_table : Option Table → ℕ → Half → ℕ
+body_in_table None r half = 0
+body_in_table (Some t) r half = body_in_rows t.counts.items r half
 
 -- what a step of domain d sees
-abbrev pub sees : List DomainConfig → ℕ → List Table → DomId → Step → Seen
-sees ds first ts d (LookHeader dom) = Word (header_seen (table_in ds ts dom.0))
-sees ds first ts d (LookControl dom gref) = Word (word_seen first (table_in ds ts dom.0) gref.0)
-sees ds first ts d (LookBody dom gref half) = Word (body_seen (table_in ds ts dom.0) gref.0 half)
-sees ds first ts d (Pin p) = exchange_sees (word_seen first (table_in ds ts p.dom.0) p.gref.0) p.word
-sees ds first ts d (Exchange gref looked change) = exchange_sees (word_seen first (table_in ds ts d.0) gref.0) looked
-sees ds first ts d (Unpin p holder) = Nothing
-sees ds first ts d (StoreBody gref half word) = Nothing
-sees ds first ts d (StoreHeader version frames) = Nothing
-sees ds first ts d (ReadBytes dom frame off len) = Nothing
-sees ds first ts d (WriteBytes dom frame off len) = Nothing
-sees ds first ts d (CopyBytes from to len) = Nothing
+abbrev pub step_sees : List DomainConfig → ℕ → List Table → DomId → Step → Seen
+step_sees ds first ts d (LookHeader dom) = Word (header_in_table (table_in ds ts dom.0))
+step_sees ds first ts d (LookControl dom gref) = Word (word_seen first (table_in ds ts dom.0) gref.0)
+step_sees ds first ts d (LookBody dom gref half) = Word (body_in_table (table_in ds ts dom.0) gref.0 half)
+step_sees ds first ts d (Pin p) = exchange_sees (word_seen first (table_in ds ts p.dom.0) p.gref.0) p.word
+step_sees ds first ts d (Exchange gref looked change) = exchange_sees (word_seen first (table_in ds ts d.0) gref.0) looked
+step_sees ds first ts d (Unpin p holder) = Nothing
+step_sees ds first ts d (StoreBody gref half word) = Nothing
+step_sees ds first ts d (StoreHeader version frames) = Nothing
+step_sees ds first ts d (ReadBytes dom frame off len) = Nothing
+step_sees ds first ts d (WriteBytes dom frame off len) = Nothing
+step_sees ds first ts d (CopyBytes from to len) = Nothing

@@ -27,7 +27,7 @@ impl Ground {
     ghost use Rattle.gt_core.specs.declared.trace.Item.{Item};
     ghost use Rattle.gt_core.specs.History.{History, Setting, contents_at, seen_by};
     ghost use Rattle.gt_calls.specs.declared.action.Seen.{Seen};
-    ghost use Rattle.gt_world.specs.Shows.{IsGivenTo, IsItemOf, IsSettingOf, LooksInRun, PagesShow, TablesShow};
+    ghost use Rattle.gt_world.specs.Shows.{IsGivenTo, IsItemOfStep, IsSettingOf, LooksInRun, PagesShow, TablesShow};
 
     /// The tables of these domains and the frames of a run, before anything happened.
     ///
@@ -93,7 +93,7 @@ impl Ground {
         seen: Seen,
     ) -> Result<(), AllocError>
         ensures shows { (s : Setting) (h : History) (i : Item) → IsSettingOf config.now s →
-            TablesShow s h self.old.tables.items → IsItemOf s h i at step seen →
+            TablesShow s h self.old.tables.items → IsItemOfStep s h i at step seen →
             OnOk result (TablesShow s (i ∷ h) self.new.tables.items) }
         ensures pages { self.new.pages ≡ self.old.pages }
     {
@@ -106,7 +106,7 @@ impl Ground {
     /// `AllocError` if memory was refused: the pages may then be of no use.
     pub fn write(&mut self, alloc: Global, step: Step, given: &[u8]) -> Result<(), AllocError>
         ensures shows { (s : Setting) (h : History) (i : Item) (at : ℕ) (seen : Seen) →
-            PagesShow h self.old.pages.items → IsItemOf s h i at step seen → IsGivenTo h i.actor step given.now →
+            PagesShow h self.old.pages.items → IsItemOfStep s h i at step seen → IsGivenTo h i.actor step given.now →
             OnOk result (PagesShow (i ∷ h) self.new.pages.items) }
         ensures tables { self.new.tables ≡ self.old.tables }
     {

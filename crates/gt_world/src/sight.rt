@@ -1,7 +1,7 @@
 //! What steps see.
 ghost use Rattle.std.specs.Prelude.{◌≡◌};
 ghost use Rattle.std.specs.Option.{option_copied};
-ghost use Rattle.gt_world.specs.Tables.{table_in, header_seen, word_seen, body_seen, sees};
+ghost use Rattle.gt_world.specs.Tables.{table_in, header_in_table, word_seen, body_in_table, step_sees};
 
 use crate::table::Table;
 use gt_calls::{Half, Seen, Step};
@@ -20,7 +20,7 @@ fn table_of<'t>(config: &Roster, tables: &'t [Table], dom: DomId) -> Option<&'t 
 }
 
 fn look_header(config: &Roster, tables: &[Table], dom: DomId) -> u64
-    ensures { result ≡ header_seen (table_in config.now.domains.items tables.now dom.0) }
+    ensures { result ≡ header_in_table (table_in config.now.domains.items tables.now dom.0) }
 {
     match table_of(config, tables, dom) {
         Some(table) => table.header_word(),
@@ -39,7 +39,7 @@ fn look_control(config: &Roster, tables: &[Table], dom: DomId, gref: GrantRef) -
 }
 
 fn look_body(config: &Roster, tables: &[Table], dom: DomId, gref: GrantRef, half: Half) -> u64
-    ensures { result ≡ body_seen (table_in config.now.domains.items tables.now dom.0) gref.0 half }
+    ensures { result ≡ body_in_table (table_in config.now.domains.items tables.now dom.0) gref.0 half }
 {
     match table_of(config, tables, dom) {
         Some(table) => table.body(gref, half),
@@ -49,7 +49,7 @@ fn look_body(config: &Roster, tables: &[Table], dom: DomId, gref: GrantRef, half
 
 /// What a step of the domain sees.
 pub fn see_in(config: &Roster, tables: &[Table], actor: DomId, step: Step) -> Seen
-    ensures { result ≡ sees config.now.domains.items config.now.first_gen tables.now actor step }
+    ensures { result ≡ step_sees config.now.domains.items config.now.first_gen tables.now actor step }
 {
     match step {
         Step::LookHeader { dom } => Seen::Word(look_header(config, tables, dom)),

@@ -27,7 +27,7 @@ fn header_word(header: Header) -> u64
 impl Table {
     ghost use Rattle.std.specs.Prelude.{◌≡◌, ◌%◌, [], IfOk, OnOk};
     ghost use Rattle.gt_entry.specs.Words.{header_word};
-    ghost use Rattle.gt_world.specs.Rows.{body_in, word_in};
+    ghost use Rattle.gt_world.specs.Rows.{body_in_rows, word_in};
     ghost use Rattle.gt_world.specs.Tables.{CountsChangeOf, OwnChangeOf, HeaderStored, SameTable};
 
     /// A table whose entries are all untouched.
@@ -70,7 +70,7 @@ impl Table {
 
     /// A body word of an entry.
     pub fn body(&self, gref: GrantRef, half: Half) -> u64
-        ensures { result ≡ body_in self.now.counts.items gref.0 half }
+        ensures { result ≡ body_in_rows self.now.counts.items gref.0 half }
     {
         counts_at(self.counts.as_slice(), gref).body(half)
     }

@@ -328,8 +328,9 @@ const REFUSED: Row = Row {
     ..QUIET
 };
 
-// With tools/refused.sh, which refuses each request for memory in turn: a call that answers N26 is answered, if it
-// is asked again, as it is without a refusal. The start of the run and the texts of answers are all that is refused memory.
+// With tools/refused.sh, which refuses each request for memory in turn: a call that answers N26 is answered, if it is
+// asked again, as it is without a refusal. The start of the run and the texts of answers are all that is refused
+// memory.
 #[test]
 fn accesses_with_memory_refused(rt: HostRuntime) -> Result<(), Fail> {
     match play_row(&rt, rt.alloc(), &REFUSED) {

@@ -20,8 +20,8 @@ CountsOn limit p turn q =
     × (q ≡ record { first = p.first; second = p.second + 1; text = p.text }))
 
 -- no counter has begun
-abbrev pub IsFirst : Spot → Type 0
-IsFirst p = (p.first ≡ 0) × (p.second ≡ 0) × (p.text ≡ [])
+abbrev pub IsUnbegun : Spot → Type 0
+IsUnbegun p = (p.first ≡ 0) × (p.second ≡ 0) × (p.text ≡ [])
 
 -- what the counter at this place has printed
 abbrev pub printed_at : Spot → ℕ → List ℕ
@@ -29,7 +29,7 @@ printed_at p zero = p.text
 printed_at p (suc at) = []
 
 -- at the beginning that is nothing
-pub blank_at : (p : Spot) → IsFirst p → (at : ℕ) → printed_at p at ≡ []
+pub blank_at : (p : Spot) → IsUnbegun p → (at : ℕ) → printed_at p at ≡ []
 blank_at p first zero = first.2
 blank_at p first (suc at) = refl
 
@@ -38,7 +38,7 @@ abbrev pub counters_ways : Counters → Ways Tally
 counters_ways counters = record {
   Point = Spot;
   domains = 2;
-  begins = IsFirst;
+  begins = IsUnbegun;
   next = CountsOn counters.limit;
   ends = λ p. (p.first ≡ counters.limit) × (p.second ≡ counters.limit);
   printed = printed_at;

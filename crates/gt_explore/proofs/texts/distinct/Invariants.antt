@@ -2,14 +2,14 @@ use Rattle.std.proofs.Common.{◌≡◌, ℕ, All, Some, slice_get}
 use Rattle.gt_script.specs.RunContents.{run_told}
 use Rattle.gt_replay.specs.Orders.{MayGive}
 use Rattle.gt_ways.specs.declared.exploring.Order.{Order}
-use Rattle.gt_explore.specs.Adding.{AreApart, texts_in}
+use Rattle.gt_explore.specs.Adding.{AreDifferentTexts, texts_of_orders}
 use Rattle.gt_explore.proofs.Added.{IsThere}
 use Rattle.gt_explore.proofs.texts.distinct.Given as goal
 
 -- the texts of the orders so far are there
 abbrev pub invariant-orders : goal.invariant-orders
 invariant-orders l = record {
-  possible : All (MayGive (run_told l.script)) (texts_in l.texts.items);
+  possible : All (MayGive (run_told l.script)) (texts_of_orders l.texts.items);
   whole : (at : ℕ) (o : Order) → slice_get l.fn.orders.items at ≡ Some o → IsThere o l.texts.items l.order-iterator.rest.items;
-  apart : AreApart (texts_in l.texts.items);
+  apart : AreDifferentTexts (texts_of_orders l.texts.items);
 }

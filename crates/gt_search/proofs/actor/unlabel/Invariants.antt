@@ -1,10 +1,10 @@
 use Rattle.std.proofs.Common.{◌≡◌}
-use Rattle.gt_search.specs.Mappings.{labels_of, pins_of, said}
+use Rattle.gt_search.specs.Mappings.{labels_of, mapping_pins, label_bytes}
 use Rattle.gt_search.proofs.Unlabelled.{apart_up_to}
 use Rattle.gt_search.proofs.actor.unlabel.Given as goal
 
 abbrev pub invariant-loop-mapping : goal.invariant-loop-mapping
 invariant-loop-mapping l = record {
-  pins : pins_of l.mapping-items ≡ pins_of l.fn.mappings.items;
-  labels : labels_of l.mapping-items ≡ apart_up_to l.mapping-index (said l.label) (labels_of l.fn.mappings.items);
+  pins : mapping_pins l.mapping-items ≡ mapping_pins l.fn.mappings.items;
+  labels : labels_of l.mapping-items ≡ apart_up_to l.mapping-index (label_bytes l.label) (labels_of l.fn.mappings.items);
 }

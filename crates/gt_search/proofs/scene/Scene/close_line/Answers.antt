@@ -1,7 +1,7 @@
 use Rattle.std.proofs.Common.{◌≡◌, ℕ, List, Option, refl, ◌∙◌, subst}
 use Rattle.std.proofs.lemmas.Option.{get_or_from_slice_get}
 use Rattle.std.proofs.lemmas.Result.{IfOk-weaker}
-use Rattle.gt_search.specs.Ticking.{IsClosed, label_in}
+use Rattle.gt_search.specs.Ticking.{CallIsOver, label_given_by}
 use Rattle.gt_search.specs.declared.actor.Actor.{Actor}
 use Rattle.gt_search.proofs.scene.Scene.close_line.Goals as goal
 
@@ -14,8 +14,8 @@ returns c = λ h a there shows fits. let at = c.args.at in let x = c.in-Some.act
       prints = prints;
       actor = c.close.new.self;
       becomes = refl;
-      closed = subst (λ (z : Actor). IsClosed (label_in c.args.task.now.deed) c.args.verdict z c.close.new.self) same
-          (subst (λ (l : Option (List ℕ)). IsClosed l c.args.verdict x c.close.new.self) c.label_of.ensures c.in_ok-close.ensures);
+      closed = subst (λ (z : Actor). CallIsOver (label_given_by c.args.task.now.deed) c.args.verdict z c.close.new.self) same
+          (subst (λ (l : Option (List ℕ)). CallIsOver l c.args.verdict x c.close.new.self) c.label_of.ensures c.in_ok-close.ensures);
       ground = refl;
       told = refl;
     }) c.line.ensures

@@ -2,7 +2,7 @@ use Rattle.std.proofs.Common.{◌≡◌, ◌∷◌, Vec, Global, sym, ap, ◌∙
 use Rattle.gt_types.specs.declared.DomId.{DomId}
 use Rattle.gt_calls.specs.declared.action.Seen.{Seen}
 use Rattle.gt_core.specs.History.{seen_by}
-use Rattle.gt_world.specs.Shows.{IsGivenTo, IsItemOf, LooksInRun, PagesShow, TablesShow}
+use Rattle.gt_world.specs.Shows.{IsGivenTo, IsItemOfStep, LooksInRun, PagesShow, TablesShow}
 use Rattle.gt_world.specs.declared.ground.Ground.{Ground}
 use Rattle.gt_world.specs.declared.pages.Page.{Page}
 use Rattle.gt_world.specs.declared.table.Table.{Table}
@@ -21,6 +21,6 @@ returns c = λ s h before k a i tick ground. let scene = c.args.self.now in let 
     c.see-seen.ensures s h tick.shows.setting tables (subst (λ (d : DomId). LooksInRun s d o.step) (sym step.caller) step.looks) ∙ ap (λ (d : DomId). seen_by s h d o.step) step.caller in
     record {
       saw = saw;
-      tables_show = c.in_ok-apply.ensures.shows s h i tick.shows.setting tables (subst (λ (v : Seen). IsItemOf s h i at o.step v) (sym saw) step.item);
+      tables_show = c.in_ok-apply.ensures.shows s h i tick.shows.setting tables (subst (λ (v : Seen). IsItemOfStep s h i at o.step v) (sym saw) step.item);
       pages_show = subst (λ (ps : Vec Page Global). PagesShow (i ∷ h) ps.items) (sym c.in_ok-apply.ensures.pages) written;
     }

@@ -1,7 +1,7 @@
-use Rattle.gt_ways.specs.Exploring.{EachVisitHolds, Holds, Grew, VisitHolds}
+use Rattle.gt_ways.specs.Exploring.{EachVisitHolds, SearchHolds, Grew, VisitHolds}
 use Rattle.gt_ways.proofs.exploring.Explorer.walk.Given as goal
 
 abbrev pub invariant-tries : goal.invariant-tries
 invariant-tries g l =
-    Holds (g.S.Space.ways l.space) l.fn.self → VisitHolds (g.S.Space.ways l.space) l.fn.self l.fn.first
-    → Holds (g.S.Space.ways l.space) l.self × Grew l.fn.self l.self × EachVisitHolds (g.S.Space.ways l.space) l.self l.stack.items
+    SearchHolds (g.S.Space.ways l.space) l.fn.self → VisitHolds (g.S.Space.ways l.space) l.fn.self l.fn.first
+    → SearchHolds (g.S.Space.ways l.space) l.self × Grew l.fn.self l.self × EachVisitHolds (g.S.Space.ways l.space) l.self l.stack.items
