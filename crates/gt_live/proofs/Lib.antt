@@ -13,6 +13,7 @@ pub mod Labels
 pub mod AnsweredAtOnce
 pub mod Accessing
 pub mod Maps
+pub mod OwnChanges
 pub mod Legs
 pub mod Tries
 pub mod Visiting

@@ -32,7 +32,7 @@ use Rattle.gt_live.proofs.Advancing.{advance, begins, ends}
 use Rattle.gt_live.proofs.Making.{made-gains}
 
 -- a call that goes on has only looked, whatever its last step was
-looked-on : (c : CallerKnowledge) (k : Layout) (effect : Effect) (v w : View) (call : Call) (s : Step)
+pub looked-on : (c : CallerKnowledge) (k : Layout) (effect : Effect) (v w : View) (call : Call) (s : Step)
     → Going c k effect v w call (Makes s) → Going c k Nothing v w call (Makes s)
 looked-on c k effect v w call s g = record {
   steps = g.steps;

@@ -11,6 +11,7 @@ pub mod Legs
 pub mod Phases
 pub mod Copies
 pub mod Rows
+pub mod Owning
 pub mod Domains
 pub mod Starting
 pub mod Tries

@@ -23,6 +23,7 @@ mod copies;
 
 use crate::driving::{Effect, Finished, drive, drive_map, pin_of};
 use crate::monitor::Monitor;
+use crate::owning::{drive_change, judge_change};
 pub use copies::Halfway;
 use gt_access::{Refused, Run, read_by, write_by};
 use gt_audit::{Hypercall, Record, Reply, Trail};
@@ -208,6 +209,8 @@ impl Domain {
     ghost use Rattle.gt_live.specs.Domains.{IsOpened, IsUnsettled, KeepsPinned, MapAnswered};
     ghost use Rattle.gt_live.specs.Domains.{Released, StaysOfRun};
     ghost use Rattle.gt_live.specs.Maps.{pin_effect, pin_verdict};
+    ghost use Rattle.gt_live.specs.Owning.{asks_change, change_effect};
+    ghost use Rattle.gt_calls.specs.Rules.{begun};
     ghost use Rattle.gt_calls.specs.Rules.{knows, label_of, map_begun, unmap_begun};
     ghost use Rattle.gt_calls.specs.declared.request.Asked.TheVariants as asks;
     ghost use Rattle.gt_live.specs.Domains.{known_on, verdict_of, verdict_of_frames, verdict_of_size};
@@ -376,6 +379,94 @@ impl Domain {
         }
     }
 
+    // The verdict at the beginning of an owner's change, if one is given there.
+    #[inline(always)]
+    fn judge_change<P: Allows>(
+        &self,
+        monitor: &Monitor<P>,
+        gref: GrantRef,
+        change: Change,
+    ) -> Option<Verdict>
+        ensures { result ≡ begun (known_on P.may monitor.now self.now) self.now.seat.dom (asks_change gref change) }
+    {
+        judge_change(&self.known(monitor), gref, change)
+    }
+
+    // Drives an owner's change that no rule answered at its beginning to its end.
+    #[inline(always)]
+    fn drive_change<P: Allows>(
+        &mut self,
+        monitor: &Monitor<P>,
+        gref: GrantRef,
+        change: Change,
+    ) -> Result<(), Denial>
+        requires mine { BelongsTo P.may monitor.now self.old }
+        requires unanswered { begun (known_on P.may monitor.now self.old) self.old.seat.dom (asks_change gref change)
+            ≡ None }
+        ensures kept { IsUnsettled self.old self.new }
+        ensures called { Called monitor.now.words.layout
+            (path (known_on P.may monitor.now self.old) self.old.seat.dom (asks_change gref change))
+            (verdict_of result) self.old.seat.view self.new.seat.view }
+        ensures leaves { Leaves (known_on P.may monitor.now self.old) monitor.now.words.layout
+            self.old.seat.dom (asks_change gref change) self.old.seat.view self.new.seat.view
+            (change_effect gref change result) }
+    {
+        let known = known_with(monitor, &self.seat, &self.own, &self.mappings);
+        let caller = self.seat.dom();
+        drive_change(&monitor.words, &known, &mut self.seat, caller, gref, change)
+    }
+
+    // Makes an owner's change that no rule answered at its beginning, and keeps it in the entry's row.
+    #[inline(always)]
+    fn change_own<P: Allows>(
+        &mut self,
+        monitor: &Monitor<P>,
+        gref: GrantRef,
+        change: Change,
+    ) -> Result<(), Denial>
+        requires mine { BelongsTo P.may monitor.now self.old }
+        requires unanswered { begun (known_on P.may monitor.now self.old) self.old.seat.dom (asks_change gref change)
+            ≡ None }
+        ensures stays { StaysIn P.may monitor.now self.old self.new }
+        ensures called { Called monitor.now.words.layout
+            (path (known_on P.may monitor.now self.old) self.old.seat.dom (asks_change gref change))
+            (verdict_of result) self.old.seat.view self.new.seat.view }
+        ensures kept { KeepsPinned self.old self.new }
+        ensures silent { self.new.trail ≡ self.old.trail }
+        ensures untouched { self.new.visits ≡ self.old.visits }
+    {
+        match self.drive_change(monitor, gref, change) {
+            Ok(()) => {
+                change_row(&mut self.own, gref, change);
+                Ok(())
+            }
+            Err(denial) => Err(denial),
+        }
+    }
+
+    // Makes an owner's call that changes an entry.
+    #[inline(always)]
+    fn owner_call<P: Allows>(
+        &mut self,
+        monitor: &Monitor<P>,
+        gref: GrantRef,
+        change: Change,
+    ) -> Result<(), Denial>
+        requires mine { BelongsTo P.may monitor.now self.old }
+        ensures stays { StaysIn P.may monitor.now self.old self.new }
+        ensures called { Called monitor.now.words.layout
+            (path (known_on P.may monitor.now self.old) self.old.seat.dom (asks_change gref change))
+            (verdict_of result) self.old.seat.view self.new.seat.view }
+        ensures kept { KeepsPinned self.old self.new }
+        ensures silent { self.new.trail ≡ self.old.trail }
+        ensures untouched { self.new.visits ≡ self.old.visits }
+    {
+        if let Some(verdict) = self.judge_change(monitor, gref, change) {
+            return done(verdict);
+        }
+        self.change_own(monitor, gref, change)
+    }
+
     // The entry that the mapping under a handle is of.
     fn subject(&self, handle: Handle) -> Option<(DomId, GrantRef)>
         ensures { result ≡ subject_of self.now handle }
@@ -421,8 +512,7 @@ impl Domain {
         ensures answers { AnswersQuietly P.may monitor.now self.old
             (Request.Grant gref entry.now) (verdict_of result) self.new }
     {
-        let entry = *entry;
-        done(self.call(monitor, Request::Grant { gref, entry }))
+        self.owner_call(monitor, gref, Change::Publish(*entry))
     }
 
     /// Publishes the entry that the bytes spell in a table of the domain's version.
@@ -453,7 +543,7 @@ impl Domain {
         ensures stays { StaysIn P.may monitor.now self.old self.new }
         ensures answers { AnswersQuietly P.may monitor.now self.old (Request.Revoke gref) (verdict_of result) self.new }
     {
-        done(self.call(monitor, Request::Revoke { gref }))
+        self.owner_call(monitor, gref, Change::Revoke)
     }
 
     /// Makes an entry of its own invalid, with or without pins: those that there are stay, and no more are taken.
@@ -470,7 +560,7 @@ impl Domain {
         ensures answers { AnswersQuietly P.may monitor.now self.old
             (Request.Withdraw gref) (verdict_of result) self.new }
     {
-        done(self.call(monitor, Request::Withdraw { gref }))
+        self.owner_call(monitor, gref, Change::Withdraw)
     }
 
     /// Makes an entry of its own read-only, if it has no write pins. Ok without a change if it is so already.
@@ -482,7 +572,7 @@ impl Domain {
         ensures stays { StaysIn P.may monitor.now self.old self.new }
         ensures answers { AnswersQuietly P.may monitor.now self.old (Request.Demote gref) (verdict_of result) self.new }
     {
-        done(self.call(monitor, Request::Demote { gref }))
+        self.owner_call(monitor, gref, Change::Demote)
     }
 
     /// Makes an entry of its own writable. Ok without a change if it is so already.
@@ -495,7 +585,7 @@ impl Domain {
         ensures answers { AnswersQuietly P.may monitor.now self.old
             (Request.Promote gref) (verdict_of result) self.new }
     {
-        done(self.call(monitor, Request::Promote { gref }))
+        self.owner_call(monitor, gref, Change::Promote)
     }
 
     /// Gives its table this version, 1 or 2, while all its entries are invalid. Ok without a change if it has that

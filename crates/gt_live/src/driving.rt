@@ -197,7 +197,7 @@ fn look_at_header(words: &Words, seat: &mut Seat, dom: DomId) -> u64
 }
 
 #[inline(always)]
-fn look_at_control(words: &Words, seat: &mut Seat, dom: DomId, gref: GrantRef) -> u64
+pub(crate) fn look_at_control(words: &Words, seat: &mut Seat, dom: DomId, gref: GrantRef) -> u64
     requires seat { IsSeatOf words.now seat.old }
     requires can { CanMake words.now.layout seat.old.view (Step.LookControl dom gref) }
     ensures seat { IsSameSeat seat.old seat.new }

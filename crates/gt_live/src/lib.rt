@@ -18,6 +18,7 @@ mod domain;
 mod driving;
 mod laws;
 mod monitor;
+mod owning;
 mod routes;
 mod start;
 

@@ -1,0 +1,44 @@
+-- An owner's change of one of its entries: what asks it, and how it ends. The code's own representation. It is in
+-- specs/ because contracts cite it.
+use Rattle.std.specs.Prelude.{◌≡◌, ℕ, Result, Ok, Err}
+use Rattle.gt_types.specs.declared.DomId.{DomId}
+use Rattle.gt_types.specs.declared.GrantRef.{GrantRef}
+use Rattle.gt_types.specs.declared.denial.Denial.{Denial}
+use Rattle.gt_types.specs.declared.denial.Rule.TheVariants.{N19}
+use Rattle.gt_entry.specs.declared.change.Change.{Change}
+use Rattle.gt_entry.specs.declared.change.Change.TheVariants.{Publish, Revoke, Withdraw, Demote, Promote}
+use Rattle.gt_words.specs.Rule.{Layout}
+use Rattle.gt_words.specs.declared.view.View.{View}
+use Rattle.gt_calls.specs.Path.{entry_refusal}
+use Rattle.gt_calls.specs.declared.action.Seen.TheVariants.{Taken, Missed}
+use Rattle.gt_calls.specs.declared.action.Step.TheVariants.{Exchange}
+use Rattle.gt_calls.specs.declared.request.Asked.{Asked}
+use Rattle.gt_calls.specs.declared.request.Asked.TheVariants as asks
+use Rattle.gt_live.specs.declared.driving.Effect.{Effect}
+use Rattle.gt_live.specs.declared.driving.Effect.TheVariants.{Nothing, Changed}
+use Rattle.gt_live.specs.Walks.{Made}
+
+-- the request that asks this change of this entry
+abbrev pub asks_change : GrantRef → Change → Asked
+asks_change gref (Publish entry) = asks.Grant gref entry
+asks_change gref Revoke = asks.Revoke gref
+asks_change gref Withdraw = asks.Withdraw gref
+asks_change gref Demote = asks.Demote gref
+asks_change gref Promote = asks.Promote gref
+
+-- what a change did that ended so
+abbrev pub change_effect : GrantRef → Change → Result (Unit {0}) Denial → Effect
+change_effect gref change (Ok u) = Changed gref change
+change_effect gref change (Err denial) = Nothing
+
+-- the change is one that is tried in turns
+abbrev pub IsInTurns : Change → Type 0
+IsInTurns (Publish entry) = ⊥
+IsInTurns Revoke = ⊥
+IsInTurns change = Unit {0}
+
+-- one exchange from this word was made, or missed, which is refused by N19 with the word found
+abbrev pub ChangesOnce : Layout → DomId → GrantRef → ℕ → Change → Result (Unit {0}) Denial → View → View → Type 0
+ChangesOnce k caller gref looked change (Ok u) v w = Made k (Exchange gref looked change) Taken v w
+ChangesOnce k caller gref looked change (Err denial) v w =
+    (n : ℕ) × (denial ≡ entry_refusal caller gref N19 n) × Made k (Exchange gref looked change) (Missed n) v w
