@@ -4,4 +4,5 @@ pub mod Laying
 pub mod Overlay
 pub mod Placing
 pub mod Shown
+pub mod Stretches
 pub mod Writes

@@ -1,9 +1,11 @@
 -- Who wrote each byte of a frame last, and by what right.
-use Rattle.std.specs.Prelude.{◌≡◌, ℕ, zero, suc, ◌+◌, ◌<◌, ◌≤◌, Bool, false, true, ◌&&◌, ◌⊎◌, if◌then◌else◌, nat_le}
-use Rattle.std.specs.Prelude.{nat_lt, List, [], ◌∷◌, length, slice_get, slice_index_or, Option, Some, None}
+use Rattle.std.specs.Prelude.{◌≡◌, ℕ, zero, suc, ◌+◌, ◌*◌, ◌<◌, ◌≤◌, Bool, false, true, ◌&&◌, ◌⊎◌, if◌then◌else◌, nat_le}
+use Rattle.std.specs.Prelude.{nat_lt, List, [], ◌∷◌, length, replicate, slice_get, slice_index_or, Option, Some, None}
 use Rattle.gt_types.specs.declared.limits.TheConstants.{FRAME_SIZE}
+use Rattle.gt_frames.specs.Bytes.{overlay}
 use Rattle.gt_frames.specs.declared.writ.Writ.{Writ}
 use Rattle.gt_frames.specs.declared.writ.WriteRecord.{WriteRecord}
+use Rattle.gt_frames.specs.declared.writers.Stretch.{Stretch}
 use Rattle.gt_frames.specs.declared.writers.Writers.{Writers}
 
 -- the range of the record has this byte
@@ -20,21 +22,42 @@ abbrev pub writ_under : List Writ → ℕ → Option Writ
 writ_under ws zero = None
 writ_under ws (suc place) = slice_get ws place
 
+-- the number of each byte: the latest stretch has its own, whatever stands in the list below it
+unfoldable pub numbers_of : List ℕ → Stretch → List ℕ
+numbers_of below s = overlay below s.off (replicate s.len s.number)
+
+-- the stretch lies in the list
+abbrev pub LiesIn : Stretch → List ℕ → Type 0
+LiesIn s below = s.off + s.len ≤ length below
+
 -- the writ by which the byte was last written, as it is kept
 abbrev pub shown : Writers → ℕ → Option Writ
-shown w at = writ_under w.writs.items (slice_index_or w.numbers.items at 0)
+shown w at = writ_under w.writs.items (slice_index_or (numbers_of w.below.items w.latest) at 0)
 
 -- the place of this number is marked as used
 abbrev pub IsUsed : List Bool → ℕ → Type 0
 IsUsed used zero = Unit {0}
 IsUsed used (suc place) = slice_index_or used place true ≡ true
 
--- the number of each byte is that of a writ, whose place is marked
+-- how many places are marked
+abbrev pub count_used : List Bool → ℕ
+count_used [] = 0
+count_used (true ∷ used) = suc (count_used used)
+count_used (false ∷ used) = count_used used
+
+-- so many writs are kept at most
+abbrev pub most_writs : ℕ
+most_writs = 2 * FRAME_SIZE
+
+-- the number of each byte is that of a writ, whose place is marked, and there are not too many writs
 pub record AreWriters (w : Writers) : Type 0 where
-  pub size : (length w.numbers.items ≡ 0) ⊎ (length w.numbers.items ≡ FRAME_SIZE)
-  pub within : (at : ℕ) → slice_index_or w.numbers.items at 0 ≤ length w.writs.items
-  pub marked : (at : ℕ) → IsUsed w.used.items (slice_index_or w.numbers.items at 0)
+  pub size : (length w.below.items ≡ 0) ⊎ (length w.below.items ≡ FRAME_SIZE)
+  pub lies : LiesIn w.latest w.below.items
+  pub within : (at : ℕ) → slice_index_or (numbers_of w.below.items w.latest) at 0 ≤ length w.writs.items
+  pub marked : (at : ℕ) → IsUsed w.used.items (slice_index_or (numbers_of w.below.items w.latest) at 0)
   pub places : length w.used.items ≡ length w.writs.items
+  pub few : length w.writs.items ≤ most_writs
+  pub looks : w.most ≤ most_writs
 
 -- each byte has the writ that it had
 abbrev pub ShowsSame : Writers → Writers → Type 0
@@ -49,7 +72,7 @@ pub record IsFree (w : Writers) (place : ℕ) : Type 0 where
 pub record KeepsWriters (v w : Writers) : Type 0 where
   pub sound : AreWriters w
   pub same : ShowsSame v w
-  pub len : length w.numbers.items ≡ length v.numbers.items
+  pub len : length w.below.items ≡ length v.below.items
 
 -- the number is that of this writ, and marked
 pub record HasWrit (w : Writers) (n : ℕ) (writ : Writ) : Type 0 where

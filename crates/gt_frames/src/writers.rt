@@ -1,7 +1,7 @@
 //! Who wrote each byte of a frame last, and by what right.
-ghost use Rattle.std.specs.Prelude.{◌≡◌, ◌+◌, ◌<◌, ◌≤◌, ℕ, IfSome, false, true, length, replicate, slice_index_or};
+ghost use Rattle.std.specs.Prelude.{◌≡◌, ◌+◌, ◌<◌, ◌≤◌, ℕ, IfSome, None, false, true, length, replicate, slice_index_or};
 ghost use Rattle.gt_frames.specs.Bytes.{overlay};
-ghost use Rattle.gt_frames.specs.Writers.{IsUsed};
+ghost use Rattle.gt_frames.specs.Writers.{IsUsed, LiesIn, count_used, numbers_of};
 
 use crate::Writ;
 use gt_types::{FRAME_SIZE, Memory};
@@ -10,6 +10,21 @@ use std::alloc::Global;
 // So many writs are kept before those that show no byte any more are looked for.
 const FEWEST: usize = 128;
 
+// Bytes that lie side by side and have the same number.
+#[derive(Clone, Copy)]
+struct Stretch {
+    off: usize,
+    len: usize,
+    number: u16,
+}
+
+// No bytes.
+const NOTHING: Stretch = Stretch {
+    off: 0,
+    len: 0,
+    number: 0,
+};
+
 /// For each byte of a frame the writ by which it was last written. It takes no memory before the first write.
 ///
 /// A writ stays while it shows a byte. Its place is given to another one later, so there are at most twice as many
@@ -17,8 +32,12 @@ const FEWEST: usize = 128;
 #[derive(Drop)]
 pub(crate) struct Writers {
     alloc: Global,
-    // For each byte the number of its writ, which is its place and one more; 0 if the byte was never written.
-    numbers: Vec<u16>,
+    // For each byte the number of its writ, which is its place and one more; 0 if the byte was never written. What
+    // stands here for a byte of the latest stretch is of no account.
+    below: Vec<u16>,
+    // The bytes that were written last. Their number is laid over those below only once others are written by another
+    // writ, so that writing the same bytes again, or more, costs the same however many they are.
+    latest: Stretch,
     writs: Vec<Writ>,
     // Whether a byte may have the writ at this place.
     used: Vec<bool>,
@@ -32,7 +51,8 @@ pub(crate) struct Writers {
 
 // The first place from this one on that is not used.
 fn first_free(used: &[bool], from: usize) -> Option<usize>
-    ensures { IfSome result (λ n. (n < length used.now) × (slice_index_or used.now n true ≡ false)) }
+    ensures some { IfSome result (λ n. (n < length used.now) × (slice_index_or used.now n true ≡ false)) }
+    ensures none { result ≡ None → (at : ℕ) → from ≤ at → slice_index_or used.now at true ≡ true }
 {
     'places: for place in from..used.len() {
         if !used[place] {
@@ -47,6 +67,7 @@ fn mark(numbers: &[u16], used: &mut [bool])
     requires within { (at : ℕ) → slice_index_or numbers.now at 0 ≤ length used.old }
     ensures marked { (at : ℕ) → IsUsed used.new (slice_index_or numbers.now at 0) }
     ensures len { length used.new ≡ length used.old }
+    ensures few { count_used used.new ≤ length numbers.now }
 {
     clear(used);
     'bytes: for at in 0..numbers.len() {
@@ -58,20 +79,21 @@ fn mark(numbers: &[u16], used: &mut [bool])
 }
 
 fn clear(used: &mut [bool])
-    ensures { length used.new ≡ length used.old }
+    ensures len { length used.new ≡ length used.old }
+    ensures none { count_used used.new ≡ 0 }
 {
-    'places: for place in used.iter_mut() {
-        *place = false;
+    'places: for at in 0..used.len() {
+        used[at] = false;
     }
 }
 
 // How many places are used.
 fn count(used: &[bool]) -> usize
-    ensures { result ≤ length used.now }
+    ensures { result ≡ count_used used.now }
 {
     let mut count = 0;
-    'places: for place in used {
-        if *place {
+    'places: for at in 0..used.len() {
+        if used[at] {
             count += 1;
         }
     }
@@ -97,11 +119,49 @@ fn set_all(numbers: &mut [u16], number: u16)
     }
 }
 
+// Lays the latest stretch over the numbers below it, and leaves none.
+#[cold]
+#[inline(never)]
+fn settle(below: &mut Vec<u16>, latest: &mut Stretch)
+    requires { LiesIn latest.old below.old.items }
+    ensures below { below.new.items ≡ numbers_of below.old.items latest.old }
+    ensures all { numbers_of below.new.items latest.new ≡ below.new.items }
+    ensures lies { LiesIn latest.new below.new.items }
+    ensures len { length below.new.items ≡ length below.old.items }
+{
+    fill(below, latest.off, latest.len, latest.number);
+    *latest = NOTHING;
+}
+
+// Gives the bytes of this range a number.
+#[inline(always)]
+fn lay(below: &mut Vec<u16>, latest: &mut Stretch, number: u16, off: usize, len: usize)
+    requires lies { LiesIn latest.old below.old.items }
+    requires range { off + len ≤ length below.old.items }
+    ensures numbers { numbers_of below.new.items latest.new
+        ≡ overlay (numbers_of below.old.items latest.old) off (replicate len number) }
+    ensures lies { LiesIn latest.new below.new.items }
+    ensures len { length below.new.items ≡ length below.old.items }
+{
+    let end = latest.off + latest.len;
+    if number == latest.number && latest.off <= off && off <= end {
+        if end < off + len {
+            latest.len = off + len - latest.off;
+        }
+        return;
+    }
+    if off > latest.off || end > off + len {
+        settle(below, latest);
+    }
+    *latest = Stretch { off, len, number };
+}
+
 impl Writers {
     ghost use Rattle.std.specs.Prelude.{◌≡◌, ◌+◌, ◌<◌, ◌≤◌, ◌-◌, ℕ, Some, None, IfOk, OnOk, OnErr, true, length};
     ghost use Rattle.std.specs.Prelude.{replicate, slice_get, slice_index_or};
     ghost use Rattle.gt_frames.specs.Bytes.{overlay};
     ghost use Rattle.gt_frames.specs.Writers.{AreWriters, HasWrit, IsFree, IsUsed, KeepsWriters, ShowsSame, shown};
+    ghost use Rattle.gt_frames.specs.Writers.{count_used, most_writs, numbers_of};
 
     /// No byte was written.
     pub(crate) fn new(alloc: Global) -> Writers
@@ -110,7 +170,8 @@ impl Writers {
     {
         Writers {
             alloc,
-            numbers: Vec::new(alloc),
+            below: Vec::new(alloc),
+            latest: NOTHING,
             writs: Vec::new(alloc),
             used: Vec::new(alloc),
             last: 0,
@@ -124,17 +185,18 @@ impl Writers {
         requires { AreWriters self.old }
         ensures sound { AreWriters self.new }
         ensures same { ShowsSame self.old self.new }
-        ensures len { OnOk result (length self.new.numbers.items ≡ FRAME_SIZE) }
+        ensures len { OnOk result (length self.new.below.items ≡ FRAME_SIZE) }
     {
-        if self.numbers.is_empty() {
-            self.numbers = vec![in self.alloc; 0; FRAME_SIZE as usize]?;
+        if self.below.is_empty() {
+            self.below = vec![in self.alloc; 0; FRAME_SIZE as usize]?;
         }
         Ok(())
     }
 
     // Adds a place with this writ, which no byte has.
     fn add(&mut self, writ: &Writ) -> Result<usize, Memory>
-        requires { AreWriters self.old }
+        requires sound { AreWriters self.old }
+        requires few { length self.old.writs.items < most_writs }
         ensures same { KeepsWriters self.old self.new }
         ensures free { IfOk result (IsFree self.new) }
     {
@@ -144,6 +206,17 @@ impl Writers {
         self.writs.push_reserved(*writ);
         self.used.push_reserved(false);
         Ok(place)
+    }
+
+    // Finds out which places are used.
+    fn look_for_unused(&mut self)
+        requires { AreWriters self.old }
+        ensures same { KeepsWriters self.old self.new }
+        ensures few { count_used self.new.used.items ≤ FRAME_SIZE }
+    {
+        settle(&mut self.below, &mut self.latest);
+        mark(&self.below, &mut self.used);
+        self.most = (2 * count(&self.used)).max(FEWEST);
     }
 
     // A place whose writ no byte has. If none is known, unused ones are looked for anew once there are many places;
@@ -157,8 +230,7 @@ impl Writers {
             return Ok(place);
         }
         if self.writs.len() >= self.most {
-            mark(&self.numbers, &mut self.used);
-            self.most = count(&self.used).saturating_mul(2).max(FEWEST);
+            self.look_for_unused();
             if let Some(place) = first_free(&self.used, 0) {
                 return Ok(place);
             }
@@ -191,14 +263,27 @@ impl Writers {
         self.writs[number - 1].is(writ)
     }
 
-    /// By which writ the byte was last written.
-    pub(crate) fn last_writ(&self, at: usize) -> Option<Writ>
-        ensures { result ≡ shown self.now at }
+    // The number of this byte.
+    fn number_at(&self, at: usize) -> usize
+        requires { AreWriters self.now }
+        ensures { result ≡ slice_index_or (numbers_of self.now.below.items self.now.latest) at 0 }
     {
-        let number = match self.numbers.get(at) {
+        let latest = &self.latest;
+        if latest.off <= at && at - latest.off < latest.len {
+            return usize::from(latest.number);
+        }
+        match self.below.get(at) {
             Some(number) => usize::from(*number),
             None => 0,
-        };
+        }
+    }
+
+    /// By which writ the byte was last written.
+    pub(crate) fn last_writ(&self, at: usize) -> Option<Writ>
+        requires { AreWriters self.now }
+        ensures { result ≡ shown self.now at }
+    {
+        let number = self.number_at(at);
         if number == 0 {
             None
         } else {
@@ -216,10 +301,10 @@ impl Writers {
         requires { AreWriters self.old }
         ensures sound { AreWriters self.new }
         ensures same { ShowsSame self.old self.new }
-        ensures len { OnOk result (length self.new.numbers.items ≡ FRAME_SIZE) }
+        ensures len { OnOk result (length self.new.below.items ≡ FRAME_SIZE) }
         ensures has { IfOk result (λ n. HasWrit self.new n writ.now) }
     {
-        if self.is_last(writ) && self.numbers.len() == FRAME_SIZE as usize {
+        if self.is_last(writ) && self.below.len() == FRAME_SIZE as usize {
             let place = usize::from(self.last) - 1;
             self.used[place] = true;
             return Ok(self.last);
@@ -235,14 +320,11 @@ impl Writers {
         requires { AreWriters self.old }
         ensures sound { AreWriters self.new }
         ensures same { ShowsSame self.old self.new }
-        ensures len { OnOk result (length self.new.numbers.items ≡ FRAME_SIZE) }
+        ensures len { OnOk result (length self.new.below.items ≡ FRAME_SIZE) }
         ensures has { IfOk result (λ n. HasWrit self.new n writ) }
     {
         self.make_numbers()?;
         let place = self.free_place(&writ)?;
-        if place >= usize::from(u16::MAX) {
-            return Err(Memory);
-        }
         self.put(place, &writ);
         self.last = place as u16 + 1;
         Ok(self.last)
@@ -252,13 +334,15 @@ impl Writers {
     #[inline(always)]
     pub(crate) fn show(&mut self, number: u16, off: usize, len: usize)
         requires sound { AreWriters self.old }
-        requires size { length self.old.numbers.items ≡ FRAME_SIZE }
+        requires size { length self.old.below.items ≡ FRAME_SIZE }
         requires range { off + len ≤ FRAME_SIZE }
         requires has { (number ≤ length self.old.writs.items) × IsUsed self.old.used.items number }
         ensures sound { AreWriters self.new }
         ensures writs { self.new.writs ≡ self.old.writs }
-        ensures numbers { self.new.numbers.items ≡ overlay self.old.numbers.items off (replicate len number) }
+        ensures numbers { numbers_of self.new.below.items self.new.latest
+            ≡ overlay (numbers_of self.old.below.items self.old.latest) off (replicate len number) }
+        ensures len { length self.new.below.items ≡ length self.old.below.items }
     {
-        fill(&mut self.numbers, off, len, number);
+        lay(&mut self.below, &mut self.latest, number, off, len);
     }
 }
