@@ -13,7 +13,7 @@ use Rattle.gt_words.specs.Answers.{Pins}
 use Rattle.gt_types.specs.declared.denial.Facts.TheVariants as facts
 use Rattle.gt_words.specs.declared.view.EntryStep.TheVariants.{Pinned, Unpinned, Changed}
 use Rattle.gt_words.specs.declared.view.HeaderStep.TheVariants as header
-use Rattle.gt_words.specs.declared.view.SeatStep.TheVariants.{Header}
+use Rattle.gt_words.specs.declared.view.SeatStep.TheVariants.{Frame, Header}
 
 -- what a step of a seat shows to its call
 abbrev pub seen_in_step : SeatStep → Seen
@@ -27,6 +27,7 @@ seen_in_step (Entry t r (Changed c e n y)) = Taken
 seen_in_step (Entry t r (ChangeMissed c e y n)) = Missed n
 seen_in_step (Header t (header.Looked n)) = Word n
 seen_in_step (Header t (header.Stored n)) = Nothing
+seen_in_step (Frame t f m) = Nothing
 
 -- the same of a step with its moment
 abbrev pub shown_by : Moment → Seen

@@ -27,7 +27,7 @@ use Rattle.gt_words.specs.declared.view.EntryStep.{EntryStep}
 use Rattle.gt_words.specs.declared.view.HeaderStep.{HeaderStep}
 use Rattle.gt_words.specs.declared.view.HeaderStep.TheVariants as header
 use Rattle.gt_words.specs.declared.view.SeatStep.{SeatStep}
-use Rattle.gt_words.specs.declared.view.SeatStep.TheVariants.{Entry, Header}
+use Rattle.gt_words.specs.declared.view.SeatStep.TheVariants.{Entry, Frame, Header}
 use Rattle.gt_words.specs.declared.view.View.{View}
 use Rattle.gt_words.specs.declared.word_table.TheConstants.{DOMAIN_WORDS}
 
@@ -97,11 +97,17 @@ module _ (k : Layout) (i : ℕ) (h : StepHistory) (inside : i < k.domains) where
   entries : (x : SeatStep) → IsOwners i x → (t r : ℕ) → entry_made k t r ((i, x) ∷ h) ≡ event_on_entry i x t r (entry_made k t r h)
   entries (Entry d q m) may t r = on_entry d q m may t r
   entries (Header d m) may t r = ap (entry_by k.first t) (same_parts t r i (Header d m) h (λ l. refl) 0 k.domains)
+  entries (Frame d q m) may t r = ap (entry_by k.first t) (same_parts t r i (Frame d q m) h (λ l. refl) 0 k.domains)
 
   headers : (x : SeatStep) → IsOwners i x → (t : ℕ) → header_made k t ((i, x) ∷ h) ≡ event_on_header x t (header_made k t h)
   headers (Entry d q m) may t = by (i == t)
     where
       by : (b : Bool) → stored_header (get_or k.headers t 0) (header_steps t (cond b (Entry d q m ∷ part_of t h) (part_of t h))) ≡ header_made k t h
+      by true = refl
+      by false = refl
+  headers (Frame d q m) may t = by (i == t)
+    where
+      by : (b : Bool) → stored_header (get_or k.headers t 0) (header_steps t (cond b (Frame d q m ∷ part_of t h) (part_of t h))) ≡ header_made k t h
       by true = refl
       by false = refl
   headers (Header d (header.Looked n)) may t = by (i == t) (d == t)

@@ -17,3 +17,4 @@ pub mod SeatsDealt
 pub mod Past
 pub mod Moments
 pub mod HistorySteps
+pub mod Joining

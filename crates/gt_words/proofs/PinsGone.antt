@@ -27,7 +27,7 @@ use Rattle.gt_words.specs.declared.view.EntryRecord.{EntryRecord}
 use Rattle.gt_words.specs.declared.view.EntryStep.{EntryStep}
 use Rattle.gt_words.specs.declared.view.EntryStep.TheVariants.{Changed}
 use Rattle.gt_words.specs.declared.view.SeatStep.{SeatStep}
-use Rattle.gt_words.specs.declared.view.SeatStep.TheVariants.{Entry as OnEntry, Header as OnHeader}
+use Rattle.gt_words.specs.declared.view.SeatStep.TheVariants.{Entry as OnEntry, Frame as OnFrame, Header as OnHeader}
 use Rattle.gt_words.specs.declared.view.View.{View}
 
 -- where no view has a pin, none is counted
@@ -48,6 +48,7 @@ still_exchanged e t r (OnEntry d q m ∷ later) steps is = by ((d == t) && (q ==
   by true there = one_more e m (entry_steps t r (later ++ steps)) there
   by false there = there
 still_exchanged e t r (OnHeader d m ∷ later) steps is = still_exchanged e t r later steps is
+still_exchanged e t r (OnFrame d q m ∷ later) steps is = still_exchanged e t r later steps is
 
 module _ (k : Layout) (r word : ℕ) (c : Change) (v w : View) (z : Changes k r c word v w) (none : HasNoPins v.position r z.steps.past) (vn : v.position < k.domains) (rn : r < TABLE_ENTRIES) where
   abbrev all : List (List EntryStep)

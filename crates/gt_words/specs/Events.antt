@@ -10,7 +10,7 @@ use Rattle.gt_words.specs.declared.view.EntryStep.TheVariants.{StoredBody, Chang
 use Rattle.gt_words.specs.declared.view.HeaderStep.{HeaderStep}
 use Rattle.gt_words.specs.declared.view.HeaderStep.TheVariants as header
 use Rattle.gt_words.specs.declared.view.SeatStep.{SeatStep}
-use Rattle.gt_words.specs.declared.view.SeatStep.TheVariants.{Entry, Header}
+use Rattle.gt_words.specs.declared.view.SeatStep.TheVariants.{Entry, Frame, Header}
 use Rattle.gt_words.specs.declared.view.View.{View}
 use Rattle.gt_words.specs.Views.{LivePin, live_pins, without_pin, last_record, stored_body, steps_on, steps_on_header}
 use Rattle.gt_words.specs.Views.{entry_steps, header_steps, stored_header}
@@ -46,11 +46,13 @@ header_after (header.Stored n) w = n
 abbrev pub event_on_entry : ℕ → SeatStep → ℕ → ℕ → EntryState → EntryState
 event_on_entry i (Entry d q m) t r x = cond ((d == t) && (q == r)) (entry_after i m x) x
 event_on_entry i (Header d m) t r x = x
+event_on_entry i (Frame d q m) t r x = x
 
 -- what a step makes of the header of the domain t: none but a step on it changes it
 abbrev pub event_on_header : SeatStep → ℕ → ℕ → ℕ
 event_on_header (Header d m) t w = cond (d == t) (header_after m w) w
 event_on_header (Entry d q m) t w = w
+event_on_header (Frame d q m) t w = w
 
 -- the step x of the domain i takes each entry and header that the steps before it make
 -- to what the event of the core gives

@@ -6,7 +6,7 @@ use Rattle.gt_words.specs.Prelude.{some, get_elem?, State, unit_of, Half, First,
 use Rattle.gt_words.specs.Prelude.{ReadBody, Pinned, PinMissed, Unpinned, StoredBody, Changed, ChangeMissed, HeaderStep}
 use Rattle.gt_words.specs.Prelude.{SeatStep, View, EntryRecord, Invalid, DOMAIN_WORDS, ENTRY_WORDS}
 use Rattle.gt_words.specs.declared.view.HeaderStep.TheVariants as header
-use Rattle.gt_words.specs.declared.view.SeatStep.TheVariants.{Entry, Header}
+use Rattle.gt_words.specs.declared.view.SeatStep.TheVariants.{Entry, Frame, Header}
 use Rattle.gt_words.specs.Views.{LivePin, entry_steps, header_steps, last_record, live_pins, stored_body, stored_header}
 
 -- the run as the words need it: the domains in order, their number, the first
@@ -66,6 +66,7 @@ word_on _ = 0
 abbrev pub word_place_of : SeatStep → ℕ
 word_place_of (Entry t r m) = place t r (word_on m)
 word_place_of (Header t m) = header_place t
+word_place_of (Frame t f m) = 0
 
 -- what a step on an entry leaves of the number that it finds: a pin adds one, an unpin takes one away, a store
 -- and a taken exchange set it, and all else leaves it (C11 atomics)
@@ -84,6 +85,7 @@ abbrev pub left_by : SeatStep → ℕ → ℕ
 left_by (Entry t r m) n = left_on_entry m n
 left_by (Header t (header.Looked w)) n = n
 left_by (Header t (header.Stored w)) n = w
+left_by (Frame t f m) n = n
 
 -- the word at a place that a history makes
 abbrev pub word_after : Layout → StepHistory → ℕ → ℕ
@@ -106,6 +108,7 @@ abbrev pub SaysWord : SeatStep → ℕ → Type 0
 SaysWord (Entry t r m) n = SaysFound m n
 SaysWord (Header t (header.Looked w)) n = w ≡ n
 SaysWord (Header t (header.Stored w)) n = Unit {0}
+SaysWord (Frame t f m) n = Unit {0}
 
 -- a step of the domain i on an entry of the domain t stores or changes only if i is t
 abbrev pub IsByOwner : ℕ → ℕ → EntryStep → Type 0
@@ -122,6 +125,7 @@ HeaderByOwner i t (header.Looked n) = Unit {0}
 abbrev pub IsOwners : ℕ → SeatStep → Type 0
 IsOwners i (Entry t r m) = IsByOwner i t m
 IsOwners i (Header t m) = HeaderByOwner i t m
+IsOwners i (Frame t f m) = Unit {0}
 
 -- the owner's steps on the entry, out of those of each seat
 abbrev pub owner_steps : ℕ → List (List EntryStep) → List EntryStep
@@ -166,6 +170,7 @@ IsOfRecord x _ = Unit {0}
 abbrev pub PinsLast : Layout → StepHistory → SeatStep → Type 0
 PinsLast k h (Entry t r m) = IsOfRecord (entry_made k t r h).current m
 PinsLast k h (Header t m) = Unit {0}
+PinsLast k h (Frame t f m) = Unit {0}
 
 -- each step of the history found the word that the steps before it make, stored or changed only
 -- what is its seat's own, and took a pin only of the last record

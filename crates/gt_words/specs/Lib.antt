@@ -5,6 +5,7 @@ pub mod Sight
 pub mod Rule
 pub mod Events
 pub mod Steps
+pub mod Joining
 pub mod Keeping
 pub mod Answers
 pub mod Conditions

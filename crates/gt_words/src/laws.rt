@@ -1,6 +1,7 @@
 //! What follows from the definitions, for callers.
 ghost use Rattle.gt_words.specs.Laws.{DomainsAreOfRun, DomainsStandThere, PastPinsAreRefused, PinsAreOfEntries};
 ghost use Rattle.gt_words.specs.Laws.{AllowedStepsSayWhatIsThere, EachStepHappened, HistoryIsOne};
+ghost use Rattle.gt_words.specs.Joining.{HoldersLearn, SeatsJoin, StepsLift};
 ghost use Rattle.gt_words.specs.Laws.{NoPinOutlivesItsRecord, PinsHaveOneRecord};
 ghost use Rattle.gt_words.specs.Laws.{PinsLeftAreCounted, SeatsStandThere};
 ghost use Rattle.gt_words.specs.Laws.{StepsAreTakenThen, WhatWasSeenIsListed, WordsFollowViews};
@@ -82,4 +83,11 @@ pub fn every_allowed_step_says_what_is_there()
 /// gives.
 pub fn every_step_of_a_history_happened()
     ensures { EachStepHappened }
+{}
+
+/// A law: the first seat may take the others in, and then tells of one state with the views of all.
+pub fn seats_may_be_taken_in()
+    ensures lift { StepsLift }
+    ensures join { SeatsJoin }
+    ensures learn { HoldersLearn }
 {}

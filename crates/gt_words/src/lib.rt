@@ -27,5 +27,5 @@ pub use laws::{
     no_pin_is_taken_of_a_past_record, no_pin_outlives_its_record,
     pins_of_one_generation_have_one_record,
 };
-pub use view::{EntryRecord, EntryStep, HeaderStep, Purpose, SeatStep, View};
-pub use words::{Pin, Seat, Words};
+pub use view::{EntryRecord, EntryStep, FrameStep, HeaderStep, Outlook, Purpose, SeatStep, View};
+pub use words::{Gathered, Pin, Seat, Words};

@@ -4,9 +4,9 @@ ghost use Rattle.gt_types.specs.Config.{IsWithinLimits};
 ghost use Rattle.gt_words.specs.Rule.{layout_of, first_header};
 ghost use Rattle.gt_words.specs.Conditions.{Board, initial};
 ghost use Rattle.gt_words.specs.Answers.{IsNewSeat};
-ghost use Rattle.gt_words.specs.Places.{IsNewPlace, dealer_after, dealt_to};
+ghost use Rattle.gt_words.specs.Places.{IsNewPlace, dealing, dealt_outlook};
 
-use crate::view::View;
+use crate::view::Outlook;
 use crate::word_table::{DOMAIN_ROWS, DOMAIN_WORDS, ENTRY_WORDS, TableSeat, WordTable, idle_word};
 use crate::words::{Found, Seat};
 use atomic_table::Split;
@@ -17,10 +17,10 @@ use std::alloc::{AllocError, Global};
 /// How the first seat deals the next one.
 pub struct Deal;
 
-impl Split<View> for Deal {
-    ghost left = { dealer_after };
+impl Split<Outlook> for Deal {
+    ghost left = { dealing };
 
-    ghost right = { dealt_to };
+    ghost right = { dealt_outlook };
 }
 
 // The header of a domain at the start.
@@ -89,7 +89,7 @@ pub(crate) fn deal_seats(
 ) -> Result<Vec<Seat>, AllocError>
     requires config { IsWithinLimits config.now × (words.now.table.shared.key ≡ config.now) }
     requires first { IsNewPlace words.now.table.shared.table_id (layout_of config.now) 0 first
-        × (first.me.0.dealt ≡ 1) }
+        × (first.me.0.own.dealt ≡ 1) }
     ensures count { IfOk result (λ v. length v.items ≡ length config.now.domains.items) }
     ensures seats { IfOk result (λ v. (i : ℕ) → i < length config.now.domains.items
         → HoldsAt (λ s. IsNewSeat

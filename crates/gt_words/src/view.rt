@@ -1,5 +1,6 @@
 //! What a seat knows, as plain data for contracts. No value of it is made when the program runs.
 use gt_entry::{Change, Entry, Half};
+use gt_frames::{FrameBytes, WriteRecord};
 use gt_types::{Dir, DomId};
 use std::collections::LinkedList;
 
@@ -63,11 +64,22 @@ pub enum HeaderStep {
     Stored(u64),
 }
 
-/// A step, with the position of the domain among those of the run, and the reference if it is on an entry.
-#[derive(Clone, Copy)]
+/// One access to a frame: it takes place when the frame's lock is freed.
+pub enum FrameStep {
+    /// The bytes from this offset on were read.
+    Read(u16, FrameBytes),
+    /// A range was written.
+    Wrote(WriteRecord),
+    /// A range was written, with the bytes of a frame of the domain at this position, of this number, from this offset on.
+    Copied(u64, u64, u16, WriteRecord),
+}
+
+/// A step, with the position of the domain among those of the run, and the reference if it is on an entry, or the number
+/// of the frame.
 pub enum SeatStep {
     Entry(u64, u64, EntryStep),
     Header(u64, HeaderStep),
+    Frame(u64, u64, FrameStep),
 }
 
 /// What an exchange of a control word is for.
@@ -91,4 +103,11 @@ pub struct View {
     pub steps: LinkedList<SeatStep>,
     /// The steps of all seats up to its own last one, each with the position of its seat, the last first.
     pub past: LinkedList<(u64, SeatStep)>,
+}
+
+/// What a seat knows, and the views of the seats that it took in. A seat that was taken in is gone.
+pub struct Outlook {
+    pub own: View,
+    pub taken: LinkedList<View>,
+    pub gone: bool,
 }

@@ -17,9 +17,11 @@ ghost use Rattle.gt_words.specs.Answers.{Demotes, LooksAtBody, LooksAtControl};
 ghost use Rattle.gt_words.specs.Answers.{LooksAtHeader, MissesBusy, MissesChange, MissesPin, Pins, Publishes};
 ghost use Rattle.gt_words.specs.Answers.{Revokes, StoresBody, StoresHeader, Unpins};
 ghost use Rattle.gt_words.specs.Places.{new_view, IsSamePlace};
+ghost use Rattle.gt_words.specs.Joining.{HoldsSo, Learns, gone_outlook, learns_all, outlook_of, tells_own};
+ghost use Rattle.gt_words.specs.Joining.{tells_own_stored, took};
 
-use crate::view::{Purpose, View};
-use atomic_table::{Play, Seat, Shared, Table, TableRule};
+use crate::view::{Outlook, Purpose};
+use atomic_table::{Join, Play, Seat, Shared, Table, TableRule};
 use gt_entry::{Change, Control, Entry, Half, Header, pin_unit};
 use gt_types::{Config, Dir, LAST_GENERATION, TABLE_ENTRIES};
 use std::alloc::Global;
@@ -38,10 +40,10 @@ pub(crate) const DOMAIN_WORDS: usize = DOMAIN_ROWS * ENTRY_WORDS;
 /// The rule of the table: words and views show a state of the core.
 pub struct Entries;
 
-impl TableRule<(), View, Config> for Entries {
-    ghost holds = { λ c. Shows (layout_of c) };
+impl TableRule<(), Outlook, Config> for Entries {
+    ghost holds = { λ c. HoldsSo (layout_of c) };
 
-    ghost first = { λ c. new_view c.first_gen (layout_of c).headers (layout_of c).ids 0 };
+    ghost first = { λ c. outlook_of (new_view c.first_gen (layout_of c).headers (layout_of c).ids 0) };
 }
 
 /// The kind of a step, which each call of a raw step picks.
@@ -57,8 +59,8 @@ struct Tells<J> {
     kind: PhantomData<J>,
 }
 
-impl<J: OfKind> Play<(), View> for Tells<J> {
-    ghost then = { tells J.kind };
+impl<J: OfKind> Play<(), Outlook> for Tells<J> {
+    ghost then = { tells_own J.kind };
 }
 
 // A store does not say what it found.
@@ -66,19 +68,37 @@ struct TellsStore<J> {
     kind: PhantomData<J>,
 }
 
-impl<J: OfKind> Play<(), View> for TellsStore<J> {
-    ghost then = { λ st m _ m'. tells_stored J.kind st m m' };
+impl<J: OfKind> Play<(), Outlook> for TellsStore<J> {
+    ghost then = { λ st m _ m'. tells_own_stored J.kind st m m' };
+}
+
+// How the first seat takes another in.
+struct TakeIn;
+
+impl Join<Outlook> for TakeIn {
+    ghost both = { took };
+
+    ghost spent = { gone_outlook };
+}
+
+// What the first seat tells of all that it took in.
+struct TellsAll<J> {
+    kind: PhantomData<J>,
+}
+
+impl<J: OfKind> Play<(), Outlook> for TellsAll<J> {
+    ghost then = { learns_all J.kind };
 }
 
 /// A seat of the table, which holds no slot.
-pub type TableSeat = Seat<(), View>;
+pub type TableSeat = Seat<(), Outlook>;
 
-type Cells = Shared<(), View, Config, Entries>;
+type Cells = Shared<(), Outlook, Config, Entries>;
 
 /// The words of all entries and headers.
 #[derive(Drop)]
 pub struct WordTable {
-    pub table: Table<(), View, Config, Entries, Global>,
+    pub table: Table<(), Outlook, Config, Entries, Global>,
     ghost wide: { IsWide table.shared.table_id.words (layout_of table.shared.key) },
 }
 
@@ -93,11 +113,13 @@ fn load_word<J: OfKind>(
     requires fits { (seat.old.table_id ≡ cells.now.table_id)
         × IsWide cells.now.table_id.words (layout_of cells.now.key) × (at < length cells.now.key.domains.items)
         × (gref < TABLE_ENTRIES) × (word < 3) }
-    requires allowed { Allows (Shows (layout_of cells.now.key)) cells.now.table_id.slots seat.old.id seat.old.me
+    requires here { seat.old.me.0.gone ≡ false }
+    requires allowed { Allows (Shows (layout_of cells.now.key)) cells.now.table_id.slots seat.old.id (seat.old.me.0.own, seat.old.me.1)
         (place at gref word) (λ n. n)
-        (tells J.kind (step cells.now.table_id.slots (place at gref word) 0 0 none) seat.old.me) }
+        (tells J.kind (step cells.now.table_id.slots (place at gref word) 0 0 none) (seat.old.me.0.own, seat.old.me.1)) }
     ensures { (seat.new.table_id ≡ seat.old.table_id) × (seat.new.id ≡ seat.old.id)
-        × tells J.kind (step cells.now.table_id.slots (place at gref word) 0 0 none) seat.old.me result seat.new.me }
+        × tells J.kind (step cells.now.table_id.slots (place at gref word) 0 0 none) (seat.old.me.0.own, seat.old.me.1) result (seat.new.me.0.own, seat.new.me.1)
+        × (seat.new.me.0.taken ≡ seat.old.me.0.taken) × (seat.new.me.0.gone ≡ false) }
 {
     cells.load::<Tells<J>>(seat, (at * DOMAIN_ROWS + (gref + 1)) * ENTRY_WORDS + word)
 }
@@ -114,11 +136,13 @@ fn store_word<J: OfKind>(
     requires fits { (seat.old.table_id ≡ cells.now.table_id)
         × IsWide cells.now.table_id.words (layout_of cells.now.key) × (at < length cells.now.key.domains.items)
         × (gref < TABLE_ENTRIES) × (word < 3) }
-    requires allowed { Allows (Shows (layout_of cells.now.key)) cells.now.table_id.slots seat.old.id seat.old.me
+    requires here { seat.old.me.0.gone ≡ false }
+    requires allowed { Allows (Shows (layout_of cells.now.key)) cells.now.table_id.slots seat.old.id (seat.old.me.0.own, seat.old.me.1)
         (place at gref word) (λ _. new)
-        (λ _. tells_stored J.kind (step cells.now.table_id.slots (place at gref word) new 0 none) seat.old.me) }
+        (λ _. tells_stored J.kind (step cells.now.table_id.slots (place at gref word) new 0 none) (seat.old.me.0.own, seat.old.me.1)) }
     ensures { (seat.new.table_id ≡ seat.old.table_id) × (seat.new.id ≡ seat.old.id)
-        × tells_stored J.kind (step cells.now.table_id.slots (place at gref word) new 0 none) seat.old.me seat.new.me }
+        × tells_stored J.kind (step cells.now.table_id.slots (place at gref word) new 0 none) (seat.old.me.0.own, seat.old.me.1) (seat.new.me.0.own, seat.new.me.1)
+        × (seat.new.me.0.taken ≡ seat.old.me.0.taken) × (seat.new.me.0.gone ≡ false) }
 {
     cells.store::<TellsStore<J>>(
         seat,
@@ -140,11 +164,13 @@ fn exchange_word<J: OfKind>(
     requires fits { (seat.old.table_id ≡ cells.now.table_id)
         × IsWide cells.now.table_id.words (layout_of cells.now.key) × (at < length cells.now.key.domains.items)
         × (gref < TABLE_ENTRIES) }
-    requires allowed { Allows (Shows (layout_of cells.now.key)) cells.now.table_id.slots seat.old.id seat.old.me
+    requires here { seat.old.me.0.gone ≡ false }
+    requires allowed { Allows (Shows (layout_of cells.now.key)) cells.now.table_id.slots seat.old.id (seat.old.me.0.own, seat.old.me.1)
         (place at gref 0) (λ n. either (n == old) new n)
-        (tells J.kind (step cells.now.table_id.slots (place at gref 0) old new none) seat.old.me) }
+        (tells J.kind (step cells.now.table_id.slots (place at gref 0) old new none) (seat.old.me.0.own, seat.old.me.1)) }
     ensures { (seat.new.table_id ≡ seat.old.table_id) × (seat.new.id ≡ seat.old.id)
-        × tells J.kind (step cells.now.table_id.slots (place at gref 0) old new none) seat.old.me result seat.new.me }
+        × tells J.kind (step cells.now.table_id.slots (place at gref 0) old new none) (seat.old.me.0.own, seat.old.me.1) result (seat.new.me.0.own, seat.new.me.1)
+        × (seat.new.me.0.taken ≡ seat.old.me.0.taken) × (seat.new.me.0.gone ≡ false) }
 {
     let _ = purpose;
     cells.compare_exchange::<Tells<J>>(
@@ -168,11 +194,13 @@ fn subtract_from_word<J: OfKind>(
     requires fits { (seat.old.table_id ≡ cells.now.table_id)
         × IsWide cells.now.table_id.words (layout_of cells.now.key) × (at < length cells.now.key.domains.items)
         × (gref < TABLE_ENTRIES) }
-    requires allowed { Allows (Shows (layout_of cells.now.key)) cells.now.table_id.slots seat.old.id seat.old.me
+    requires here { seat.old.me.0.gone ≡ false }
+    requires allowed { Allows (Shows (layout_of cells.now.key)) cells.now.table_id.slots seat.old.id (seat.old.me.0.own, seat.old.me.1)
         (place at gref 0) (λ n. (n + (2 ^ 64 - one)) % 2 ^ 64)
-        (tells J.kind (step cells.now.table_id.slots (place at gref 0) one 0 none) seat.old.me) }
+        (tells J.kind (step cells.now.table_id.slots (place at gref 0) one 0 none) (seat.old.me.0.own, seat.old.me.1)) }
     ensures { (seat.new.table_id ≡ seat.old.table_id) × (seat.new.id ≡ seat.old.id)
-        × tells J.kind (step cells.now.table_id.slots (place at gref 0) one 0 none) seat.old.me result seat.new.me }
+        × tells J.kind (step cells.now.table_id.slots (place at gref 0) one 0 none) (seat.old.me.0.own, seat.old.me.1) result (seat.new.me.0.own, seat.new.me.1)
+        × (seat.new.me.0.taken ≡ seat.old.me.0.taken) × (seat.new.me.0.gone ≡ false) }
 {
     let _ = dir;
     let _ = generation;
@@ -183,24 +211,40 @@ fn subtract_from_word<J: OfKind>(
 fn load_header_word<J: OfKind>(cells: &Cells, seat: &mut TableSeat, at: usize) -> u64
     requires fits { (seat.old.table_id ≡ cells.now.table_id)
         × IsWide cells.now.table_id.words (layout_of cells.now.key) × (at < length cells.now.key.domains.items) }
-    requires allowed { Allows (Shows (layout_of cells.now.key)) cells.now.table_id.slots seat.old.id seat.old.me
+    requires here { seat.old.me.0.gone ≡ false }
+    requires allowed { Allows (Shows (layout_of cells.now.key)) cells.now.table_id.slots seat.old.id (seat.old.me.0.own, seat.old.me.1)
         (header_place at) (λ n. n)
-        (tells J.kind (step cells.now.table_id.slots (header_place at) 0 0 none) seat.old.me) }
+        (tells J.kind (step cells.now.table_id.slots (header_place at) 0 0 none) (seat.old.me.0.own, seat.old.me.1)) }
     ensures { (seat.new.table_id ≡ seat.old.table_id) × (seat.new.id ≡ seat.old.id)
-        × tells J.kind (step cells.now.table_id.slots (header_place at) 0 0 none) seat.old.me result seat.new.me }
+        × tells J.kind (step cells.now.table_id.slots (header_place at) 0 0 none) (seat.old.me.0.own, seat.old.me.1) result (seat.new.me.0.own, seat.new.me.1)
+        × (seat.new.me.0.taken ≡ seat.old.me.0.taken) × (seat.new.me.0.gone ≡ false) }
 {
     cells.load::<Tells<J>>(seat, at * DOMAIN_WORDS)
+}
+
+// One load, which tells of one state with the views of all seats that were taken in.
+fn tell_all<J: OfKind>(cells: &Cells, seat: &mut TableSeat)
+    requires fits { (seat.old.table_id ≡ cells.now.table_id) × (0 < cells.now.table_id.words)
+        × (seat.old.me.0.own.position ≡ 0) }
+    requires here { seat.old.me.0.gone ≡ false }
+    requires run { J.kind.layout ≡ layout_of cells.now.key }
+    ensures same { seat.new.me ≡ seat.old.me }
+    ensures all { Learns J.kind.layout seat.old.me.0 }
+{
+    cells.load::<TellsAll<J>>(seat, 0);
 }
 
 // One store of a header word.
 fn store_header_word<J: OfKind>(cells: &Cells, seat: &mut TableSeat, at: usize, new: u64)
     requires fits { (seat.old.table_id ≡ cells.now.table_id)
         × IsWide cells.now.table_id.words (layout_of cells.now.key) × (at < length cells.now.key.domains.items) }
-    requires allowed { Allows (Shows (layout_of cells.now.key)) cells.now.table_id.slots seat.old.id seat.old.me
+    requires here { seat.old.me.0.gone ≡ false }
+    requires allowed { Allows (Shows (layout_of cells.now.key)) cells.now.table_id.slots seat.old.id (seat.old.me.0.own, seat.old.me.1)
         (header_place at) (λ _. new)
-        (λ _. tells_stored J.kind (step cells.now.table_id.slots (header_place at) new 0 none) seat.old.me) }
+        (λ _. tells_stored J.kind (step cells.now.table_id.slots (header_place at) new 0 none) (seat.old.me.0.own, seat.old.me.1)) }
     ensures { (seat.new.table_id ≡ seat.old.table_id) × (seat.new.id ≡ seat.old.id)
-        × tells_stored J.kind (step cells.now.table_id.slots (header_place at) new 0 none) seat.old.me seat.new.me }
+        × tells_stored J.kind (step cells.now.table_id.slots (header_place at) new 0 none) (seat.old.me.0.own, seat.old.me.1) (seat.new.me.0.own, seat.new.me.1)
+        × (seat.new.me.0.taken ≡ seat.old.me.0.taken) × (seat.new.me.0.gone ≡ false) }
 {
     cells.store::<TellsStore<J>>(seat, at * DOMAIN_WORDS, new)
 }
@@ -217,23 +261,48 @@ fn index_of(half: Half) -> usize
 }
 
 impl WordTable {
+    /// The first seat takes another in, which makes no more steps.
+    pub(crate) fn take_in(&self, seat: &mut TableSeat, other: TableSeat)
+        requires mine { (seat.old.table_id ≡ self.now.table.shared.table_id)
+            × (other.table_id ≡ self.now.table.shared.table_id) × (seat.old.me.0.own.position ≡ 0) }
+        requires some { 0 < self.now.table.shared.table_id.words }
+        requires here { (seat.old.me.0.gone ≡ false) × (other.me.0.gone ≡ false) × (other.me.1 ≡ []) }
+        ensures seat { (seat.new.table_id ≡ seat.old.table_id) × (seat.new.id ≡ seat.old.id) }
+        ensures took { seat.new.me ≡ (took seat.old.me.0 other.me.0, seat.old.me.1) }
+    {
+        self.table.shared.join_seat::<TakeIn>(seat, other);
+    }
+
+    /// Words and views showed one state, with the views of the first seat and of all that it took in.
+    pub(crate) fn tell_views(&self, seat: &mut TableSeat)
+        requires mine { (seat.old.table_id ≡ self.now.table.shared.table_id) × (seat.old.me.0.own.position ≡ 0) }
+        requires some { 0 < self.now.table.shared.table_id.words }
+        requires here { seat.old.me.0.gone ≡ false }
+        ensures same { seat.new.me ≡ seat.old.me }
+        ensures all { Learns (layout_of self.now.table.shared.key) seat.old.me.0 }
+    {
+        tell_all::<Brand>(&self.table.shared, seat)
+    }
+
     /// A look at a domain's header.
     pub(crate) fn load_header(&self, seat: &mut TableSeat, at: usize) -> u64
         requires mine { seat.old.table_id ≡ self.now.table.shared.table_id }
         requires domain { at < length self.now.table.shared.key.domains.items }
+        requires here { seat.old.me.0.gone ≡ false }
         ensures seat { IsSamePlace seat.old seat.new }
-        ensures look { LooksAtHeader (layout_of self.now.table.shared.key) at result seat.old.me.0 seat.new.me.0 }
+        ensures look { LooksAtHeader (layout_of self.now.table.shared.key) at result seat.old.me.0.own seat.new.me.0.own }
     {
         load_header_word::<Brand>(&self.table.shared, seat, at)
     }
 
     /// The owner stores its header.
     pub(crate) fn store_header(&self, seat: &mut TableSeat, at: usize, header: Header)
-        requires mine { (seat.old.table_id ≡ self.now.table.shared.table_id) × (seat.old.me.0.position ≡ at) }
+        requires mine { (seat.old.table_id ≡ self.now.table.shared.table_id) × (seat.old.me.0.own.position ≡ at) }
         requires domain { at < length self.now.table.shared.key.domains.items }
         requires header { IsKeptHeader header }
+        requires here { seat.old.me.0.gone ≡ false }
         ensures seat { IsSamePlace seat.old seat.new }
-        ensures step { StoresHeader (layout_of self.now.table.shared.key) header seat.old.me.0 seat.new.me.0 }
+        ensures step { StoresHeader (layout_of self.now.table.shared.key) header seat.old.me.0.own seat.new.me.0.own }
     {
         store_header_word::<Brand>(&self.table.shared, seat, at, header.pack())
     }
@@ -242,9 +311,10 @@ impl WordTable {
     pub(crate) fn load_control(&self, seat: &mut TableSeat, at: usize, gref: usize) -> u64
         requires mine { seat.old.table_id ≡ self.now.table.shared.table_id }
         requires entry { (at < length self.now.table.shared.key.domains.items) × (gref < TABLE_ENTRIES) }
+        requires here { seat.old.me.0.gone ≡ false }
         ensures seat { IsSamePlace seat.old seat.new }
-        ensures look { LooksAtControl (layout_of self.now.table.shared.key) at gref result seat.old.me.0 seat.new.me.0 }
-        ensures own { seat.old.me.0.position ≡ at → IsWordOf (last_of gref seat.new.me.0) result }
+        ensures look { LooksAtControl (layout_of self.now.table.shared.key) at gref result seat.old.me.0.own seat.new.me.0.own }
+        ensures own { seat.old.me.0.own.position ≡ at → IsWordOf (last_of gref seat.new.me.0.own) result }
     {
         load_word::<Brand>(&self.table.shared, seat, at, gref, 0)
     }
@@ -253,9 +323,10 @@ impl WordTable {
     pub(crate) fn load_body(&self, seat: &mut TableSeat, at: usize, gref: usize, half: Half) -> u64
         requires mine { seat.old.table_id ≡ self.now.table.shared.table_id }
         requires entry { (at < length self.now.table.shared.key.domains.items) × (gref < TABLE_ENTRIES) }
+        requires here { seat.old.me.0.gone ≡ false }
         ensures seat { IsSamePlace seat.old seat.new }
         ensures look { LooksAtBody (layout_of self.now.table.shared.key) at gref half result
-            seat.old.me.0 seat.new.me.0 }
+            seat.old.me.0.own seat.new.me.0.own }
     {
         load_word::<Brand>(&self.table.shared, seat, at, gref, index_of(half))
     }
@@ -271,11 +342,12 @@ impl WordTable {
     ) -> Result<(), u64>
         requires mine { seat.old.table_id ≡ self.now.table.shared.table_id }
         requires entry { (at < length self.now.table.shared.key.domains.items) × (gref < TABLE_ENTRIES) }
-        requires can { CanPin (layout_of self.now.table.shared.key) at gref dir looked seat.old.me.0 }
+        requires can { CanPin (layout_of self.now.table.shared.key) at gref dir looked seat.old.me.0.own }
+        requires here { seat.old.me.0.gone ≡ false }
         ensures seat { IsSamePlace seat.old seat.new }
         ensures step { MatchResult result
-            (λ _. Pins (layout_of self.now.table.shared.key) at gref dir looked seat.old.me.0 seat.new.me.0)
-            (λ n. MissesPin (layout_of self.now.table.shared.key) at gref dir looked n seat.old.me.0 seat.new.me.0) }
+            (λ _. Pins (layout_of self.now.table.shared.key) at gref dir looked seat.old.me.0.own seat.new.me.0.own)
+            (λ n. MissesPin (layout_of self.now.table.shared.key) at gref dir looked n seat.old.me.0.own seat.new.me.0.own) }
         ensures counted { CountsPins (layout_of self.now.table.shared.key) at gref dir }
     {
         let new = looked + pin_unit(dir);
@@ -303,9 +375,10 @@ impl WordTable {
     )
         requires mine { seat.old.table_id ≡ self.now.table.shared.table_id }
         requires entry { (at < length self.now.table.shared.key.domains.items) × (gref < TABLE_ENTRIES) }
-        requires held { Holds at gref dir generation seat.old.me.0 }
+        requires held { Holds at gref dir generation seat.old.me.0.own }
+        requires here { seat.old.me.0.gone ≡ false }
         ensures seat { IsSamePlace seat.old seat.new }
-        ensures step { Unpins (layout_of self.now.table.shared.key) at gref dir generation seat.old.me.0 seat.new.me.0 }
+        ensures step { Unpins (layout_of self.now.table.shared.key) at gref dir generation seat.old.me.0.own seat.new.me.0.own }
     {
         let one = pin_unit(dir);
         subtract_from_word::<Brand>(&self.table.shared, seat, at, gref, one, dir, generation);
@@ -320,11 +393,12 @@ impl WordTable {
         half: Half,
         value: u64,
     )
-        requires mine { (seat.old.table_id ≡ self.now.table.shared.table_id) × (seat.old.me.0.position ≡ at) }
+        requires mine { (seat.old.table_id ≡ self.now.table.shared.table_id) × (seat.old.me.0.own.position ≡ at) }
         requires entry { (at < length self.now.table.shared.key.domains.items) × (gref < TABLE_ENTRIES) }
-        requires invalid { (last_of gref seat.old.me.0).entry ≡ Entry.Invalid }
+        requires invalid { (last_of gref seat.old.me.0.own).entry ≡ Entry.Invalid }
+        requires here { seat.old.me.0.gone ≡ false }
         ensures seat { IsSamePlace seat.old seat.new }
-        ensures step { StoresBody (layout_of self.now.table.shared.key) gref half value seat.old.me.0 seat.new.me.0 }
+        ensures step { StoresBody (layout_of self.now.table.shared.key) gref half value seat.old.me.0.own seat.new.me.0.own }
     {
         store_word::<Brand>(&self.table.shared, seat, at, gref, index_of(half), value);
     }
@@ -339,15 +413,16 @@ impl WordTable {
         word: u64,
         entry: Entry,
     ) -> Result<(), u64>
-        requires mine { (seat.old.table_id ≡ self.now.table.shared.table_id) × (seat.old.me.0.position ≡ at) }
+        requires mine { (seat.old.table_id ≡ self.now.table.shared.table_id) × (seat.old.me.0.own.position ≡ at) }
         requires entry { (at < length self.now.table.shared.key.domains.items) × (gref < TABLE_ENTRIES) }
         requires given { IsEntry entry }
-        requires can { CanPublish entry gref word seat.old.me.0 }
+        requires can { CanPublish entry gref word seat.old.me.0.own }
+        requires here { seat.old.me.0.gone ≡ false }
         ensures seat { IsSamePlace seat.old seat.new }
         ensures step { MatchResult result
-            (λ _. Publishes (layout_of self.now.table.shared.key) gref entry word seat.old.me.0 seat.new.me.0)
+            (λ _. Publishes (layout_of self.now.table.shared.key) gref entry word seat.old.me.0.own seat.new.me.0.own)
             (λ n. MissesBusy (layout_of self.now.table.shared.key) gref (Change.Publish entry) word n
-            seat.old.me.0 seat.new.me.0) }
+            seat.old.me.0.own seat.new.me.0.own) }
     {
         let new = idle_word(entry, Control::unpack(word).generation + 1);
         let purpose = Purpose::Change(Change::Publish(entry));
@@ -363,14 +438,15 @@ impl WordTable {
         gref: usize,
         word: u64,
     ) -> Result<(), u64>
-        requires mine { (seat.old.table_id ≡ self.now.table.shared.table_id) × (seat.old.me.0.position ≡ at) }
+        requires mine { (seat.old.table_id ≡ self.now.table.shared.table_id) × (seat.old.me.0.own.position ≡ at) }
         requires entry { (at < length self.now.table.shared.key.domains.items) × (gref < TABLE_ENTRIES) }
-        requires can { CanRevoke gref word seat.old.me.0 }
+        requires can { CanRevoke gref word seat.old.me.0.own }
+        requires here { seat.old.me.0.gone ≡ false }
         ensures seat { IsSamePlace seat.old seat.new }
         ensures step { MatchResult result
-            (λ _. Revokes (layout_of self.now.table.shared.key) gref word seat.old.me.0 seat.new.me.0)
+            (λ _. Revokes (layout_of self.now.table.shared.key) gref word seat.old.me.0.own seat.new.me.0.own)
             (λ n. MissesBusy (layout_of self.now.table.shared.key) gref Change.Revoke word n
-            seat.old.me.0 seat.new.me.0) }
+            seat.old.me.0.own seat.new.me.0.own) }
     {
         let new = idle_word(Entry::Invalid, Control::unpack(word).generation);
         let purpose = Purpose::Change(Change::Revoke);
@@ -386,14 +462,15 @@ impl WordTable {
         gref: usize,
         word: u64,
     ) -> Result<(), u64>
-        requires mine { (seat.old.table_id ≡ self.now.table.shared.table_id) × (seat.old.me.0.position ≡ at) }
+        requires mine { (seat.old.table_id ≡ self.now.table.shared.table_id) × (seat.old.me.0.own.position ≡ at) }
         requires entry { (at < length self.now.table.shared.key.domains.items) × (gref < TABLE_ENTRIES) }
-        requires can { CanWithdraw gref word seat.old.me.0 }
+        requires can { CanWithdraw gref word seat.old.me.0.own }
+        requires here { seat.old.me.0.gone ≡ false }
         ensures seat { IsSamePlace seat.old seat.new }
         ensures step { MatchResult result
-            (λ _. Changes (layout_of self.now.table.shared.key) gref Change.Withdraw word seat.old.me.0 seat.new.me.0)
+            (λ _. Changes (layout_of self.now.table.shared.key) gref Change.Withdraw word seat.old.me.0.own seat.new.me.0.own)
             (λ n. MissesChange (layout_of self.now.table.shared.key) gref Change.Withdraw word n
-            seat.old.me.0 seat.new.me.0) }
+            seat.old.me.0.own seat.new.me.0.own) }
     {
         let new = withdrawn(word);
         let purpose = Purpose::Change(Change::Withdraw);
@@ -409,14 +486,15 @@ impl WordTable {
         gref: usize,
         word: u64,
     ) -> Result<(), u64>
-        requires mine { (seat.old.table_id ≡ self.now.table.shared.table_id) × (seat.old.me.0.position ≡ at) }
+        requires mine { (seat.old.table_id ≡ self.now.table.shared.table_id) × (seat.old.me.0.own.position ≡ at) }
         requires entry { (at < length self.now.table.shared.key.domains.items) × (gref < TABLE_ENTRIES) }
-        requires can { CanDemote gref word seat.old.me.0 }
+        requires can { CanDemote gref word seat.old.me.0.own }
+        requires here { seat.old.me.0.gone ≡ false }
         ensures seat { IsSamePlace seat.old seat.new }
         ensures step { MatchResult result
-            (λ _. Demotes (layout_of self.now.table.shared.key) gref word seat.old.me.0 seat.new.me.0)
+            (λ _. Demotes (layout_of self.now.table.shared.key) gref word seat.old.me.0.own seat.new.me.0.own)
             (λ n. MissesChange (layout_of self.now.table.shared.key) gref Change.Demote word n
-            seat.old.me.0 seat.new.me.0) }
+            seat.old.me.0.own seat.new.me.0.own) }
     {
         let new = turned_over(word, true);
         let purpose = Purpose::Change(Change::Demote);
@@ -432,14 +510,15 @@ impl WordTable {
         gref: usize,
         word: u64,
     ) -> Result<(), u64>
-        requires mine { (seat.old.table_id ≡ self.now.table.shared.table_id) × (seat.old.me.0.position ≡ at) }
+        requires mine { (seat.old.table_id ≡ self.now.table.shared.table_id) × (seat.old.me.0.own.position ≡ at) }
         requires entry { (at < length self.now.table.shared.key.domains.items) × (gref < TABLE_ENTRIES) }
-        requires can { CanTurn true gref word seat.old.me.0 }
+        requires can { CanTurn true gref word seat.old.me.0.own }
+        requires here { seat.old.me.0.gone ≡ false }
         ensures seat { IsSamePlace seat.old seat.new }
         ensures step { MatchResult result
-            (λ _. Changes (layout_of self.now.table.shared.key) gref Change.Promote word seat.old.me.0 seat.new.me.0)
+            (λ _. Changes (layout_of self.now.table.shared.key) gref Change.Promote word seat.old.me.0.own seat.new.me.0.own)
             (λ n. MissesChange (layout_of self.now.table.shared.key) gref Change.Promote word n
-            seat.old.me.0 seat.new.me.0) }
+            seat.old.me.0.own seat.new.me.0.own) }
     {
         let new = turned_over(word, false);
         let purpose = Purpose::Change(Change::Promote);

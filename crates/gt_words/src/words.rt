@@ -1,5 +1,5 @@
 //! The words and the seats with nothing in sight but what contracts name.
-ghost use Rattle.std.specs.Prelude.{◌≡◌, ◌⊎◌, ◌<◌, ◌≤◌, [], length, MatchResult, IfOk, IfErr, OnOk, HoldsAt, ℕ};
+ghost use Rattle.std.specs.Prelude.{◌≡◌, ◌⊎◌, ◌<◌, ◌≤◌, [], false, length, MatchResult, IfOk, IfErr, OnOk, HoldsAt, ℕ};
 ghost use Rattle.std.specs.Prelude.{position, ◌==◌, true};
 ghost use Rattle.gt_types.specs.Config.{IsWithinLimits};
 ghost use Rattle.gt_entry.specs.Words.{header_word};
@@ -45,11 +45,12 @@ pub struct Seat {
 impl Model for Seat {
     ghost Value = { SeatOf };
 
-    ghost view = { λ s. record { table = s.place.table_id; dom = s.dom; view = s.place.me.0 } };
+    ghost view = { λ s. record { table = s.place.table_id; dom = s.dom; view = s.place.me.0.own } };
 
-    ghost invariant = { λ s. (s.place.me.1 ≡ []) × (s.place.me.0.position ≡ s.position)
-        × (own_header s.place.me.0 ≡ header_word s.header) × IsKeptHeader s.header
-        × (s.found.position ≡ position_in s.place.me.0.ids s.found.dom) };
+    ghost invariant = { λ s. (s.place.me.1 ≡ []) × (s.place.me.0.gone ≡ false) × (s.place.me.0.taken ≡ [])
+        × (s.place.me.0.own.position ≡ s.position)
+        × (own_header s.place.me.0.own ≡ header_word s.header) × IsKeptHeader s.header
+        × (s.found.position ≡ position_in s.place.me.0.own.ids s.found.dom) };
 }
 
 impl Seat {
@@ -75,6 +76,24 @@ impl Seat {
     {
         self.header
     }
+}
+
+/// Seats whose steps are all made, of one run, the first domain's among them.
+#[derive(Drop)]
+pub struct Gathered {
+    pub(crate) place: TableSeat,
+}
+
+impl Model for Gathered {
+    ghost use Rattle.std.specs.Prelude.{◌≡◌, ◌∷◌, [], false};
+    ghost use Rattle.gt_words.specs.Joining.{GatheredOf};
+
+    ghost Value = { GatheredOf };
+
+    ghost view = { λ g. record { table = g.place.table_id; views = g.place.me.0.own ∷ g.place.me.0.taken } };
+
+    ghost invariant = { λ g. (g.place.me.1 ≡ []) × (g.place.me.0.gone ≡ false)
+        × (g.place.me.0.own.position ≡ 0) };
 }
 
 /// The words of all entries and headers of a run.
@@ -406,6 +425,38 @@ impl Words {
         let at = seat.position;
         self.words
             .promote(&mut seat.place, at, gref.0 as usize, word)
+    }
+}
+
+impl Words {
+    ghost use Rattle.std.specs.Prelude.{◌≡◌, ◌∷◌, []};
+    ghost use Rattle.gt_words.specs.Joining.{StandTogether, with_view};
+
+    /// Gathers seats whose steps are all made: the first domain's first.
+    pub fn gather(&self, first: Seat) -> Gathered
+        requires { IsSeatOf self.now first × (first.view.position ≡ 0) }
+        ensures { (result.table ≡ self.now.table) × (result.views ≡ first.view ∷ []) }
+    {
+        let Seat { place, .. } = first;
+        Gathered { place }
+    }
+
+    /// One seat more.
+    pub fn gather_more(&self, all: &mut Gathered, other: Seat)
+        requires { (all.old.table ≡ self.now.table) × IsSeatOf self.now other }
+        ensures { (all.new.table ≡ all.old.table) × (all.new.views ≡ with_view other.view all.old.views) }
+    {
+        let Seat { place, .. } = other;
+        self.words.take_in(&mut all.place, place);
+    }
+
+    /// Words and views showed one state, with the views of all seats that were gathered. So their steps have one order.
+    pub fn tell_of_all(&self, all: &mut Gathered)
+        requires { all.old.table ≡ self.now.table }
+        ensures same { all.new.views ≡ all.old.views }
+        ensures together { StandTogether self.now.layout all.old.views }
+    {
+        self.words.tell_views(&mut all.place);
     }
 }
 

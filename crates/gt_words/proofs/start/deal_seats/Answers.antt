@@ -6,10 +6,10 @@ use Rattle.gt_words.specs.Answers.{IsNewSeat}
 use Rattle.gt_words.specs.Conditions.{SeatOf}
 use Rattle.gt_words.specs.Places.{IsNewPlace}
 use Rattle.gt_words.specs.Rule.{layout_of}
-use Rattle.gt_words.specs.declared.view.View.{View}
+use Rattle.gt_words.specs.declared.view.Outlook.{Outlook}
 use Rattle.gt_words.proofs.SeatsDealt.{dealer_stays, dealt_is_new}
 use Rattle.gt_words.proofs.Lists.{one_behind, one_in_front}
-use Rattle.gt_words.proofs.Opens.{deals}
+use Rattle.gt_words.proofs.Joining.{deals_so}
 use Rattle.gt_words.proofs.start.deal_seats.Goals as goal
 
 pub loop-at-init : goal.loop-at-init
@@ -23,7 +23,7 @@ loop-at-init c = let none = c.in_ok-seats.ensures.items in record {
 pub split_seat-place-requires : goal.split_seat-place-requires
 split_seat-place-requires c = let i = c.loop-at.invariant in let b = c.args.words.now.table.shared in let wide = c.args.words.now.wide.0 in let test = c.loop-at-test.true in let len = c.len-count.ensures in
     let same : length b.key.domains.items ≡ length c.args.config.now.domains.items = ap (λ (k : Config). length k.domains.items) c.requires.config.1 in
-    let dealt = i.dealt in (i.first.table, omega arith, deals (layout_of b.key) _ _ i.first.position (omega arith))
+    let dealt = i.dealt in (i.first.table, omega arith, deals_so (layout_of b.key) _ _ i.first.here i.first.taken i.first.position (omega arith))
 
 pub new_seat-requires-clause-place : goal.new_seat-requires-clause-place
 new_seat-requires-clause-place c = let i = c.loop-at.invariant in dealt_is_new _ (layout_of c.args.config.now) 0 c.loop-at.at c.loop-at.first c.split_seat-place.result i.first i.dealt c.split_seat-place.ensures.4
@@ -35,7 +35,7 @@ loop-at-preserved c = let i = c.loop-at.invariant in let e = c.split_seat-place.
     let last = subst (λ (n : ℕ). IsNewSeat (record { table = id; layout = k }) n seat) (sym i.many) here in
     record {
       first = dealer_stays id k 0 c.loop-at.first c.split_seat-place.new.seat i.first e.0 e.2;
-      dealt = ap (λ (m : Me (Unit {0}) View). m.0.dealt) e.2 ∙ ap (λ (n : ℕ). n + 1) i.dealt;
+      dealt = ap (λ (m : Me (Unit {0}) Outlook). m.0.own.dealt) e.2 ∙ ap (λ (n : ℕ). n + 1) i.dealt;
       many = let m = i.many in omega (arith, len);
       each = subst (λ (xs : List SeatOf). (j : ℕ) → j < length xs → (d : SeatOf) → IsNewSeat (record { table = id; layout = k }) (j + 1) (get_or xs j d)) (sym items) (λ j inside d. one_behind (λ n. IsNewSeat (record { table = id; layout = k }) (n + 1)) seat seats d (λ n l. i.each n l d) last j inside);
     }

@@ -7,7 +7,7 @@ use Rattle.gt_words.proofs.start.deal_seats.Given as goal
 abbrev pub invariant-loop-at : goal.invariant-loop-at
 invariant-loop-at l = record {
   first : IsNewPlace l.fn.words.table.shared.table_id (layout_of l.fn.config) 0 l.first;
-  dealt : l.first.me.0.dealt ≡ l.at;
+  dealt : l.first.me.0.own.dealt ≡ l.at;
   many : length l.seats.items + 1 ≡ l.at;
   each : (i : ℕ) → i < length l.seats.items → HoldsAt (IsNewSeat (record { table = l.fn.words.table.shared.table_id; layout = layout_of l.fn.config }) (i + 1)) l.seats.items i;
 }

@@ -7,14 +7,15 @@ use Rattle.gt_words.specs.Answers.{IsNewSeat}
 use Rattle.gt_words.specs.Conditions.{SeatOf}
 use Rattle.gt_words.specs.Rule.{Layout, layout_of}
 use Rattle.gt_words.specs.declared.word_table.TheConstants.{DOMAIN_WORDS}
-use Rattle.gt_words.specs.declared.view.View.{View}
+use Rattle.gt_words.specs.declared.view.Outlook.{Outlook}
+use Rattle.gt_words.proofs.Joining.{opens_so}
 use Rattle.gt_words.proofs.SeatsDealt.{first_is_new}
 use Rattle.gt_words.proofs.Opens.{opens, headers_ok}
 use Rattle.gt_words.proofs.words.make_words.Goals as goal
 
 pub of_words-requires : goal.of_words-requires
-of_words-requires c = let r = c.requires in let some = r.some in let last = r.generation in opens (layout_of c.args.config.now) c.deref.result.now (ap length c.deref.ensures.value ∙ c.in_ok-start.ensures.0) (omega arith) (omega arith)
-    (headers_ok c.args.config.now.domains.items r.table_frames r.versions) (λ i l. ap (λ xs. get_or xs i 0) c.deref.ensures.value ∙ c.in_ok-start.ensures.1 i l)
+of_words-requires c = let r = c.requires in let some = r.some in let last = r.generation in opens_so (layout_of c.args.config.now) c.deref.result.now _ (opens (layout_of c.args.config.now) c.deref.result.now (ap length c.deref.ensures.value ∙ c.in_ok-start.ensures.0) (omega arith) (omega arith)
+    (headers_ok c.args.config.now.domains.items r.table_frames r.versions) (λ i l. ap (λ xs. get_or xs i 0) c.deref.ensures.value ∙ c.in_ok-start.ensures.1 i l))
 
 pub invariant_of-words : goal.invariant_of-words
 invariant_of-words c = let made = c.in_ok-table.ensures in record {
@@ -28,7 +29,7 @@ pub deal_seats-requires-clause-config : goal.deal_seats-requires-clause-config
 deal_seats-requires-clause-config c = (c.requires, c.in_ok-table.ensures.5)
 
 pub deal_seats-requires-clause-first : goal.deal_seats-requires-clause-first
-deal_seats-requires-clause-first c = let made = c.in_ok-table.ensures in (first_is_new c.in_ok-table.table.shared.table_id (layout_of c.args.config.now) c.in_ok-table.first made.2 made.4, ap (λ (m : Me (Unit {0}) View). m.0.dealt) made.4)
+deal_seats-requires-clause-first c = let made = c.in_ok-table.ensures in (first_is_new c.in_ok-table.table.shared.table_id (layout_of c.args.config.now) c.in_ok-table.first made.2 made.4, ap (λ (m : Me (Unit {0}) Outlook). m.0.own.dealt) made.4)
 
 pub invariant_of-result : goal.invariant_of-result
 invariant_of-result c = let key = sym c.in_ok-table.ensures.5 in (c.in_ok-ids.ensures ∙ ap (λ (q : Config). (layout_of q).ids) key, subst IsWithinLimits key c.requires)

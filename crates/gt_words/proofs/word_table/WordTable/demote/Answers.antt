@@ -17,17 +17,17 @@ low : (x : EntryRecord) (word : ℕ) → IsWordOf x word → x.generation < LAST
 low x word h few = let e = word_generation x word h in omega arith
 
 pub turned_over-new-requires : goal.turned_over-new-requires
-turned_over-new-requires c = let can = c.requires.can.0 in (low _ c.args.word can.word_is can.room, turnable true (last_of c.args.gref c.args.seat.now.me.0) c.args.word can.word_is can.some can.now)
+turned_over-new-requires c = let can = c.requires.can.0 in (low _ c.args.word can.word_is can.room, turnable true (last_of c.args.gref c.args.seat.now.me.0.own) c.args.word can.word_is can.some can.now)
 
 pub exchange_word-found-requires-clause-allowed : goal.exchange_word-found-requires-clause-allowed
-exchange_word-found-requires-clause-allowed c = let b = c.args.self.now.table.shared in demote_owes (layout_of b.key) b.table_id.slots c.args.seat.now.id c.args.seat.now.me c.args.at c.args.gref c.requires.entry.0 c.requires.entry.1 c.requires.mine.1 c.args.word _ c.requires.can.0.some (let can = c.requires.can.0 in low _ c.args.word can.word_is can.room) c.requires.can.0.now c.requires.can.1 c.turned_over-new.ensures
+exchange_word-found-requires-clause-allowed c = let b = c.args.self.now.table.shared in demote_owes (layout_of b.key) b.table_id.slots c.args.seat.now.id (c.args.seat.now.me.0.own, c.args.seat.now.me.1) c.args.at c.args.gref c.requires.entry.0 c.requires.entry.1 c.requires.mine.1 c.args.word _ c.requires.can.0.some (let can = c.requires.can.0 in low _ c.args.word can.word_is can.room) c.requires.can.0.now c.requires.can.1 c.turned_over-new.ensures
 
 pub returns-then-found-word-clause-step : goal.returns-then-found-word-clause-step
-returns-then-found-word-clause-step c = let k = layout_of c.args.self.now.table.shared.key in let v = c.args.seat.now.me.0 in let w = c.exchange_word-found.new.seat.me.0 in let n : ℕ = c.exchange_word-found.result in let e = c.exchange_word-found.ensures.2 in
+returns-then-found-word-clause-step c = let k = layout_of c.args.self.now.table.shared.key in let v = c.args.seat.now.me.0.own in let w = c.exchange_word-found.new.seat.me.0.own in let n : ℕ = c.exchange_word-found.result in let e = c.exchange_word-found.ensures.2 in
     let z = exchange_taken k c.args.at c.args.gref v (purpose.Change change.Demote) c.args.word c.turned_over-new.result n w c.if-found-word.true e.1.0 e.1.1 e.1.2 in
     demotes k c.args.at c.args.gref c.args.word v w c.requires.entry.0 c.requires.entry.1 c.requires.mine.1 c.turned_over-new.result c.turned_over-new.ensures c.requires.can.1 z
 
 pub returns-else-found-word-clause-step : goal.returns-else-found-word-clause-step
-returns-else-found-word-clause-step c = let k = layout_of c.args.self.now.table.shared.key in let v = c.args.seat.now.me.0 in let w = c.exchange_word-found.new.seat.me.0 in let n : ℕ = c.exchange_word-found.result in let e = c.exchange_word-found.ensures.2 in
+returns-else-found-word-clause-step c = let k = layout_of c.args.self.now.table.shared.key in let v = c.args.seat.now.me.0.own in let w = c.exchange_word-found.new.seat.me.0.own in let n : ℕ = c.exchange_word-found.result in let e = c.exchange_word-found.ensures.2 in
     let z = exchange_missed k c.args.at c.args.gref v (purpose.Change change.Demote) c.args.word c.turned_over-new.result n w c.if-found-word.false e.1.0 e.1.1 e.1.2 in
     finds_another k c.args.at c.args.gref c.args.word v w c.requires.entry.0 c.requires.entry.1 c.requires.mine.1 change.Demote c.turned_over-new.result n c.turned_over-new.ensures c.if-found-word.false z

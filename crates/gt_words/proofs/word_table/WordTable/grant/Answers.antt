@@ -30,16 +30,16 @@ stored : (c : Control) (x : EntryRecord) (word : ℕ) (e : Entry) → c ≡ cont
 stored c x word e is idle none_yet new made = made ∙ ap (λ (g : ℕ). idle_word_of e (g + 1)) (generation c x word is idle none_yet)
 
 pub exchange_word-found-requires-clause-allowed : goal.exchange_word-found-requires-clause-allowed
-exchange_word-found-requires-clause-allowed c = let b = c.args.self.now.table.shared in let x = last_of c.args.gref c.args.seat.now.me.0 in
-    grant_owes (layout_of b.key) b.table_id.slots c.args.seat.now.id c.args.seat.now.me c.args.at c.args.gref c.requires.entry.0 c.requires.entry.1 c.requires.mine.1 c.args.entry c.args.word _ c.requires.can.idle
-    (stored _ x c.args.word c.args.entry c.unpack.ensures.holds c.requires.can.idle c.requires.can.none_yet _ c.idle_word-new.ensures) c.requires.can.none_yet c.requires.given c.requires.can.some c.requires.can.room (at_home c.args.entry c.args.seat.now.me.0 c.args.at c.args.gref c.requires.mine.1 c.requires.can.spelled)
+exchange_word-found-requires-clause-allowed c = let b = c.args.self.now.table.shared in let x = last_of c.args.gref c.args.seat.now.me.0.own in
+    grant_owes (layout_of b.key) b.table_id.slots c.args.seat.now.id (c.args.seat.now.me.0.own, c.args.seat.now.me.1) c.args.at c.args.gref c.requires.entry.0 c.requires.entry.1 c.requires.mine.1 c.args.entry c.args.word _ c.requires.can.idle
+    (stored _ x c.args.word c.args.entry c.unpack.ensures.holds c.requires.can.idle c.requires.can.none_yet _ c.idle_word-new.ensures) c.requires.can.none_yet c.requires.given c.requires.can.some c.requires.can.room (at_home c.args.entry c.args.seat.now.me.0.own c.args.at c.args.gref c.requires.mine.1 c.requires.can.spelled)
 
 pub returns-then-found-word-clause-step : goal.returns-then-found-word-clause-step
-returns-then-found-word-clause-step c = let k = layout_of c.args.self.now.table.shared.key in let v = c.args.seat.now.me.0 in let w = c.exchange_word-found.new.seat.me.0 in let n : ℕ = c.exchange_word-found.result in let e = c.exchange_word-found.ensures.2 in
+returns-then-found-word-clause-step c = let k = layout_of c.args.self.now.table.shared.key in let v = c.args.seat.now.me.0.own in let w = c.exchange_word-found.new.seat.me.0.own in let n : ℕ = c.exchange_word-found.result in let e = c.exchange_word-found.ensures.2 in
     let z = exchange_taken k c.args.at c.args.gref v (purpose.Change (change.Publish c.args.entry)) c.args.word c.idle_word-new.result n w c.if-found-word.true e.1.0 e.1.1 e.1.2 in
     publishes k c.args.at c.args.gref c.args.word v w c.requires.entry.0 c.requires.entry.1 c.requires.mine.1 c.args.entry c.idle_word-new.result (stored _ (last_of c.args.gref v) c.args.word c.args.entry c.unpack.ensures.holds c.requires.can.idle c.requires.can.none_yet _ c.idle_word-new.ensures) c.requires.can.idle z
 
 pub returns-else-found-word-clause-step : goal.returns-else-found-word-clause-step
-returns-else-found-word-clause-step c = let k = layout_of c.args.self.now.table.shared.key in let v = c.args.seat.now.me.0 in let w = c.exchange_word-found.new.seat.me.0 in let n : ℕ = c.exchange_word-found.result in let e = c.exchange_word-found.ensures.2 in
+returns-else-found-word-clause-step c = let k = layout_of c.args.self.now.table.shared.key in let v = c.args.seat.now.me.0.own in let w = c.exchange_word-found.new.seat.me.0.own in let n : ℕ = c.exchange_word-found.result in let e = c.exchange_word-found.ensures.2 in
     let z = exchange_missed k c.args.at c.args.gref v (purpose.Change (change.Publish c.args.entry)) c.args.word c.idle_word-new.result n w c.if-found-word.false e.1.0 e.1.1 e.1.2 in
     finds_pins k c.args.at c.args.gref c.args.word v w c.requires.entry.0 c.requires.entry.1 c.requires.mine.1 (change.Publish c.args.entry) c.idle_word-new.result n (stored _ (last_of c.args.gref v) c.args.word c.args.entry c.unpack.ensures.holds c.requires.can.idle c.requires.can.none_yet _ c.idle_word-new.ensures) c.requires.can.idle c.if-found-word.false z

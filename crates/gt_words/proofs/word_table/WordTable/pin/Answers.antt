@@ -9,16 +9,16 @@ use Rattle.gt_words.specs.declared.view.EntryStep.TheVariants.{PinMissed, Pinned
 use Rattle.gt_words.specs.declared.view.Purpose.TheVariants as purpose
 
 pub exchange_word-found-requires-clause-allowed : goal.exchange_word-found-requires-clause-allowed
-exchange_word-found-requires-clause-allowed c = let b = c.args.self.now.table.shared in pin_owes (layout_of b.key) b.table_id.slots c.args.seat.now.id c.args.seat.now.me c.args.at c.args.gref c.requires.entry.0 c.requires.entry.1 c.args.dir c.args.looked _ (ap (λ u. c.args.looked + u) c.pin_unit.ensures) c.requires.can.looked c.requires.can.valid c.requires.can.permitted c.requires.can.room
+exchange_word-found-requires-clause-allowed c = let b = c.args.self.now.table.shared in pin_owes (layout_of b.key) b.table_id.slots c.args.seat.now.id (c.args.seat.now.me.0.own, c.args.seat.now.me.1) c.args.at c.args.gref c.requires.entry.0 c.requires.entry.1 c.args.dir c.args.looked _ (ap (λ u. c.args.looked + u) c.pin_unit.ensures) c.requires.can.looked c.requires.can.valid c.requires.can.permitted c.requires.can.room
 
 pub returns-then-found-looked-clause-step : goal.returns-then-found-looked-clause-step
-returns-then-found-looked-clause-step c = let k = layout_of c.args.self.now.table.shared.key in let v = c.args.seat.now.me.0 in let w = c.exchange_word-found.new.seat.me.0 in let n : ℕ = c.exchange_word-found.result in let e = c.exchange_word-found.ensures.2 in
+returns-then-found-looked-clause-step c = let k = layout_of c.args.self.now.table.shared.key in let v = c.args.seat.now.me.0.own in let w = c.exchange_word-found.new.seat.me.0.own in let n : ℕ = c.exchange_word-found.result in let e = c.exchange_word-found.ensures.2 in
     let z = exchange_taken k c.args.at c.args.gref v (purpose.Pin c.args.dir) c.args.looked (c.args.looked + c.pin_unit.result) n w c.if-found-looked.true e.1.0 e.1.1 e.1.2 in
     let f = subst (λ (u : ℕ). StepsOnControl k c.args.at c.args.gref (Pinned c.args.dir c.args.looked (record_seen (last_seen c.args.at c.args.gref v))) c.args.looked (c.args.looked + u) v w) c.pin_unit.ensures z in
     pins_entry k c.args.at c.args.gref c.args.dir c.args.looked v w c.requires.entry.0 c.requires.entry.1 c.requires.can.looked c.requires.can.valid c.requires.can.permitted f
 
 pub returns-else-found-looked-clause-step : goal.returns-else-found-looked-clause-step
-returns-else-found-looked-clause-step c = let k = layout_of c.args.self.now.table.shared.key in let v = c.args.seat.now.me.0 in let w = c.exchange_word-found.new.seat.me.0 in let n : ℕ = c.exchange_word-found.result in let e = c.exchange_word-found.ensures.2 in
+returns-else-found-looked-clause-step c = let k = layout_of c.args.self.now.table.shared.key in let v = c.args.seat.now.me.0.own in let w = c.exchange_word-found.new.seat.me.0.own in let n : ℕ = c.exchange_word-found.result in let e = c.exchange_word-found.ensures.2 in
     let z = exchange_missed k c.args.at c.args.gref v (purpose.Pin c.args.dir) c.args.looked (c.args.looked + c.pin_unit.result) n w c.if-found-looked.false e.1.0 e.1.1 e.1.2 in
     let f = subst (λ (u : ℕ). StepsOnControl k c.args.at c.args.gref (PinMissed c.args.dir c.args.looked (c.args.looked + u) n) n n v w) c.pin_unit.ensures z in
     misses_pin k c.args.at c.args.gref c.args.dir c.args.looked v w c.requires.entry.0 c.requires.entry.1 c.requires.can.looked n c.if-found-looked.false f

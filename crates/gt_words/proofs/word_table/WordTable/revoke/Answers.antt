@@ -16,14 +16,14 @@ new_word : (c : Control) (word new : ℕ) → c ≡ control_of word → new ≡ 
 new_word c word new is made = let g = ap (λ (u : Control). u.generation) is in made ∙ (let e : idle_word_of Invalid c.generation ≡ invalid_word word = omega arith in e)
 
 pub exchange_word-found-requires-clause-allowed : goal.exchange_word-found-requires-clause-allowed
-exchange_word-found-requires-clause-allowed c = let b = c.args.self.now.table.shared in revoke_owes (layout_of b.key) b.table_id.slots c.args.seat.now.id c.args.seat.now.me c.args.at c.args.gref c.requires.entry.0 c.requires.entry.1 c.requires.mine.1 c.args.word _ c.requires.can.idle (new_word _ c.args.word _ c.unpack.ensures.holds c.idle_word-new.ensures)
+exchange_word-found-requires-clause-allowed c = let b = c.args.self.now.table.shared in revoke_owes (layout_of b.key) b.table_id.slots c.args.seat.now.id (c.args.seat.now.me.0.own, c.args.seat.now.me.1) c.args.at c.args.gref c.requires.entry.0 c.requires.entry.1 c.requires.mine.1 c.args.word _ c.requires.can.idle (new_word _ c.args.word _ c.unpack.ensures.holds c.idle_word-new.ensures)
 
 pub returns-then-found-word-clause-step : goal.returns-then-found-word-clause-step
-returns-then-found-word-clause-step c = let k = layout_of c.args.self.now.table.shared.key in let v = c.args.seat.now.me.0 in let w = c.exchange_word-found.new.seat.me.0 in let n : ℕ = c.exchange_word-found.result in let e = c.exchange_word-found.ensures.2 in
+returns-then-found-word-clause-step c = let k = layout_of c.args.self.now.table.shared.key in let v = c.args.seat.now.me.0.own in let w = c.exchange_word-found.new.seat.me.0.own in let n : ℕ = c.exchange_word-found.result in let e = c.exchange_word-found.ensures.2 in
     let z = exchange_taken k c.args.at c.args.gref v (purpose.Change change.Revoke) c.args.word _ n w c.if-found-word.true e.1.0 e.1.1 e.1.2 in
     revokes k c.args.at c.args.gref c.args.word v w c.requires.entry.0 c.requires.entry.1 c.requires.mine.1 _ (new_word _ c.args.word _ c.unpack.ensures.holds c.idle_word-new.ensures) c.requires.can.idle z
 
 pub returns-else-found-word-clause-step : goal.returns-else-found-word-clause-step
-returns-else-found-word-clause-step c = let k = layout_of c.args.self.now.table.shared.key in let v = c.args.seat.now.me.0 in let w = c.exchange_word-found.new.seat.me.0 in let n : ℕ = c.exchange_word-found.result in let e = c.exchange_word-found.ensures.2 in
+returns-else-found-word-clause-step c = let k = layout_of c.args.self.now.table.shared.key in let v = c.args.seat.now.me.0.own in let w = c.exchange_word-found.new.seat.me.0.own in let n : ℕ = c.exchange_word-found.result in let e = c.exchange_word-found.ensures.2 in
     let z = exchange_missed k c.args.at c.args.gref v (purpose.Change change.Revoke) c.args.word _ n w c.if-found-word.false e.1.0 e.1.1 e.1.2 in
     finds_pins k c.args.at c.args.gref c.args.word v w c.requires.entry.0 c.requires.entry.1 c.requires.mine.1 change.Revoke _ n (new_word _ c.args.word _ c.unpack.ensures.holds c.idle_word-new.ensures) c.requires.can.idle c.if-found-word.false z
