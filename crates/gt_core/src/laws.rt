@@ -8,6 +8,7 @@ ghost use Rattle.gt_core.specs.History.{History, Setting};
 ghost use Rattle.gt_core.specs.Legal.{MayDo, grown};
 ghost use Rattle.gt_core.specs.Shown.{shown_at};
 ghost use Rattle.gt_core.specs.Subject.{subject_at};
+ghost use Rattle.gt_core.specs.Swapping.{ApartChangePlaces, BeginningsAreApart, LookAlikeGoOn, StepsOnOtherEntriesAreApart};
 ghost use Rattle.gt_core.specs.TakenBack.{LegalTracesAreHistories, PagesTakenBackAreOutOfReach, PinsAreTakenSince};
 ghost use Rattle.gt_handles.specs.declared.handles.Handle.{Handle};
 ghost use Rattle.gt_core.specs.declared.trace.Event.{Event};
@@ -79,4 +80,25 @@ pub fn every_open_call_can_go_on()
 /// told the bytes that the range held.
 pub fn every_open_call_can_access()
     ensures { OpenCallsCanAccess }
+{}
+
+/// What is right after one of two histories that look the same to every domain is right after the other one too, and
+/// they look the same after it.
+pub fn every_look_alike_goes_on()
+    ensures { LookAlikeGoOn }
+{}
+
+/// Two items of different domains that disturb each other in nothing may come in either order.
+pub fn items_that_are_apart_change_places()
+    ensures { ApartChangePlaces }
+{}
+
+/// A beginning disturbs no item of another domain, and no such item disturbs it.
+pub fn every_beginning_is_apart()
+    ensures { BeginningsAreApart }
+{}
+
+/// Steps of different domains on words of different entries disturb each other in nothing. Unpins are left out.
+pub fn every_step_on_another_entry_is_apart()
+    ensures { StepsOnOtherEntriesAreApart }
 {}

@@ -1,5 +1,8 @@
 -- The scene of a script, and the state in which nothing has happened.
 use Rattle.std.proofs.Common.{◌≡◌, ◌≢◌, ◌+◌, ◌<◌, ℕ, refl, List, [], ◌∷◌, ◌++◌, length, take, drop, map, get_or, Option}
+use Rattle.std.proofs.Common.{Bool, true, false, zero, suc, replicate}
+use Rattle.std.proofs.lemmas.Bool.{false≢true}
+use Rattle.std.proofs.lemmas.Option.{same_Some}
 use Rattle.std.proofs.Common.{Bor, Some, None, sym, ap, ◌∙◌, subst, arith}
 use Rattle.std.specs.Option.{option_map}
 use Rattle.std.specs.Prelude.{All, AllPairs, slice_get}
@@ -84,13 +87,20 @@ shows-first s c tasks d a first list = record {
   opens = subst (λ (o : Option Open). ShowsOpen s [] tasks (first_course c d) a.next resting None o) (sym first.open_call) refl;
 }
 
+pub none-raised : (told : List Bool) (n : ℕ) → told ≡ replicate n false → (flag : ℕ) → slice_get told flag ≡ Some true → ⊥
+none-raised told n are flag is = none n flag (ap (λ (l : List Bool). slice_get l flag) (sym are) ∙ is) where
+  none : (n flag : ℕ) → slice_get (replicate n false) flag ≡ Some true → ⊥
+  none zero flag is = absurd (none-some true is)
+  none (suc n) zero is = absurd (false≢true (same_Some false true is))
+  none (suc n) (suc flag) is = none n flag is
+
 no-place : (at : ℕ) → at < 0 → ⊥
 no-place at lt = absurd (omega arith)
 
 pub first-shows : (c : RunContents) (scene : Scene) (w : World) → length w.actors.items ≡ length scene.roster.domains.items → All IsFirstActor w.actors.items
     → ((config : Config) (s : Setting) → IsSettingOf config s → IsWithinLimits config → config.domains.items ≡ scene.roster.domains.items → TablesShow s [] w.ground.tables.items)
-    → PagesShow [] w.ground.pages.items → length w.told.items ≡ scene.flags → IsSceneOf c scene → SceneShows c scene [] (first_courses c) w
-first-shows c scene w many first tables pages told is = record {
+    → PagesShow [] w.ground.pages.items → length w.told.items ≡ scene.flags → ((flag : ℕ) → slice_get w.told.items flag ≡ Some true → ⊥) → IsSceneOf c scene → SceneShows c scene [] (first_courses c) w
+first-shows c scene w many first tables pages told none is = record {
   domains = first-doms c c.head.domains;
   many = many ∙ ap (λ (ds : List DomainConfig). length ds) is.setting.domains ∙ sym (length-map c.head.domains (first_course c));
   each = λ at k a here there.
@@ -105,6 +115,7 @@ first-shows c scene w many first tables pages told is = record {
   like = subst (λ (s : Setting). IsLikeReached s []) same (like-starts scene.roster (may_in c.head) is.limits);
   flags = told ∙ is.flags;
   told = λ flag before. absurd (no-place before.0 before.2);
+  heard = λ flag is. absurd (none flag is);
 }
   where
     same : setting_of scene.roster (may_in c.head) ≡ setting_of_script c.head

@@ -1,4 +1,5 @@
 pub mod AnsweredAtOnce
+pub mod AtOnce
 pub mod Beginnings
 pub mod ByPlace
 pub mod CallBegins

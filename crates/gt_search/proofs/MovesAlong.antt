@@ -1,7 +1,7 @@
 -- The moves of a state's domains are those of the run.
 use Rattle.std.proofs.Common.{◌≡◌, ◌≢◌, ◌<◌, ◌≤◌, ◌++◌, ◌∙◌, ℕ, zero, suc, refl, true, Bool, List, [], ◌∷◌, length}
 use Rattle.std.proofs.Common.{drop, ap}
-use Rattle.std.proofs.Common.{Option, Some, None, Result, Ok, Err, IfOk, sym, subst, arith, inl, inr, get_or}
+use Rattle.std.proofs.Common.{◌⊎◌, Option, Some, None, Result, Ok, Err, IfOk, sym, subst, arith, inl, inr, get_or}
 use Rattle.std.proofs.Math.ListN.{set}
 use Rattle.std.specs.Prelude.{nat_lt, slice_get, slice_set}
 use Rattle.std.proofs.lemmas.Bool.Decides.{nat_tests}
@@ -58,7 +58,7 @@ use Rattle.gt_world.proofs.Fitting.{beginnings-change-nothing}
 use Rattle.gt_search.proofs.HandlesAnswered.{after-dom, back-answered, back-dom, but-answered, left-answered}
 use Rattle.gt_search.proofs.HandlesAnswered.{line-answered}
 use Rattle.gt_search.proofs.MappingFound.{get-at}
-use Rattle.gt_search.proofs.StateComesOn.{comes-event, comes-quiet, domain-at, of-run, raised-or, table-at, task-below}
+use Rattle.gt_search.proofs.StateComesOn.{comes-event, comes-quiet, domain-at, of-run, raised-here, raised-or, raised-still, table-at, task-below}
 use Rattle.gt_search.proofs.StateComesOn.{task-own}
 
 -- lists
@@ -73,6 +73,16 @@ set-there : (told : List Bool) (flag : ℕ) → flag < length told → slice_get
 set-there [] flag lt = absurd (omega arith)
 set-there (b ∷ told) zero lt = refl
 set-there (b ∷ told) (suc flag) lt = set-there told flag (omega arith)
+
+set-was : (told : List Bool) (at flag : ℕ) → slice_get (set told at true) flag ≡ Some true → (flag ≡ at) ⊎ (slice_get told flag ≡ Some true)
+set-was [] at flag is = inr is
+set-was (b ∷ told) zero zero is = inl refl
+set-was (b ∷ told) zero (suc flag) is = inr is
+set-was (b ∷ told) (suc at) zero is = inr is
+set-was (b ∷ told) (suc at) (suc flag) is = elim (set-was told at flag is) [
+  | inl same ↦ inl (ap suc same)
+  | inr was ↦ inr was
+]
 
 set-keeps : (told : List Bool) (at flag : ℕ) → slice_get told flag ≡ Some true → slice_get (set told at true) flag ≡ Some true
 set-keeps [] at flag is = is
@@ -273,6 +283,10 @@ module _ (c : RunContents) (scene : Scene) (hs : List Happening) (ks : List Cour
               (λ f before. ap (λ (l : List Bool). slice_get l f) moved.1 ∙ elim (raised-or hs x f before) [
                 | inl was ↦ set-keeps old.told.items flag f (shows.told f was)
                 | inr (d, same) ↦ subst (λ (n : ℕ). slice_get (set old.told.items flag true) n ≡ Some true) (one-flag k.dom d flag f (sym deed.0 ∙ same)) (set-there old.told.items flag fits)
+              ])
+              (λ f told. elim (set-was old.told.items flag f (ap (λ (l : List Bool). slice_get l f) (sym moved.1) ∙ told)) [
+                | inl same ↦ raised-here hs x k.dom f (deed.0 ∙ ap (λ (n : ℕ). raised k.dom n) (sym same))
+                | inr was ↦ raised-still hs x f (shows.heard f was)
               ]),
         )
       where
@@ -295,7 +309,8 @@ module _ (c : RunContents) (scene : Scene) (hs : List Happening) (ks : List Cour
               (λ f was. ap (λ w. slice_get w.items f) moved.1 ∙ elim (raised-or hs x f was) [
                 | inl earlier ↦ shows.told f earlier
                 | inr (d, same) ↦ absurd (no-flag k.dom d flag f (sym deed.0 ∙ same))
-              ]),
+              ])
+              (λ f told. raised-still hs x f (shows.heard f (ap (λ w. slice_get w.items f) (sym moved.1) ∙ told))),
         )
       where
         no-flag : (d e : DomId) (m n : ℕ) → passed d m ≡ raised e n → ⊥

@@ -67,6 +67,7 @@ shows-again c scene hs ks w v same show = record {
   like = show.like;
   flags = ap (λ (l : List Bool). length l) same.told ∙ show.flags;
   told = λ flag before. ap (λ (l : List Bool). slice_get l flag) same.told ∙ show.told flag before;
+  heard = λ flag is. show.heard flag (ap (λ (l : List Bool). slice_get l flag) (sym same.told) ∙ is);
 }
 
 pub shown-so : (scene : Scene) (w v : World) → SameWorld w v → IsShownSo (scene_ways scene) w v

@@ -25,7 +25,8 @@ use Rattle.gt_replay.specs.Courses.{Course}
 use Rattle.gt_replay.specs.Orders.{Happening, IsRaisedBefore, did, raised}
 use Rattle.gt_replay.proofs.Alike.{held_grown, names_grown}
 use Rattle.gt_replay.proofs.Coming.{IsQuiet, apart_at, domain_known, less_or, map_set, mapped_back, trace_same}
-use Rattle.gt_replay.proofs.Places.{get_cases, get_set}
+use Rattle.gt_replay.proofs.Places.{get_cases, get_end, get_left, get_set}
+use Rattle.std.proofs.lemmas.List.{length-append}
 use Rattle.gt_replay.proofs.Whole.{history_did}
 use Rattle.gt_script.specs.Lists.{Task}
 use Rattle.gt_script.specs.RunContents.{RunContents}
@@ -54,6 +55,17 @@ raised-or hs x flag (at, d, lt, is) = elim (get_cases hs x (raised d flag) at is
   | inl (less, here) ↦ inl (at, d, less, here)
   | inr (last, same) ↦ inr (d, same)
 ]
+
+-- what was raised stays raised
+pub raised-still : (hs : List Happening) (x : Happening) (flag : ℕ) → IsRaisedBefore (length hs) flag hs → IsRaisedBefore (length (hs ++ x ∷ [])) flag (hs ++ x ∷ [])
+raised-still hs x flag (at, d, lt, is) =
+    let many = length-append hs (x ∷ []) in
+    (at, d, omega (arith, many), get_left hs (x ∷ []) at lt ∙ is)
+
+pub raised-here : (hs : List Happening) (x : Happening) (d : DomId) (flag : ℕ) → x ≡ raised d flag → IsRaisedBefore (length (hs ++ x ∷ [])) flag (hs ++ x ∷ [])
+raised-here hs x d flag is =
+    let many = length-append hs (x ∷ []) in
+    (length hs, d, omega (arith, many), get_end hs x ∙ ap Some is)
 
 -- lists
 
@@ -150,8 +162,9 @@ module _ (c : RunContents) (scene : Scene) (hs : List Happening) (ks : List Cour
       → ((u : Course) → WasAnsweredAll h u → WasAnsweredAll g u)
       → TablesShow s g new.ground.tables.items → PagesShow g new.ground.pages.items → IsLikeReached s g → length new.told.items ≡ c.flags
       → ((flag : ℕ) → IsRaisedBefore (length (hs ++ x ∷ [])) flag (hs ++ x ∷ []) → slice_get new.told.items flag ≡ Some true)
+      → ((flag : ℕ) → slice_get new.told.items flag ≡ Some true → IsRaisedBefore (length (hs ++ x ∷ [])) flag (hs ++ x ∷ []))
       → SceneShows c scene (hs ++ x ∷ []) (slice_set ks place j) new
-  comes-so new x j b g becomes history dom calls answered others kept tables pages like flags told = record {
+  comes-so new x j b g becomes history dom calls answered others kept tables pages like flags told heard = record {
     domains = map_set (λ (u : Course). u.dom) ks place k j at dom ∙ shows.domains;
     many = ap (λ (l : List Actor). length l) becomes ∙ length-set old.actors.items place b ∙ shows.many ∙ sym (length-set ks place j);
     each = λ i u z here standing.
@@ -163,6 +176,7 @@ module _ (c : RunContents) (scene : Scene) (hs : List Happening) (ks : List Cour
     like = subst (IsLikeReached s) (sym history) like;
     flags = flags;
     told = told;
+    heard = heard;
   }
     where
       now : (i : ℕ) (u : Course) (z : Actor) → ((i ≡ place) × (j ≡ u)) ⊎ ((i ≢ place) × (slice_get ks i ≡ Some u)) → ((i ≡ place) × (b ≡ z)) ⊎ ((i ≢ place) × (slice_get old.actors.items i ≡ Some z))
@@ -195,6 +209,7 @@ module _ (c : RunContents) (scene : Scene) (hs : List Happening) (ks : List Cour
         | inl was ↦ shows.told flag was
         | inr (d, same) ↦ absurd (no-flag d flag same)
       ])
+      (λ flag is. raised-still hs (did e (Did i)) flag (shows.heard flag (ap (λ w. slice_get w.items flag) (sym told) ∙ is)))
     where
       no-flag : (d : DomId) (flag : ℕ) → did e (Did i) ≡ raised d flag → ⊥
       no-flag d flag same = cc
@@ -204,9 +219,10 @@ module _ (c : RunContents) (scene : Scene) (hs : List Happening) (ks : List Cour
       → IsQuiet x → new.actors.items ≡ slice_set old.actors.items place b → j.dom ≡ k.dom → ShowsCalls s h (tasks_at scene place) j b → WasAnsweredAll h j → new.ground ≡ old.ground
       → length new.told.items ≡ length old.told.items
       → ((flag : ℕ) → IsRaisedBefore (length (hs ++ x ∷ [])) flag (hs ++ x ∷ []) → slice_get new.told.items flag ≡ Some true)
+      → ((flag : ℕ) → slice_get new.told.items flag ≡ Some true → IsRaisedBefore (length (hs ++ x ∷ [])) flag (hs ++ x ∷ []))
       → SceneShows c scene (hs ++ x ∷ []) (slice_set ks place j) new
-  comes-quiet new x j b quiet becomes dom calls answered ground many told =
+  comes-quiet new x j b quiet becomes dom calls answered ground many told heard =
       comes-so new x j b h becomes (history-quiet hs x quiet) dom calls answered (λ tasks u z other show. show) (λ u was. was)
       (subst (λ g. TablesShow s h g.tables.items) (sym ground) shows.tables)
       (subst (λ g. PagesShow h g.pages.items) (sym ground) shows.pages)
-      shows.like (many ∙ shows.flags) told
+      shows.like (many ∙ shows.flags) told heard

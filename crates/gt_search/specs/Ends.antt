@@ -1,12 +1,14 @@
 -- Which domains of a state are at the ends of their lists, and which moves the domains have.
 use Rattle.std.specs.Prelude.{◌≡◌, ◌++◌, ◌&&◌, ◌==◌, not, nat_le, Bool, if◌then◌else◌, ℕ, suc, List, [], ◌∷◌, length}
 use Rattle.std.specs.Prelude.{map}
-use Rattle.std.specs.Prelude.{is_some, true, Some, slice_get, get_or}
+use Rattle.std.specs.Prelude.{◌⊎◌, is_some, true, false, Option, Some, None, slice_get, get_or}
 use Rattle.std.specs.List.{range_with_len}
 use Rattle.gt_replay.specs.declared.replay.Turn.{Turn}
-use Rattle.gt_script.specs.Lists.{Task}
+use Rattle.gt_script.specs.Lists.{Task, Deed}
+use Rattle.gt_script.specs.declared.tasks.DeedBy.TheVariants.{Await, Do, Tell}
 use Rattle.gt_search.specs.declared.actor.Actor.{Actor}
 use Rattle.gt_search.specs.declared.scene.Scene.{Scene}
+use Rattle.gt_search.specs.declared.scene.World.{World}
 
 -- the list of the domain at this place
 abbrev pub tasks_at : Scene → ℕ → List Task
@@ -36,3 +38,29 @@ choices_at s place a = if is_ended s place a then length a.mappings.items else 1
 abbrev pub turns_from : Scene → ℕ → List Actor → List Turn
 turns_from s place [] = []
 turns_from s place (a ∷ more) = choices place (choices_at s place a) ++ turns_from s (suc place) more
+
+-- what a line says disturbs nobody, if these flags were raised: a call begins, a flag is raised, or it waits for one
+-- that was raised
+abbrev pub disturbs_none : List Bool → Deed → Bool
+disturbs_none told (Do call) = true
+disturbs_none told (Tell flag) = true
+disturbs_none told (Await flag) = get_or told flag false
+
+-- so it is with this task, if there is one
+abbrev pub task_disturbs_none : List Bool → Option Task → Bool
+task_disturbs_none told None = false
+task_disturbs_none told (Some t) = disturbs_none told t.deed
+
+-- the domain at this place has no call open, and what its next line says disturbs nobody
+abbrev pub goes_at_once : Scene → List Bool → ℕ → Actor → Bool
+goes_at_once s told place a = not (is_some a.«open») && task_disturbs_none told (slice_get (tasks_at s place) a.next)
+
+-- some domain goes on in this way, and that is the one turn
+abbrev pub TakesAtOnce : Scene → World → List Turn → Type 0
+TakesAtOnce s w turns =
+    (place : ℕ) × (a : Actor) × (slice_get w.actors.items place ≡ Some a)
+    × (goes_at_once s w.told.items place a ≡ true) × (turns ≡ record { place = place; choice = 0 } ∷ [])
+
+-- the turns that are to be tried: one of a domain that disturbs nobody, or else all
+abbrev pub AreToBeTried : Scene → World → List Turn → Type 0
+AreToBeTried s w turns = (turns ≡ turns_from s 0 w.actors.items) ⊎ TakesAtOnce s w turns

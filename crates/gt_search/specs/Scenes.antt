@@ -39,6 +39,7 @@ pub record SceneShows (c : RunContents) (scene : Scene) (hs : List Happening) (k
   pub like : IsLikeReached (setting_of_script c.head) (history_in hs)
   pub flags : length w.told.items ≡ c.flags
   pub told : (flag : ℕ) → IsRaisedBefore (length hs) flag hs → slice_get w.told.items flag ≡ Some true
+  pub heard : (flag : ℕ) → slice_get w.told.items flag ≡ Some true → IsRaisedBefore (length hs) flag hs
 
 -- if the domain at this place goes on with this choice in a run that the state shows, its move prints what its course's
 -- text grows by, and the new state shows the run that has come so far

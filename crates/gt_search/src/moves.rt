@@ -6,7 +6,7 @@ ghost use Rattle.gt_calls.specs.declared.request.Request.{Request};
 ghost use Rattle.gt_core.specs.Acting.{answer_of};
 ghost use Rattle.gt_entry.specs.Entries.{IsEntry};
 ghost use Rattle.gt_host.specs.Runs.{Named, SaysRequest};
-ghost use Rattle.gt_search.specs.Ends.{choices};
+ghost use Rattle.gt_search.specs.Ends.{choices, disturbs_none};
 ghost use Rattle.gt_search.specs.Mappings.{label_bytes};
 ghost use Rattle.gt_search.specs.Ticking.{bytes_by, label_given_by};
 ghost use Rattle.gt_types.specs.declared.DomId.{DomId};
@@ -83,6 +83,16 @@ fn is_told(told: &[bool], flag: usize) -> bool
     flag < told.len() && told[flag]
 }
 
+// Whether what a task says disturbs nobody: a call begins, a flag is raised, or it waits for one that was raised.
+fn disturbs_none(told: &[bool], task: &Task) -> bool
+    ensures { result ≡ disturbs_none told.now task.now.deed }
+{
+    match &task.deed {
+        Deed::Await(flag) => is_told(told, *flag),
+        _ => true,
+    }
+}
+
 impl<'s, 'a> Scene<'s, 'a> {
     ghost use Rattle.std.specs.Prelude.{◌≡◌, ◌<◌, ◌^◌, ℕ, List, ◌∷◌, Option, Some, None, true, length, slice_get};
     ghost use Rattle.std.specs.Prelude.{slice_set, IfOk, IsTrue};
@@ -110,7 +120,8 @@ impl<'s, 'a> Scene<'s, 'a> {
     ghost use Rattle.gt_host.specs.Rights.{may_by};
     ghost use Rattle.gt_search.specs.Beginnings.{BeginsAlike, OpensSo};
     ghost use Rattle.gt_search.specs.Calls.{GoesAlong, KnowsTable, Rise, ShowsCalls, handles_at, known_in, no_mappings};
-    ghost use Rattle.gt_search.specs.Ends.{AreDone, choices_at, is_done, is_ended, tasks_at, turns_from};
+    ghost use Rattle.std.specs.Prelude.{IfSome};
+    ghost use Rattle.gt_search.specs.Ends.{AreDone, AreToBeTried, choices_at, goes_at_once, is_done, is_ended, tasks_at, turns_from};
     ghost use Rattle.gt_core.specs.Legal.{IsItemOf, IsRight};
     ghost use Rattle.gt_core.specs.declared.trace.Event.TheVariants.{Tick};
     ghost use Rattle.gt_core.specs.declared.trace.Item.{Item};
@@ -528,8 +539,8 @@ impl<'s, 'a> Scene<'s, 'a> {
         }
     }
 
-    /// The moves that the domains have.
-    pub fn turns(&self, world: &World<'a>) -> Result<Vec<Turn>, AllocError>
+    // The moves that the domains have.
+    fn all_turns(&self, world: &World<'a>) -> Result<Vec<Turn>, AllocError>
         ensures { IfOk result (λ turns. turns.items ≡ turns_from self.now 0 world.now.actors.items) }
     {
         let mut turns = Vec::new(self.alloc);
@@ -537,6 +548,46 @@ impl<'s, 'a> Scene<'s, 'a> {
             push_choices(&mut turns, place, self.choices(place, actor))?;
         }
         Ok(turns)
+    }
+
+    // Whether the domain at this place has no call open, and what its next line says disturbs nobody.
+    fn goes_at_once(&self, told: &[bool], place: usize, actor: &Actor<'a>) -> bool
+        ensures { result ≡ goes_at_once self.now told.now place actor.now }
+    {
+        if actor.open.is_some() {
+            return false;
+        }
+        match self.task(place, actor.next) {
+            Some(task) => disturbs_none(told, task),
+            None => false,
+        }
+    }
+
+    // The place of a domain that goes on so, if there is one.
+    fn at_once(&self, world: &World<'a>) -> Option<usize>
+        ensures { IfSome result (λ place. (a : Actor) × (slice_get world.now.actors.items place ≡ Some a)
+            × (goes_at_once self.now world.now.told.items place a ≡ true)) }
+    {
+        for (place, actor) in world.actors.as_slice().iter().enumerate() {
+            if self.goes_at_once(world.told.as_slice(), place, actor) {
+                return Some(place);
+            }
+        }
+        None
+    }
+
+    /// The moves that are to be tried: of a domain that disturbs nobody, or else all.
+    pub fn turns(&self, world: &World<'a>) -> Result<Vec<Turn>, AllocError>
+        ensures { IfOk result (λ turns. AreToBeTried self.now world.now turns.items) }
+    {
+        match self.at_once(world) {
+            Some(place) => {
+                let mut turns = Vec::new(self.alloc);
+                turns.push(Turn { place, choice: 0 })?;
+                Ok(turns)
+            }
+            None => self.all_turns(world),
+        }
     }
 
     /// Whether all domains are at the ends of their lists, with no call open and no mapping.

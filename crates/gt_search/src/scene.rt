@@ -1,5 +1,5 @@
 //! What all states of a search have in common, and a state.
-ghost use Rattle.std.specs.Prelude.{◌≡◌, map, length, All, IfOk};
+ghost use Rattle.std.specs.Prelude.{◌≡◌, false, replicate, map, length, All, IfOk};
 ghost use Rattle.gt_host.specs.Playing.{setting_of_script};
 ghost use Rattle.gt_script.specs.Contents.{contents_told};
 ghost use Rattle.gt_script.specs.RunScripts.{CanConfigure, list_of};
@@ -116,7 +116,8 @@ fn first_actors<'a>(alloc: Global, count: usize) -> Result<Vec<Actor<'a>>, Alloc
 
 // So many flags, of which none is raised.
 fn no_flags(alloc: Global, count: usize) -> Result<Vec<bool>, AllocError>
-    ensures { IfOk result (λ told. length told.items ≡ count) }
+    ensures many { IfOk result (λ told. length told.items ≡ count) }
+    ensures none { IfOk result (λ told. told.items ≡ replicate count false) }
 {
     vec![in alloc; false; count]
 }

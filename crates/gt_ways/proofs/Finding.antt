@@ -5,7 +5,7 @@ use Rattle.std.proofs.Common.{Option, Some, slice_get, slice_set, Bool, false, n
 use Rattle.std.proofs.lemmas.Option.{none-some, same_Some, slice_get_within}
 use borrow.Author.Tests.{eqb-true}
 use Rattle.gt_ways.specs.Lists.{HasListAt, AreWhole, GrowsInto, IsEmptyList}
-use Rattle.gt_ways.specs.Ways.{Ways, GoesTo}
+use Rattle.gt_ways.specs.Ways.{Ways, GoesTo, HasEachTurn, HasEnoughTurns, PrintsSame}
 use Rattle.gt_ways.specs.Exploring.{HasEnd, IsAmongEnds, AllHaveLists, NodeHolds, SearchHolds, Grew, VisitHolds, Notes}
 use Rattle.gt_ways.specs.declared.exploring.End.{End}
 use Rattle.gt_ways.specs.declared.exploring.Explorer.{Explorer}
@@ -13,6 +13,7 @@ use Rattle.gt_ways.specs.declared.exploring.Node.{Node}
 use Rattle.gt_ways.specs.declared.exploring.Visit.{Visit}
 use Rattle.gt_replay.specs.declared.replay.Turn.{Turn}
 use Rattle.gt_ways.specs.declared.suffixes.Suffixes.{Suffixes}
+use Rattle.std.specs.Global.{Vec}
 use Rattle.gt_ways.proofs.Growing.{get_kept, no_more, node_on}
 use Rattle.gt_ways.proofs.Listing.{grows_same}
 
@@ -100,9 +101,7 @@ pub visit_noted : {W : Type 0} (ways : Ways W) (ex : Explorer W) (v : Visit) (e 
 visit_noted ways ex v e w notes has holds = record {
   world = holds.world;
   there = ap (λ (n : ℕ). slice_get ex.states.worlds.items n) notes.state ∙ holds.there;
-  turns = λ p turn m shows next.
-      let at = holds.turns p turn m shows next in
-      (at.0, ap (λ (l : List Turn). slice_get l at.0) (ap (λ t. t.items) notes.turns) ∙ at.1);
+  turns = subst (λ (t : Vec Turn). HasEnoughTurns ways holds.world t.items) (sym notes.turns) holds.turns;
   tried = λ at turn lt there p m turns q shows next goes.
       among_noted ways ex.suffixes v e w p q notes
       (holds.tried at turn (subst (λ (n : ℕ). at < n) notes.next lt) (ap (λ (l : List Turn). slice_get l at) (ap (λ t. t.items) (sym notes.turns)) ∙ there) p m turns q shows next goes);
@@ -121,13 +120,17 @@ visit_noted ways ex v e w notes has holds = record {
 
 -- done
 
+-- what leads to one end leads to another one at which the same was printed
+among_same : {W : Type 0} (ways : Ways W) (s : Suffixes) (ends : List End) (p r q : ways.Point) → PrintsSame ways q r → IsAmongEnds ways s ends p r → IsAmongEnds ways s ends p q
+among_same ways s ends p r q same (list, end, has, prints) = (list, end, has, λ at. sym (same at) ∙ prints at)
+
 all_found : {W : Type 0} (ways : Ways W) (ex : Explorer W) (v : Visit) (holds : VisitHolds ways ex v) → length v.turns.items ≤ v.next
     → (p : ways.Point) (turns : List Turn) (q : ways.Point) → ways.shows holds.world p → GoesTo ways p turns q → IsAmongEnds ways ex.suffixes v.ends.items p q
 all_found ways ex v holds all p [] q shows goes = subst (λ (l : ways.Point). IsAmongEnds ways ex.suffixes v.ends.items p l) goes.0 (holds.over p shows goes.1)
 all_found ways ex v holds all p (turn ∷ turns) q shows goes =
-    let at = holds.turns p turn goes.0 shows goes.1 in
-    let within = slice_get_within v.turns.items at.0 turn at.1 in
-    holds.tried at.0 turn (omega (arith, within, all)) at.1 p goes.0 turns q shows goes.1 goes.2
+    let (first, n, rest, r, at, next, on, same) = holds.turns p turn goes.0 turns q shows goes.1 goes.2 in
+    let within = slice_get_within v.turns.items at.0 first at.1 in
+    among_same ways ex.suffixes v.ends.items p r q same (holds.tried at.0 first (omega (arith, within, all)) at.1 p n rest r shows next on)
 
 -- the node of a state that is done
 abbrev pub node_of : Visit → Node
@@ -176,3 +179,9 @@ holds_done ways old new v holds visit all states suffixes nodes done = (
         (it.0, ap (λ (l : List Node). slice_get l i) nodes ∙ get_kept old.nodes.items (node_of v ∷ []) i it.0 it.1, it.2)
     numbered state i (inr (one, place)) =
         (node_of v, ap (λ (l : List Node). slice_get l i) nodes ∙ ap (λ (j : ℕ). slice_get (old.nodes.items ++ node_of v ∷ []) j) place ∙ at_last old.nodes.items (node_of v), sym one)
+
+-- turns
+
+-- each turn is enough
+pub each_enough : {W : Type 0} (ways : Ways W) (w : W) (turns : List Turn) → HasEachTurn ways w turns → HasEnoughTurns ways w turns
+each_enough ways w turns each p turn m more q shows next goes = (turn, m, more, q, each p turn m shows next, next, goes, λ at. refl)

@@ -7,7 +7,7 @@ use Rattle.std.proofs.lemmas.List.{append-nil}
 use Rattle.std.proofs.lemmas.Option.{none-some, same_Some}
 use Rattle.std.specs.List.{flat_map, range_with_len}
 use Rattle.gt_ways.specs.Lists.{HasListAt, AreWhole, rest_by}
-use Rattle.gt_ways.specs.Ways.{Ways, HasEachTurn, IsShownSo, LedFits, MayEnd, MovesTo, PrintsTo, ShowsFirst, only_at}
+use Rattle.gt_ways.specs.Ways.{Ways, HasEnoughTurns, IsShownSo, LedFits, MayEnd, MovesTo, PrintsTo, ShowsFirst, only_at}
 use Rattle.gt_ways.specs.Ways.{text_at, text_led}
 use Rattle.gt_ways.specs.Exploring.{AllHaveLists, AllByTurn, AllTextsFound, EachVisitHolds, IsNumbered, IsLineOf}
 use Rattle.gt_ways.specs.Exploring.{SearchHolds}
@@ -219,7 +219,7 @@ below_none at next is lt = omega (arith, is, lt)
 
 -- no domain ends there
 pub visits_on : {W : Type 0} (ways : Ways W) (old : Explorer W) (done : Vec (Option ℕ)) (v : Visit) (world : W) → done.items ≡ old.done.items ++ None ∷ [] → slice_get old.states.worlds.items v.state ≡ Some world
-    → HasEachTurn ways world v.turns.items → v.next ≡ 0 → v.ends.items ≡ [] → v.lists.keys ≡ []
+    → HasEnoughTurns ways world v.turns.items → v.next ≡ 0 → v.ends.items ≡ [] → v.lists.keys ≡ []
     → (MayEnd ways world → ⊥)
     → SearchHolds ways old → SearchHolds ways (with_done old done) × Grew old (with_done old done) × VisitHolds ways (with_done old done) v
 visits_on ways old done v world more there turns none ends keys goes holds =
@@ -229,7 +229,7 @@ visits_on ways old done v world more there turns none ends keys goes holds =
       record {
         world = world;
         there = there;
-        turns = λ p turn m shows comes. turns p turn m shows comes;
+        turns = turns;
         tried = λ at turn lt is p m more q shows comes on. absurd (below_none at v.next none lt);
         over = λ p shows over. absurd (goes (p, shows, over));
         lists = λ at e is. absurd (none_there v.ends.items at e ends is);
@@ -242,7 +242,7 @@ prints_none ways rest p none = λ at. sym (append-nil (ways.printed p at)) ∙ a
 
 -- they may end there: the empty list was noted
 pub visits_end : {W : Type 0} (ways : Ways W) (old : Explorer W) (done : Vec (Option ℕ)) (v w : Visit) (onward : Option Onward) (world : W) → done.items ≡ old.done.items ++ None ∷ []
-    → slice_get old.states.worlds.items v.state ≡ Some world → HasEachTurn ways world v.turns.items → v.next ≡ 0 → v.ends.items ≡ [] → v.lists.keys ≡ []
+    → slice_get old.states.worlds.items v.state ≡ Some world → HasEnoughTurns ways world v.turns.items → v.next ≡ 0 → v.ends.items ≡ [] → v.lists.keys ≡ []
     → Notes v (record { list = 0; onward = onward }) w → SearchHolds ways old → SearchHolds ways (with_done old done) × Grew old (with_done old done) × VisitHolds ways (with_done old done) w
 visits_end ways old done v w onward world more there turns none ends keys notes holds =
     let it = done_on ways old done more holds in (
@@ -251,9 +251,7 @@ visits_end ways old done v w onward world more there turns none ends keys notes 
       record {
         world = world;
         there = ap (λ (n : ℕ). slice_get old.states.worlds.items n) notes.state ∙ there;
-        turns = λ p turn m shows comes.
-            let at = turns p turn m shows comes in
-            (at.0, ap (λ t. slice_get t.items at.0) notes.turns ∙ at.1);
+        turns = subst (λ (t : Vec Turn). HasEnoughTurns ways world t.items) (sym notes.turns) turns;
         tried = λ at turn lt is p m more q shows comes on. absurd (below_none at w.next (notes.next ∙ none) lt);
         over = λ p shows over. (0, notes.has numbers, holds.empty.0, prints_none ways (rest_by old.suffixes 0) p holds.empty.1);
         lists = by notes.ends;

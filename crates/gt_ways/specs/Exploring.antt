@@ -2,7 +2,7 @@
 use Rattle.std.specs.Prelude.{◌≡◌, ◌⊎◌, ◌++◌, ◌<◌, ℕ, List, [], ◌∷◌, map, length, Option, Some, slice_get, IfSome}
 use Rattle.gt_replay.specs.declared.replay.Turn.{Turn}
 use Rattle.gt_ways.specs.Lists.{HasListAt, AreWhole, GrowsInto, IsEmptyList, HasItsLine, line_by, rest_by}
-use Rattle.gt_ways.specs.Ways.{Ways, GoesTo, IsShownSo, PrintsTo, ShowsFirst, only_at, text_at, text_led}
+use Rattle.gt_ways.specs.Ways.{Ways, GoesTo, HasEnoughTurns, IsShownSo, PrintsTo, ShowsFirst, only_at, text_at, text_led}
 use Rattle.gt_ways.specs.declared.exploring.End.{End}
 use Rattle.gt_ways.specs.declared.exploring.Explorer.{Explorer}
 use Rattle.gt_ways.specs.declared.exploring.Found.{Found}
@@ -77,8 +77,7 @@ pub record Grew {W : Type 0} (old new : Explorer W) : Type 0 where
 pub record VisitHolds {W : Type 0} (ways : Ways W) (ex : Explorer W) (v : Visit) : Type 0 where
   pub world : W
   pub there : slice_get ex.states.worlds.items v.state ≡ Some world
-  pub turns : (p : ways.Point) (turn : Turn) (m : ways.Point) → ways.shows world p → ways.next p turn m
-      → (at : ℕ) × (slice_get v.turns.items at ≡ Some turn)
+  pub turns : HasEnoughTurns ways world v.turns.items
   pub tried : (at : ℕ) (turn : Turn) → at < v.next → slice_get v.turns.items at ≡ Some turn
       → AllByTurn ways ex.suffixes world v.ends.items turn
   pub over : (p : ways.Point) → ways.shows world p → ways.ends p → IsAmongEnds ways ex.suffixes v.ends.items p p

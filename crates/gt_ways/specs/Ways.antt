@@ -67,6 +67,22 @@ HasEachTurn ways w turns =
     (p : ways.Point) (turn : Turn) (q : ways.Point) → ways.shows w p → ways.next p turn q
     → (at : ℕ) × (slice_get turns at ≡ Some turn)
 
+-- both runs have printed the same
+abbrev pub PrintsSame : {W : Type 0} → (ways : Ways W) → ways.Point → ways.Point → Type 0
+PrintsSame ways q r = (at : ℕ) → ways.printed r at ≡ ways.printed q at
+
+-- a run that is here goes on to an end by one of these turns first, and has printed the same there as at that end
+abbrev pub EndsSoBy : {W : Type 0} → (ways : Ways W) → List Turn → ways.Point → ways.Point → Type 0
+EndsSoBy ways turns p q =
+    (first : Turn) × (n : ways.Point) × (rest : List Turn) × (r : ways.Point)
+    × ((at : ℕ) × (slice_get turns at ≡ Some first)) × ways.next p first n × GoesTo ways n rest r × PrintsSame ways q r
+
+-- for each way on from what the state shows there is one by one of these turns first that prints the same
+abbrev pub HasEnoughTurns : {W : Type 0} → Ways W → W → List Turn → Type 0
+HasEnoughTurns ways w turns =
+    (p : ways.Point) (turn : Turn) (m : ways.Point) (more : List Turn) (q : ways.Point) → ways.shows w p
+    → ways.next p turn m → GoesTo ways m more q → EndsSoBy ways turns p q
+
 -- if a run goes on by this turn, the move was such, and the new state shows where the run comes to
 abbrev pub MovesTo : {W : Type 0} → Ways W → W → Turn → Led → W → Type 0
 MovesTo ways old turn led new =

@@ -1,6 +1,6 @@
 //! What a search goes through.
 ghost use Rattle.std.specs.Prelude.{◌≡◌, IfOk, IsTrue};
-ghost use Rattle.gt_ways.specs.Ways.{Ways, HasEachTurn, IsShownSo, MayEnd, MovesTo, ShowsFirst};
+ghost use Rattle.gt_ways.specs.Ways.{Ways, HasEnoughTurns, IsShownSo, MayEnd, MovesTo, ShowsFirst};
 
 use crate::fault::SearchFault;
 use gt_replay::Turn;
@@ -36,9 +36,9 @@ pub trait Space {
     /// Bytes that states which are the same have in common.
     fn key(&self, state: &Self::State) -> Result<Vec<u8>, AllocError>;
 
-    /// The turns that are to be tried.
+    /// The turns that are to be tried: enough of them for each text.
     fn turns(&self, state: &Self::State) -> Result<Vec<Turn>, SearchFault>
-        ensures { IfOk result (λ turns. HasEachTurn (ways self.now) state.now turns.items) };
+        ensures { IfOk result (λ turns. HasEnoughTurns (ways self.now) state.now turns.items) };
 
     /// Makes a move. After one that leads nowhere the state is not looked at.
     fn advance(&self, state: &mut Self::State, turn: Turn) -> Result<Led, SearchFault>

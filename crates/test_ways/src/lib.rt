@@ -4,8 +4,10 @@
 //! at each step how far the second one has come, so its text says in which order they counted.
 #![tactic(auto)]
 
+mod apart;
 mod counters;
 #[cfg(test)]
 mod texts;
 
+pub use apart::{Apart, Place};
 pub use counters::{Counters, Tally};

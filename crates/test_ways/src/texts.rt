@@ -40,3 +40,18 @@ fn one_state_less_is_too_few(rt: HostRuntime) -> Result<(), Fail> {
     assert!(rt; search(alloc, &counters, 8).is_err());
     Ok(())
 }
+
+// Each counter prints its own way alone: there is one text, and seven states are enough of 16.
+#[test]
+fn the_one_text_of_counters_that_are_apart(rt: HostRuntime) -> Result<(), Fail> {
+    let alloc = rt.alloc();
+    let counters = crate::apart::Apart { alloc, limit: 3 };
+    let Ok(found) = search(alloc, &counters, 9) else {
+        assert!(rt; false);
+        return Ok(());
+    };
+    assert_eq!(rt; found.states, 7);
+    assert_eq!(rt; found.orders.len(), 1);
+    assert!(rt; has(&found, &[0, 1, 2, 0, 1, 2]));
+    Ok(())
+}

@@ -1,11 +1,9 @@
-use Rattle.std.proofs.Common.{◌≡◌, ◌+◌, List, sym, ap, ◌∙◌, subst, take}
-use Rattle.gt_search.specs.Ends.{turns_from}
-use Rattle.gt_search.specs.declared.actor.Actor.{Actor}
-use Rattle.gt_search.proofs.MovesListed.{turns-step}
+use Rattle.std.proofs.Common.{◌≡◌, ◌++◌, List, [], ◌∷◌, inr, ap, ◌∙◌}
+use Rattle.gt_replay.specs.declared.replay.Turn.{Turn}
 use Rattle.gt_search.proofs.scene.Scene.turns.Goals as goal
 
-pub loop-place-preserved : goal.loop-place-preserved
-loop-place-preserved c = let l = c.loop-place in let xs = c.as_slice-actor-items.result.now in let same = c.as_slice-actor-items.ensures.value in
-    subst (λ (actors : List Actor). c.push_choices.new.turns.items ≡ turns_from c.args.self.now 0 (take (l.place + 1) actors)) same
-    (turns-step c.args.self.now xs l.place c.actor-item.result c.choices.result l.turns.items c.push_choices.new.turns.items c.loop-place-test.true c.actor-item.is
-    (l.invariant ∙ ap (λ (actors : List Actor). turns_from c.args.self.now 0 (take l.place actors)) (sym same)) c.in_ok-push_choices.ensures c.choices.ensures)
+-- src/moves.rt:580:5
+pub returns-in_ok-push-in-Some : goal.returns-in_ok-push-in-Some
+returns-in_ok-push-in-Some c = let it = c.in-Some.ensures in
+    inr (c.in-Some.place, it.0, it.1, it.2, c.in_ok-push-in-Some.ensures.items
+    ∙ ap (λ (l : List Turn). l ++ record { place = c.in-Some.place; choice = 0 } ∷ []) c.new-turns.ensures.items)

@@ -1,0 +1,125 @@
+-- When two histories look the same, and when the items of two domains may change places.
+use Rattle.std.specs.Prelude.{◌≡◌, ◌⊎◌, ◌==◌, ◌&&◌, ℕ, Bool, true, false, List, [], ◌∷◌, Option, Some}
+use Rattle.gt_core.specs.Prelude.{DomId, Holder, Held, Step, LookHeader, LookControl, LookBody, PinStep, Exchange}
+use Rattle.gt_core.specs.Prelude.{Request, Seen, StoreBody, ReadBytes, CopyBytes, Half, Item, Happened, Began, Stepped, Patch}
+use Rattle.gt_core.specs.History.{History, Setting, entry_at, raises_at, body_at, table_at, open_call, live, gather}
+use Rattle.gt_core.specs.History.{reads_at, writes_at, maps_answered_at, patches_at, patches_by, written_by, given_in}
+use Rattle.gt_core.specs.History.{contents_at}
+use Rattle.gt_core.specs.FirstRule.{stood}
+use Rattle.gt_core.specs.Legal.{IsRight}
+
+-- histories that look the same
+
+-- a pin with what holds it
+abbrev pub with_holder : Holder → Held → List (Holder × Held)
+with_holder holder held = (holder, held) ∷ []
+
+-- the live pins of a domain, each with what holds it, the oldest first
+abbrev pub own_pins : History → ℕ → List (Holder × Held)
+own_pins h d = gather with_holder d (live h)
+
+-- an entry, its generation and its live pins are the same
+pub record SameEntry (g h : History) (t r : ℕ) : Type 0 where
+  pub entry : entry_at g t r ≡ entry_at h t r
+  pub raises : raises_at g t r ≡ raises_at h t r
+  pub reads : reads_at g t r ≡ reads_at h t r
+  pub writes : writes_at g t r ≡ writes_at h t r
+
+-- what no other domain changes is the same: a domain's entries, its table, its pins, its call, and which rule stood
+-- against that
+pub record SameOwn (s : Setting) (g h : History) (d : DomId) : Type 0 where
+  pub entries : (r : ℕ) → entry_at g d.0 r ≡ entry_at h d.0 r
+  pub raises : (r : ℕ) → raises_at g d.0 r ≡ raises_at h d.0 r
+  pub table : table_at s g d ≡ table_at s h d
+  pub pins : own_pins g d.0 ≡ own_pins h d.0
+  pub maps : maps_answered_at g d.0 ≡ maps_answered_at h d.0
+  pub call : open_call g d.0 ≡ open_call h d.0
+  pub against : stood s g d.0 ≡ stood s h d.0
+
+-- what this step of the domain looks at is the same
+abbrev pub SameLook : Setting → History → History → DomId → Step → Type 0
+SameLook s g h d (LookHeader dom) = table_at s g dom ≡ table_at s h dom
+SameLook s g h d (LookControl dom gref) = SameEntry g h dom.0 gref.0
+SameLook s g h d (LookBody dom gref half) = body_at g dom.0 gref.0 half ≡ body_at h dom.0 gref.0 half
+SameLook s g h d (PinStep p) = SameEntry g h p.dom.0 p.gref.0
+SameLook s g h d (Exchange gref looked change) =
+    SameEntry g h d.0 gref.0 × ((half : Half) → body_at g d.0 gref.0 half ≡ body_at h d.0 gref.0 half)
+SameLook s g h d (ReadBytes dom frame off len) = patches_at g dom.0 frame ≡ patches_at h dom.0 frame
+SameLook s g h d (CopyBytes from to len) =
+    patches_at g from.frame.owner.0 from.frame.number ≡ patches_at h from.frame.owner.0 from.frame.number
+SameLook s g h d step = Unit {0}
+
+-- the same for what happens: a beginning looks at nothing but what is the domain's own
+abbrev pub SameSight : Setting → History → History → DomId → Happened → Type 0
+SameSight s g h d (Began request) = Unit {0}
+SameSight s g h d (Stepped step seen) = SameLook s g h d step
+
+-- two histories look the same to every domain
+pub record SameSeen (s : Setting) (g h : History) : Type 0 where
+  pub own : (d : DomId) → SameOwn s g h d
+  pub entries : (t r : ℕ) → SameEntry g h t r
+  pub bodies : (t r : ℕ) (half : Half) → body_at g t r half ≡ body_at h t r half
+  pub patches : (t f : ℕ) → patches_at g t f ≡ patches_at h t f
+
+-- the same may follow after both, and leaves them so
+abbrev pub LookAlikeGoOn : Type 0
+LookAlikeGoOn =
+    (s : Setting) (g h : History) (i : Item) → SameSeen s g h
+    → (IsRight s g i → IsRight s h i) × SameSeen s (i ∷ g) (i ∷ h)
+
+-- items that change places
+
+-- the writes to a frame that the item makes
+abbrev pub patches_of : History → Item → ℕ → ℕ → List Patch
+patches_of h i t f = patches_by (written_by i.happened (given_in (open_call h i.actor.0)) (contents_at h)) t f
+
+-- the items of two domains disturb each other in nothing: neither changes what the other one looks at, and they don't
+-- write to one frame
+pub record AreApart (s : Setting) (h : History) (i j : Item) : Type 0 where
+  pub actors : (i.actor.0 == j.actor.0) ≡ false
+  pub first : SameSight s (j ∷ h) h i.actor i.happened
+  pub second : SameSight s (i ∷ h) h j.actor j.happened
+  pub frames : (t f : ℕ) → (patches_of h i t f ≡ []) ⊎ (patches_of h j t f ≡ [])
+
+-- two items that are right one after the other, and apart, are right in the other order too, and it looks the same
+abbrev pub ApartChangePlaces : Type 0
+ApartChangePlaces =
+    (s : Setting) (h : History) (i j : Item) → AreApart s h i j → IsRight s h i → IsRight s (i ∷ h) j
+    → IsRight s h j × IsRight s (j ∷ h) i × SameSeen s (j ∷ i ∷ h) (i ∷ j ∷ h)
+
+-- a beginning is apart from each item of another domain
+abbrev pub BeginningsAreApart : Type 0
+BeginningsAreApart =
+    (s : Setting) (h : History) (i j : Item) (request : Request) → (i.actor.0 == j.actor.0) ≡ false
+    → i.happened ≡ Began request → AreApart s h i j
+
+-- a step on the control word or on a body word of an entry, but for unpins
+abbrev pub is_on_entry : Step → Bool
+is_on_entry (LookControl dom gref) = true
+is_on_entry (LookBody dom gref half) = true
+is_on_entry (StoreBody gref half word) = true
+is_on_entry (PinStep p) = true
+is_on_entry (Exchange gref looked change) = true
+is_on_entry step = false
+
+-- the step of domain d is on entry r of domain t
+abbrev pub on_entry : DomId → Step → ℕ → ℕ → Bool
+on_entry d (LookControl dom gref) t r = (dom.0 == t) && (gref.0 == r)
+on_entry d (LookBody dom gref half) t r = (dom.0 == t) && (gref.0 == r)
+on_entry d (StoreBody gref half word) t r = (d.0 == t) && (gref.0 == r)
+on_entry d (PinStep p) t r = (p.dom.0 == t) && (p.gref.0 == r)
+on_entry d (Exchange gref looked change) t r = (d.0 == t) && (gref.0 == r)
+on_entry d step t r = false
+
+-- steps of two domains that are not on the same entry
+pub record OnOtherEntries (d : DomId) (y : Step) (e : DomId) (z : Step) : Type 0 where
+  pub actors : (d.0 == e.0) ≡ false
+  pub first : is_on_entry y ≡ true
+  pub second : is_on_entry z ≡ true
+  pub apart : (t r : ℕ) → on_entry d y t r ≡ true → on_entry e z t r ≡ true → ⊥
+
+-- they are apart
+abbrev pub StepsOnOtherEntriesAreApart : Type 0
+StepsOnOtherEntriesAreApart =
+    (s : Setting) (h : History) (i j : Item) (y z : Step) (v w : Seen) → OnOtherEntries i.actor y j.actor z
+    → i.happened ≡ Stepped y v → j.happened ≡ Stepped z w → AreApart s h i j
