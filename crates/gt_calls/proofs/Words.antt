@@ -26,6 +26,7 @@ pub use Rattle.gt_entry.specs.{declared.entry.Entry.TheVariants.Sub, declared.en
 pub use Rattle.gt_entry.specs.{declared.change.Half.TheVariants.First as FirstHalf}
 pub use Rattle.gt_entry.specs.{declared.change.Half.TheVariants.Second as SecondHalf}
 pub use Rattle.gt_calls.specs.{Asking.IsSaid, Asking.asked, Asking.begun_of, Asking.bytes_begun, Asking.bytes_of}
+pub use Rattle.gt_calls.specs.{Rules.grant_begun}
 pub use Rattle.gt_calls.specs.{Asking.entry_said, Asking.judged_as, Asking.plainly_asked, Counting.IsCounted}
 pub use Rattle.gt_calls.specs.{Counting.pins_before, Counting.leg_left, Counting.leg_steps, Counting.most_steps}
 pub use Rattle.gt_calls.specs.{Counting.steps_left, Following.Advances, Following.FitsAction, Following.FitsNext}
@@ -83,7 +84,5 @@ pub use Rattle.gt_calls.specs.{declared.request.Asked.TheVariants.Copy, declared
 pub use Rattle.gt_calls.specs.{declared.request.Asked.TheVariants.Map}
 pub use Rattle.gt_calls.specs.{declared.request.Request.Request, declared.call.TheConstants.MAX_STEPS}
 pub use Rattle.gt_calls.specs.{declared.call.Call.Call}
-pub use Rattle.gt_calls.specs.{declared.call.Start.TheVariants.Done as StartDone, MapCalls.MapCall}
-pub use Rattle.gt_calls.specs.{MapCalls.MapBeginsAs}
-pub use Rattle.gt_calls.specs.{MapCalls.MapGoesOnAs}
+pub use Rattle.gt_calls.specs.{declared.call.Start.TheVariants.Done as StartDone}
 unfoldable pub use Rattle.gt_calls.specs.{Path.tries, Path.turns, Rules.has_valid}

@@ -1,7 +1,11 @@
-//! The numbers that the paths of calls and their bounds rest on. The law is a function that does
+//! Laws of calls: the numbers that their paths and bounds rest on, and how a call goes on. A law is a function that does
 //! nothing, whose contract is the law.
 ghost use Rattle.std.specs.Prelude.{◌≡◌, ◌+◌};
 ghost use Rattle.gt_types.specs.declared.limits.TheConstants.{FRAME_SIZE, MAX_TRIES, TABLE_ENTRIES};
+ghost use Rattle.gt_calls.specs.Following.{GoesByPhase};
+ghost use Rattle.gt_calls.specs.Rules.{CallerKnowledge};
+ghost use Rattle.gt_calls.specs.declared.action.Seen.{Seen};
+ghost use Rattle.gt_calls.specs.declared.call.Call.{Call};
 
 use crate::call::MAX_STEPS;
 use crate::judging::END_OF_SERIALS;
@@ -15,4 +19,10 @@ pub fn the_limits_of_calls()
     ensures serials { END_OF_SERIALS ≡ 18446744073709551615 }
     ensures tries { (MORE_TRIES ≡ 3) × (1 + MORE_TRIES ≡ MAX_TRIES) }
     ensures rooms { (ENTRIES ≡ TABLE_ENTRIES) × (FRAME_LEN ≡ FRAME_SIZE) }
+{}
+
+/// A law: a call goes on by its phase. Before its first step it comes to its first phase, and after a step to the phase
+/// that follows what the step saw; its next action is that phase's.
+pub fn every_call_goes_on_by_its_phase()
+    ensures { (k : CallerKnowledge) (call : Call) (seen : Seen) → GoesByPhase k call seen }
 {}
