@@ -6,11 +6,13 @@
 #
 # `bench/c_speed.sh [RUNS]` makes so many runs of each by turns (11), and takes from their time that of no rounds;
 # `PRIORITY='chrt -f 1' bench/c_speed.sh` runs them before other work; `bench/c_speed.sh 0` counts instructions only.
-# LIBRARY=DIR takes the library from DIR, where tools/library.sh left it.
+# LIBRARY=DIR takes the library from DIR, where tools/library.sh left it, and PROGRAM=FILE the built program bench_live.
+# PRIORITY is left out where there are as many threads as processors.
 set -euo pipefail
-cd "$(dirname "$0")/.."
+# shellcheck source=bench/common.sh
+source "$(dirname "${BASH_SOURCE[0]}")/common.sh"
+cd "$top"
 runs="${1:-11}"
-read -ra priority <<<"${PRIORITY:-}"
 work="$(mktemp -d)"
 trap 'rm -rf "$work"' EXIT
 
@@ -20,8 +22,7 @@ if [ -z "$library" ]; then
   ./tools/library.sh "$library" >"$work/log" 2>&1 || { cat "$work/log"; exit 1; }
 fi
 "${CC:-clang}" -std=c11 -O2 -pthread -I"$library" bench/c/speed.c "$library/libgthost.a" -o "$work/c"
-(cd crates/bench_live && rt run -- apart 1 0 >/dev/null 2>&1) # proves and builds it, where that is not done yet
-cp crates/bench_live/out/bench_live "$work/rattle"
+cp "$(built bench_live apart 1 0)" "$work/rattle"
 
 # There is room for 400,000 records ahead.
 rounds_of() {
@@ -31,7 +32,7 @@ rounds_of() {
 nanoseconds() {
   local from to
   from="$(date +%s%N)"
-  "${priority[@]}" "$work/$1" "$2" "$3" "$4" "$5" >/dev/null
+  first "$3" "$work/$1" "$2" "$3" "$4" "$5" >/dev/null
   to="$(date +%s%N)"
   echo "$((to - from))"
 }

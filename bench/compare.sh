@@ -5,10 +5,12 @@
 #
 # A script has 2 to 6 domains of versions 1 and 2 with 1 to 64 frames each, and one more that only looks. Each domain
 # publishes entries of all kinds, and then calls are drawn: most name what there is, some what is not.
+# PROGRAM=FILE takes the built program cases_compare.
 # usage: bench/compare.sh [SEED [FILES]]        so many files of 100 scripts each (10)
 #        bench/compare.sh --print SEED COUNT    prints a file of so many scripts
 set -euo pipefail
-top="$(cd "$(dirname "${BASH_SOURCE[0]}")/.." && pwd)"
+# shellcheck source=bench/common.sh
+source "$(dirname "${BASH_SOURCE[0]}")/common.sh"
 
 # Prints so many scripts, drawn from this seed. They have one head.
 draw() {
@@ -89,8 +91,7 @@ if [ "${1:-}" = --print ]; then
   exit
 fi
 seed="${1:-1}" files="${2:-10}"
-program="$top/crates/cases_compare/out/cases_compare"
-[ -x "$program" ] || { echo "first run 'rt run' in crates/cases_compare, which builds it" >&2; exit 2; }
+program="$(built cases_compare)"
 work="$(mktemp -d)"
 trap 'rm -rf "$work"' EXIT
 names=()

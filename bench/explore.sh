@@ -8,15 +8,16 @@
 # flags between them. One that can't run (`stuck`), with more states than the limit, or whose domain can't give a mapping
 # back is drawn anew. It is no part of the gate. The same seed draws the same programs. Prints how much was tried; the
 # status is 1 if something is wrong, and the program is then left as explore-N.gt.
+# PROGRAM=FILE takes the built program gthost.
 # usage: bench/explore.sh [SEED [PROGRAMS [RUNS]]]        1, 50 and 200 if they are left out
 set -euo pipefail
 
-top="$(cd "$(dirname "${BASH_SOURCE[0]}")/.." && pwd)"
+# shellcheck source=bench/common.sh
+source "$(dirname "${BASH_SOURCE[0]}")/common.sh"
 seed="${1:-1}"
 programs="${2:-50}"
 runs="${3:-200}"
-program="${PROGRAM:-$top/crates/gthost/out/gthost}"
-[ -x "$program" ] || "$top/gthost" policy </dev/null # proves and builds it, where that is not done yet; no policy prints nothing
+program="$(built gthost)"
 work="$(mktemp -d)"
 trap 'rm -rf "$work"' EXIT
 failed=0

@@ -16,22 +16,23 @@
 # `bench/live.sh [RUNS] calls` or `bytes` prints the one table alone.
 #
 # `bench/live.sh [RUNS] [TABLE]` makes so many runs of each program by turns (11), and takes from their time that of
-# no rounds. `PRIORITY='chrt -f 1' bench/live.sh` runs the programs before other work; `bench/live.sh 0` counts
-# instructions alone.
+# no rounds. `PRIORITY='chrt -f 1' bench/live.sh` runs the programs before other work, but not those of as many threads
+# as there are processors: C's locks spin. `bench/live.sh 0` counts instructions alone. PROGRAM=DIR takes the built
+# programs bench_live and bench_words from DIR; for `bytes` PROGRAM may be bench_live itself.
 set -euo pipefail
 
-top="$(cd "$(dirname "${BASH_SOURCE[0]}")/.." && pwd)"
+# shellcheck source=bench/common.sh
+source "$(dirname "${BASH_SOURCE[0]}")/common.sh"
 runs="${1:-11}"
 table="${2:-both}"
-read -ra priority <<<"${PRIORITY:-}"
+[ "$table" = bytes ] || several_programs bench_live and bench_words
 work="$(mktemp -d)"
 trap 'rm -rf "$work"' EXIT
 
-built=(bench_live)
-[ "$table" = bytes ] || built+=(bench_words)
-for program in "${built[@]}"; do # proves and builds them, where that is not done yet
-  (cd "$top/crates/$program" && rt run -- apart 1 0 >/dev/null 2>&1)
-  cp "$top/crates/$program/out/$program" "$work/$program"
+measured=(bench_live)
+[ "$table" = bytes ] || measured+=(bench_words)
+for program in "${measured[@]}"; do
+  cp "$(built "$program" apart 1 0)" "$work/$program"
 done
 "${CC:-clang}" -O2 -pthread -o "$work/counted" "$top/bench/live_tables.c"
 "${CC:-clang}" -O2 -pthread -DSPREAD -o "$work/spread" "$top/bench/live_tables.c"
@@ -67,7 +68,7 @@ audit_of() {
 nanoseconds() {
   local from to
   from="$(date +%s%N)"
-  "${priority[@]}" "$work/${1%-*}" "$2" "$3" "$4" $(audit_of "$1") >"$work/$1.out"
+  first "$3" "$work/${1%-*}" "$2" "$3" "$4" $(audit_of "$1") >"$work/$1.out"
   to="$(date +%s%N)"
   echo "$((to - from))"
 }

@@ -3,7 +3,7 @@
 # the lines should take at most 2.2 times as long.
 #
 # `bench/play.sh [RUNS]` prints the least time of so many runs (5). Where the machine has other work,
-# `PRIORITY='chrt -f 1' bench/play.sh` runs the program before it.
+# `PRIORITY='chrt -f 1' bench/play.sh` runs the program before it. PROGRAM=FILE takes the built program gthost.
 #
 # A script makes the calls grant, map, load, unmap and revoke by turns, with a label of its own
 # for each map.
@@ -19,11 +19,10 @@
 # as long.
 set -euo pipefail
 
-top="$(cd "$(dirname "${BASH_SOURCE[0]}")/.." && pwd)"
+# shellcheck source=bench/common.sh
+source "$(dirname "${BASH_SOURCE[0]}")/common.sh"
 runs="${1:-5}"
-read -ra priority <<<"${PRIORITY:-}"
-"$top/gthost" policy </dev/null # proves and builds it, where that is not done yet; no policy prints nothing
-program="$top/crates/gthost/out/gthost"
+program="$(built gthost)"
 work="$(mktemp -d)"
 trap 'rm -rf "$work"' EXIT
 

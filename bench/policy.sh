@@ -9,13 +9,15 @@
 #
 # 65,536 statements fit into a text where they are as short as `allow a b:c *;`, which grants
 # nothing; of class `grant` 53,500 do.
+#
+# PROGRAM=DIR takes the built programs gthost and bench_policy from DIR.
 set -euo pipefail
 
-top="$(cd "$(dirname "${BASH_SOURCE[0]}")/.." && pwd)"
-"$top/gthost" policy </dev/null # proves and builds it, where that is not done yet; no policy prints nothing
-program="$top/crates/gthost/out/gthost"
-cd "$top/crates/bench_policy"
-rt run -- make grant 0 > /dev/null 2>&1 # builds it anew, where it has changed
+# shellcheck source=bench/common.sh
+source "$(dirname "${BASH_SOURCE[0]}")/common.sh"
+several_programs gthost and bench_policy
+program="$(built gthost)"
+parts="$(built bench_policy make grant 0)"
 work="$(mktemp -d)"
 trap 'rm -rf "$work"' EXIT
 
@@ -24,7 +26,7 @@ quickest() {
   local best=0 start took
   for _ in 1 2 3 4 5; do
     start=$(date +%s%N)
-    out/bench_policy "$@" > /dev/null
+    "${priority[@]}" "$parts" "$@" > /dev/null
     took=$(($(date +%s%N) - start))
     if [ "$best" -eq 0 ] || [ "$took" -lt "$best" ]; then best=$took; fi
   done
@@ -60,7 +62,7 @@ text() {
 # seconds that passed, and seconds of the processor, of one run
 seconds() {
   local TIMEFORMAT='%R %U'
-  { time "$program" policy "$1" > /dev/null; } 2>&1
+  { time "${priority[@]}" "$program" policy "$1" > /dev/null; } 2>&1
 }
 
 listing() {

@@ -6,14 +6,15 @@
 # sizes and versions, since lines for more do not fit into a script. At last each takes its page back once the next one
 # is through with it.
 #
-# `bench/sixteen.sh [RUNS] [DOMAINS]` makes so many runs (10) with so many domains (both).
+# `bench/sixteen.sh [RUNS] [DOMAINS]` makes so many runs (10) with so many domains (both). PROGRAM=FILE takes the built
+# program gthost.
 set -euo pipefail
 
-top="$(cd "$(dirname "${BASH_SOURCE[0]}")/.." && pwd)"
+# shellcheck source=bench/common.sh
+source "$(dirname "${BASH_SOURCE[0]}")/common.sh"
 runs="${1:-10}"
 counts="${2:-16 64}"
-program="${PROGRAM:-$top/crates/gthost/out/gthost}"
-[ -n "${PROGRAM:-}" ] || "$top/gthost" --help >/dev/null # proves and builds it, where that is not done yet
+program="$(built gthost)"
 work="$(mktemp -d)"
 trap 'rm -rf "$work"' EXIT
 

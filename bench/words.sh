@@ -6,17 +6,17 @@
 #
 # `bench/words.sh [RUNS]` makes so many runs of each program by turns (21), and takes from their time that of no
 # rounds; `bench/words.sh 0` counts instructions only. If the machine has other work, `PRIORITY='chrt -f 1'
-# bench/words.sh` runs the programs before it.
+# bench/words.sh` runs the programs before it, but not those of as many threads as there are processors: the locks spin.
+# PROGRAM=FILE takes the built program bench_words.
 set -euo pipefail
 
-top="$(cd "$(dirname "${BASH_SOURCE[0]}")/.." && pwd)"
+# shellcheck source=bench/common.sh
+source "$(dirname "${BASH_SOURCE[0]}")/common.sh"
 runs="${1:-21}"
-read -ra priority <<<"${PRIORITY:-}"
 work="$(mktemp -d)"
 trap 'rm -rf "$work"' EXIT
 
-(cd "$top/crates/bench_words" && rt run -- apart 1 0 >/dev/null 2>&1) # proves and builds it, where that is not done yet
-cp "$top/crates/bench_words/out/bench_words" "$work/proved"
+cp "$(built bench_words apart 1 0)" "$work/proved"
 for program in atomics locks; do
   "${CC:-clang}" -O2 -pthread -o "$work/$program" "$top/bench/words_$program.c"
 done
@@ -25,7 +25,7 @@ done
 nanoseconds() {
   local from to
   from="$(date +%s%N)"
-  "${priority[@]}" "$work/$1" "$2" "$3" "$4" >"$work/$1.out"
+  first "$3" "$work/$1" "$2" "$3" "$4" >"$work/$1.out"
   to="$(date +%s%N)"
   echo "$((to - from))"
 }

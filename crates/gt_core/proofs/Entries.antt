@@ -1,19 +1,16 @@
 -- What a legal history leaves of each entry: the body words of each spell it.
-use Rattle.gt_core.proofs.Words.{ℕ, Bool, List, None, Option, Some, [], ap, arith, cond, refl, subst, sym, true, ◌+◌}
-use Rattle.gt_core.proofs.Words.{◌∙◌, ◌∷◌, ◌≡◌, ◌≢◌, ◌≤◌, eqb-true, append-nil, sum_by-cons, count_by, ◌==◌, Dir, Read}
-use Rattle.gt_core.proofs.Words.{Write, DomId, GrantRef, Change, Publish, ToInvalid, ToWithdrawn, Half, FirstHalf}
-use Rattle.gt_core.proofs.Words.{SecondHalf, Entry, Invalid, first, Seen, Taken, Step, Exchange, PinStep, StoreBody}
-use Rattle.gt_core.proofs.Words.{Unpin, Held, Holder, History, Pin, Setting, Underway, changed_entry_of, generation_at}
-use Rattle.gt_core.proofs.Words.{is_pin_on, reads_at, writes_at, IsRight, IsSafe, IsSafeChange, IsSpelled, LegNow}
-use Rattle.gt_core.proofs.Words.{NoneStands, StepsRightIn, leg_at, Answer, Happened, Stepped, Item, body_at, entry_at}
-use Rattle.gt_core.proofs.Words.{live, open_call, without, IsLegalHistory}
+use Rattle.gt_core.proofs.Words.{ℕ, Bool, None, Option, Some, [], arith, cond, refl, subst, sym}
+use Rattle.gt_core.proofs.Words.{◌∷◌, ◌≡◌, eqb-true, ◌==◌}
+use Rattle.gt_core.proofs.Words.{DomId, GrantRef, Change, Publish, ToInvalid, ToWithdrawn, Half, FirstHalf}
+use Rattle.gt_core.proofs.Words.{SecondHalf, Entry, Invalid, first, Seen, Taken, Step, Exchange, StoreBody}
+use Rattle.gt_core.proofs.Words.{History, Setting, Underway, changed_entry_of}
+use Rattle.gt_core.proofs.Words.{IsRight, IsSafe, IsSafeChange, IsSpelled}
+use Rattle.gt_core.proofs.Words.{StepsRightIn, Answer, Happened, Stepped, Item, body_at, entry_at}
+use Rattle.gt_core.proofs.Words.{open_call, IsLegalHistory}
 use Rattle.gt_core.specs.History.{with_ro, changed_entry}
-use Rattle.gt_core.proofs.{Steps.Observers.pins_at, Steps.Observers.unstored, CallsStand.spelled-stays}
-use Rattle.gt_core.proofs.{Legs.passed-valid}
-use Rattle.gt_core.proofs.{Steps.Observers.kept-entry, Steps.Observers.stepped, Steps.Observers.new_pin}
-use Rattle.gt_core.proofs.{Steps.Observers.pinned-live, Steps.Observers.unpinned-live, Steps.Observers.exchanged}
-use Rattle.gt_core.proofs.{Steps.Observers.exchanged-live, Steps.Observers.grown-count, Steps.Observers.at-place}
-use Rattle.gt_core.proofs.{Steps.Observers.pins, Steps.Observers.unpins}
+use Rattle.gt_core.proofs.{Steps.Observers.unstored, CallsStand.spelled-stays}
+use Rattle.gt_core.proofs.{Steps.Observers.kept-entry, Steps.Observers.stepped}
+use Rattle.gt_core.proofs.{Steps.Observers.exchanged}
 
 -- what holds of a step that was right in its call
 

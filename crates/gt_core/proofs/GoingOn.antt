@@ -1,25 +1,25 @@
 -- Every legal history can go on.
-use Rattle.gt_core.proofs.Words.{◌≡◌, ◌≢◌, ◌==◌, ◌<◌, ℕ, refl, true, false, List, [], ◌∷◌, ◌++◌, length, Option, Some}
+use Rattle.gt_core.proofs.Words.{◌≡◌, ◌≢◌, ◌==◌, ℕ, refl, false, List, [], ◌∷◌, ◌++◌, length, Option, Some}
 use Rattle.gt_core.proofs.Words.{None, Bool, cond, cond_both, sym, ap, ◌∙◌, subst, reverse, same_Some, none-some}
 use Rattle.gt_core.proofs.Words.{eqb-true, position-Some, position, get_or, set, slice_get, is_some, DomId, domain_of}
-use Rattle.gt_core.proofs.Words.{Handle, Held, HandleMap, Asked, Seen, Nothing, Verdict, Granted, Given, KeptPin}
+use Rattle.gt_core.proofs.Words.{Handle, Held, HandleMap, Seen, Nothing, Verdict, Granted, Given, KeptPin}
 use Rattle.gt_core.proofs.Words.{Refused, Step, PinStep, ReadBytes, Action, Makes, Done, Call, Phase, knowledge_of}
-use Rattle.gt_core.proofs.Words.{CallerKnowledge, path, action_at, Goes, Starts, Open, Item, Answer, AnswerDone, Mapped}
+use Rattle.gt_core.proofs.Words.{CallerKnowledge, path, action_at, Goes, Starts, Open, Answer, AnswerDone, Mapped}
 use Rattle.gt_core.proofs.Words.{State, state_of, sees, History, Setting, known_at, seen_by, Underway, values}
 use Rattle.gt_core.proofs.Words.{open_call, DomainsStand, StateStands, CallAgrees, OpenAgrees, StateAgrees, applied}
 use Rattle.gt_core.proofs.Words.{with_underway, with_mapping, Adds, AccessedBy, FrameSet, IsRight, CoreStands}
 use Rattle.gt_core.proofs.Words.{FramesStand, core_of, Settled, Closed, answer_with, ticked_with, ticked_element, MayDo}
 use Rattle.gt_core.proofs.Words.{grown, MappingsAgree, mappings_at, maps_answered_at, begun_of, asked, IsSaid, Request}
-use Rattle.gt_core.proofs.Words.{table_at, Begin, Tick, journal_in, map, WriteBytes, CopyBytes, Denied, Did, Element}
+use Rattle.gt_core.proofs.Words.{Begin, Tick, journal_in, map, WriteBytes, CopyBytes, Denied, Did, Element}
 use Rattle.gt_core.proofs.Words.{eq-eqb, CoreState, unwrap_or, nat_lt, replicate, WriteRecord, IsTrue, all_rightful}
 use Rattle.gt_core.proofs.Words.{frames_of_all, pool_number, AreKept, all_zeros, frame_counts, first_state}
 use Rattle.gt_calls.specs.Machine.{standing_after}
 use Rattle.gt_frames.specs.declared.places.FrameCount.{FrameCount}
-use Rattle.gt_calls.specs.Asking.{FitsAsked, bytes_given_by, judged_as}
+use Rattle.gt_calls.specs.Asking.{FitsAsked, judged_as}
 use Rattle.gt_calls.proofs.Advancing.{continues, opens as starts-open}
 use Rattle.gt_calls.specs.declared.call.Start.TheVariants.{Open as StartOpen}
 use Rattle.gt_core.specs.GoingOn.{AccessAnsweredSo, AnsweredSo, CallsCanBegin, IsAccess, IsOnWords, CanBeReached}
-use Rattle.gt_core.specs.GoingOn.{MayBeGiven, OpenCallsCanAccess, OpenCallsCanGoOn, RunsStart, TellsAccess}
+use Rattle.gt_core.specs.GoingOn.{OpenCallsCanAccess, OpenCallsCanGoOn, RunsStart}
 use Rattle.gt_core.specs.GoingOn.{begin_answer, beginning, step_after}
 use Rattle.std.proofs.Common.{◌+◌, ◌-◌, ◌≤◌, arith, drop, length-drop, slice_range, take}
 use Rattle.std.proofs.lemmas.Bool.Decides.{nat_tests}
@@ -44,7 +44,7 @@ use Rattle.gt_core.proofs.{AgreementKept.known-same, Performing.kept-part, Perfo
 use Rattle.gt_core.proofs.{Playing.core-starts}
 use Rattle.gt_core.proofs.{Playing.legal-grows, Starting.get-replicate, Rows.found, Rows.has_id, Rows.not-found}
 use Rattle.gt_core.proofs.{Rows.state_of-set, Steps.Observers.stepped, Steps.Write.frames-begun}
-use Rattle.gt_core.proofs.{Steps.Write.frames-start, Stepping.Begins, Stepping.tick-does, Ticking.Ticks, Ticking.ticks}
+use Rattle.gt_core.proofs.{Stepping.Begins, Stepping.tick-does, Ticking.Ticks, Ticking.ticks}
 use Rattle.gt_core.proofs.{Values.call-ends, Beginning.place-at}
 use Rattle.gt_core.proofs.Starting.{starts as domains-start}
 

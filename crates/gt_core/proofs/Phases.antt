@@ -1,7 +1,7 @@
 -- An open call by its phase: which steps it may make, and what there is to show of each (EachStep does).
-use Rattle.gt_core.proofs.Words.{◌≡◌, ◌≢◌, ℕ, refl, Bool, false, List, [], ◌∷◌, Option, Some, None, cond, sym, ap, ◌∙◌}
+use Rattle.gt_core.proofs.Words.{◌≡◌, ◌≢◌, ℕ, refl, false, List, [], ◌∷◌, Option, Some, None, cond, sym, ap, ◌∙◌}
 use Rattle.gt_core.proofs.Words.{subst, reverse, ◌==◌, is_none, eq-eqb, true≢false, none-some, domain_of, DomId}
-use Rattle.gt_core.proofs.Words.{GrantRef, DomainConfig, Publish, Held, Asked, Verdict, Step, LookHeader, LookControl}
+use Rattle.gt_core.proofs.Words.{GrantRef, DomainConfig, Held, Asked, Verdict, Step, LookHeader, LookControl}
 use Rattle.gt_core.proofs.Words.{LookBody, PinStep, Unpin, StoreBody, StoreHeader, Exchange, ReadBytes, WriteBytes}
 use Rattle.gt_core.proofs.Words.{Seen, Taken, Missed, Action, Makes, Done, Phase, Leg, LegPhase, AtHeader, Look, Body}
 use Rattle.gt_core.proofs.Words.{last_first, begun, FitsStep, action_at, leg_step, next_to_give, IsQuiet, StandsAt}

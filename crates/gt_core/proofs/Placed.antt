@@ -1,10 +1,10 @@
 -- The places of the domains by their numbers, and what is seen of the domain at a place.
-use Rattle.gt_core.proofs.Words.{◌≡◌, ◌==◌, ℕ, zero, suc, refl, Bool, true, false, List, [], ◌∷◌, length, map, Option}
+use Rattle.gt_core.proofs.Words.{◌≡◌, ◌==◌, ℕ, zero, suc, refl, Bool, true, false, List, [], ◌∷◌, length, map}
 use Rattle.gt_core.proofs.Words.{Some, None, cond, ltb, sym, ap, ◌∙◌, arith, get_or, set, position, position_or_len}
 use Rattle.gt_core.proofs.Words.{length-map, DomId, DomainConfig, Step, PinStep, Unpin, StoreBody, StoreHeader}
 use Rattle.gt_core.proofs.Words.{Exchange, Seen, Taken, State, state_of, changed_in, applied, with_slot, with_own}
-use Rattle.gt_core.proofs.Words.{with_header, without_holder, Unpinned, Stored, CountsChange, first_state, Result, Ok}
-use Rattle.gt_core.proofs.Words.{Err, OnErr, take, drop, ◌++◌, ◌≤◌, drop_all, append-nil, take_all}
+use Rattle.gt_core.proofs.Words.{with_header, without_holder, Unpinned, Stored, first_state, Result, Ok}
+use Rattle.gt_core.proofs.Words.{Err, OnErr, take, drop, ◌++◌, drop_all, append-nil, take_all}
 use Rattle.std.specs.Prelude.{OnOk}
 use Rattle.gt_core.specs.declared.pin_counts.CountsChange.TheVariants.{Pinned as PinnedCount}
 use Rattle.gt_core.proofs.{Rows.has_id, Rows.found, Rows.not-found, Performing.kept-id, Steps.See.seen-state}

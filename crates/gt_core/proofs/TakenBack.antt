@@ -1,15 +1,15 @@
 -- What an owner has taken back is reached by no earlier pin.
 use Rattle.gt_core.proofs.Words.{Event, Element, LegalAfter, grown, history_after, slice_index_or, ◌≡◌, ◌≢◌, ◌+◌, ◌⊎◌}
 use Rattle.gt_core.proofs.Words.{inl, inr, ℕ, refl, Bool, true, false, List, [], ◌∷◌, ◌++◌, Option, Some, None, cond}
-use Rattle.gt_core.proofs.Words.{sym, ap, ◌∙◌, subst, arith, All, Any, count_by, sum_by-cons, eq-eqb, eqb-true}
-use Rattle.gt_core.proofs.Words.{false≢true, ◌==◌, All-nil, All-cons, All-head, All-tail, DomId, GrantRef, Dir, Read}
+use Rattle.gt_core.proofs.Words.{sym, ap, ◌∙◌, subst, arith, All, Any, count_by, sum_by-cons, eq-eqb}
+use Rattle.gt_core.proofs.Words.{false≢true, All-nil, All-cons, All-head, All-tail, DomId, Dir, Read}
 use Rattle.gt_core.proofs.Words.{Write, Entry, Page, Sub, Invalid, Via, permits, frame_of, Change, Publish, ToInvalid}
-use Rattle.gt_core.proofs.Words.{ToWithdrawn, Seen, Taken, Step, Exchange, PinStep, Unpin, Held, Holder, Spot}
+use Rattle.gt_core.proofs.Words.{ToWithdrawn, Seen, Taken, Step, Exchange, PinStep, Unpin, Spot}
 use Rattle.gt_core.proofs.Words.{ReadBytes, WriteBytes, CopyBytes, Asked, Copy, ForMap, ForCopy, Answer, Happened}
 use Rattle.gt_core.proofs.Words.{Stepped, Item, History, Setting, Pin, entry_at, live, pinned_by, unpinned_by}
 use Rattle.gt_core.proofs.Words.{is_pin_on, same_dir, reads_at, writes_at, IsRight, IsSafeChange, StepsRightIn}
 use Rattle.gt_core.proofs.Words.{EndIsJustified, CopyIsJustified, Justified, Forwards, IsLegalHistory, open_call}
-use Rattle.gt_core.proofs.Words.{Underway, changed_entry_of, change_of}
+use Rattle.gt_core.proofs.Words.{Underway, changed_entry_of}
 use Rattle.gt_types.specs.declared.Use.{Use}
 use Rattle.gt_entry.specs.Permits.{is_of_frame}
 use Rattle.gt_core.specs.History.{with_ro, changed_entry}

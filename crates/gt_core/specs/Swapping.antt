@@ -1,7 +1,8 @@
 -- When two histories look the same, and when the items of two domains may change places.
-use Rattle.std.specs.Prelude.{◌≡◌, ◌⊎◌, ◌==◌, ◌&&◌, ℕ, Bool, true, false, List, [], ◌∷◌, Option, Some}
+use Rattle.std.specs.Prelude.{◌≡◌, ◌⊎◌, ◌==◌, ◌&&◌, ℕ, Bool, true, false, List, [], ◌∷◌}
 use Rattle.gt_core.specs.Prelude.{DomId, Holder, Held, Step, LookHeader, LookControl, LookBody, PinStep, Exchange}
-use Rattle.gt_core.specs.Prelude.{Request, Seen, StoreBody, ReadBytes, CopyBytes, Half, Item, Happened, Began, Stepped, Patch}
+use Rattle.gt_core.specs.Prelude.{Request, Seen, StoreBody, ReadBytes, CopyBytes, Half, Item, Happened, Began, Stepped}
+use Rattle.gt_core.specs.Prelude.{Patch}
 use Rattle.gt_core.specs.History.{History, Setting, entry_at, raises_at, body_at, table_at, open_call, live, gather}
 use Rattle.gt_core.specs.History.{reads_at, writes_at, maps_answered_at, patches_at, patches_by, written_by, given_in}
 use Rattle.gt_core.specs.History.{contents_at}

@@ -12,7 +12,7 @@ use Rattle.gt_core.proofs.Words.{IsSafeChange, IsLawfulPin, FitsTable, StateStan
 use Rattle.gt_core.proofs.Words.{GivenAgrees}
 use Rattle.gt_core.proofs.Words.{gather, mapping_named, first, false, inl, suc, zero, ◌-◌, cond_both, eq-eqb}
 use Rattle.gt_core.proofs.Words.{false≢true}
-use Rattle.gt_core.proofs.Words.{lt-leb, lt-ltb, ltb-false, ltb-true, nat_le, nat_lt, Read, Write, N18, N19, MAX_TRIES}
+use Rattle.gt_core.proofs.Words.{lt-leb, lt-ltb, ltb-false, ltb-true, nat_le, nat_lt, N18, N19, MAX_TRIES}
 use Rattle.gt_core.proofs.Words.{is_invalid, control_of, control_word, ToReadOnly, ToWritable, ToInvalid, ToWithdrawn}
 use Rattle.gt_core.proofs.Words.{FirstHalf, SecondHalf, last_first, no_pins, action_at, phase_after, refused_as, opens}
 use Rattle.gt_core.proofs.Words.{Continuation, idle_word, path, RestsOnWord, CallerKnowledge, begun, control_with}
@@ -20,7 +20,7 @@ use Rattle.gt_core.proofs.Words.{size_of, stands, HasShown, IsQuiet, IsTurn, Mak
 use Rattle.gt_core.proofs.Words.{Granted, Phase, Changing, Ending, Exchanging, Last, Looking, Walking, MORE_TRIES}
 use Rattle.gt_core.proofs.Words.{Asked, Demote, Grant, Promote, Revoke, Withdraw, known_at, reads_at, seen_by, word_at}
 use Rattle.gt_core.proofs.Words.{writes_at, IsSpelled, StepsSoFar, at_entry, first_at, FitsAsked, PhaseStands}
-use Rattle.gt_core.proofs.Words.{phase_refusal, body_at, table_at, misses, IsLegalHistory}
+use Rattle.gt_core.proofs.Words.{phase_refusal, body_at, table_at, misses}
 use Rattle.gt_core.proofs.{Steps.Observers.unstored, Steps.Observers.answered-stays, Steps.Observers.kept-table}
 use Rattle.gt_core.proofs.{AgreementKept.SlotsAgree, AgreementKept.same-number, AgreementKept.counts-fit}
 use Rattle.gt_core.proofs.{Rows.get-changed}

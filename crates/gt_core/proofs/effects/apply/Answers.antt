@@ -1,4 +1,4 @@
-use Rattle.gt_core.proofs.Words.{◌∙◌, ap, refl, List, State, with_slot, Unpinned}
+use Rattle.gt_core.proofs.Words.{◌∙◌, ap, refl}
 use Rattle.gt_core.proofs.Placed.{ids_in, ids-changed}
 use Rattle.gt_core.proofs.effects.apply.Goals as goal
 

@@ -1,4 +1,4 @@
-use Rattle.gt_core.proofs.Words.{◌≡◌, ◌∙◌, ℕ, List, length, ap, sym, subst, refl, arith, same_Some, slice_get_read}
+use Rattle.gt_core.proofs.Words.{◌≡◌, ◌∙◌, List, length, ap, sym, subst, refl, arith, same_Some, slice_get_read}
 use Rattle.gt_core.proofs.Words.{State, AccessedBy, applied}
 use Rattle.gt_core.proofs.{Placed.ids_in, Placed.ids-applied, Placed.written-back, CallsOver.length-applied}
 use Rattle.gt_core.proofs.kept.Machine.perform.Goals as goal

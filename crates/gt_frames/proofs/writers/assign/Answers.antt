@@ -3,8 +3,8 @@ use Rattle.gt_frames.specs.Bytes.{overlay}
 use Rattle.gt_frames.specs.declared.writers.Stretch.{Stretch}
 use Rattle.gt_frames.specs.Writers.{numbers_of}
 use Rattle.gt_frames.proofs.Stretches.{covered, grown}
-use Rattle.gt_frames.proofs.writers.lay.Goals.{then-end-off, else-end-off}
-use Rattle.gt_frames.proofs.writers.lay.Goals as goal
+use Rattle.gt_frames.proofs.writers.assign.Goals.{then-end-off, else-end-off}
+use Rattle.gt_frames.proofs.writers.assign.Goals as goal
 
 pub returns-then-off-end-clause-numbers : goal.returns-then-off-end-clause-numbers
 returns-then-off-end-clause-numbers c = elim c.if-end-off.branch [
@@ -22,8 +22,8 @@ returns-then-off-end-clause-numbers c = elim c.if-end-off.branch [
 
 pub returns-then-off-latest-clause-numbers : goal.returns-then-off-latest-clause-numbers
 returns-then-off-latest-clause-numbers c =
-    let laid : numbers_of c.settle.new.below.items (record { off = c.args.off; len = c.args.len; number = c.args.number }) ≡ overlay c.settle.new.below.items c.args.off (replicate c.args.len c.args.number) = unfold numbers_of in refl in
-    laid ∙ ap (λ (xs : List ℕ). overlay xs c.args.off (replicate c.args.len c.args.number)) c.settle.ensures.below
+    let laid : numbers_of c.flush.new.below.items (record { off = c.args.off; len = c.args.len; number = c.args.number }) ≡ overlay c.flush.new.below.items c.args.off (replicate c.args.len c.args.number) = unfold numbers_of in refl in
+    laid ∙ ap (λ (xs : List ℕ). overlay xs c.args.off (replicate c.args.len c.args.number)) c.flush.ensures.below
 
 pub returns-else-end-off-2-clause-numbers : goal.returns-else-end-off-2-clause-numbers
 returns-else-end-off-2-clause-numbers c =

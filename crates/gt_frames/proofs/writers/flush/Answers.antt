@@ -1,7 +1,7 @@
 use Rattle.std.proofs.Common.{refl}
 use Rattle.gt_frames.specs.Writers.{numbers_of}
 use Rattle.gt_frames.proofs.Stretches.{no_stretch}
-use Rattle.gt_frames.proofs.writers.settle.Goals as goal
+use Rattle.gt_frames.proofs.writers.flush.Goals as goal
 
 pub returns-clause-below : goal.returns-clause-below
 returns-clause-below c = unfold numbers_of in c.fill.ensures
