@@ -1,8 +1,10 @@
 -- Pieces, and the list that they make.
-use Rattle.std.proofs.Common.{◌≡◌, ◌≢◌, ◌≤◌, ◌<◌, ◌+◌, ◌-◌, ◌*◌, ◌/◌, ◌%◌, ℕ, zero, suc, refl, List, [], ◌∷◌, ◌++◌}
-use Rattle.std.proofs.Common.{length, ap, subst, sym, ◌∙◌, arith, slice_get, take, OnOk, Option, None, Some, Result, Ok}
+use Rattle.std.proofs.Common.{◌≡◌, ◌≤◌, ◌<◌, ◌+◌, ◌*◌, ◌/◌, ℕ, zero, suc, refl, List, [], ◌∷◌, ◌++◌}
+use Rattle.std.proofs.Common.{length, ap, subst, sym, ◌∙◌, arith, slice_get, take, OnOk, OnErr, None, Some, Result, Ok}
 use Rattle.std.proofs.Common.{Err, get_or, append_assoc, append-nil, length-append}
 use Rattle.std.proofs.Math.ListN.{set}
+use Rattle.std.proofs.Common.{replicate}
+use Rattle.std.proofs.lemmas.List.{replicate-append-replicate}
 use Rattle.std.proofs.Math.Seq.{get_or-append_seam}
 use Rattle.std.proofs.lemmas.Option.{get_or_from_slice_get, slice_get-get_or, slice_get_past}
 use Rattle.gt_audit.specs.declared.record.Record.{Record}
@@ -143,6 +145,29 @@ extends-add ps qs rs e added =
       filled = λ n f. subst (λ (ts : List (List Record)). AreFilled n ts) (sym added) (filled-add n qs (e.filled n f));
       grows = omega (arith, ap (λ (ts : List (List Record)). length ts) added, length-append qs ([] ∷ []), e.grows);
     }
+
+-- so many more empty pieces
+pub extends-many : (ps : List (List Record)) (n : ℕ) → Extends ps (ps ++ replicate n [])
+extends-many ps zero = subst (λ (qs : List (List Record)). Extends ps qs) (sym (append-nil ps)) (extends-none ps)
+extends-many ps (suc n) =
+    let first = extends-add ps ps (ps ++ [] ∷ []) (extends-none ps) refl in
+    let rest = extends-many (ps ++ [] ∷ []) n in
+    let both : Extends ps ((ps ++ [] ∷ []) ++ replicate n []) =
+    record {
+      records = rest.records ∙ first.records;
+      filled = λ k f. rest.filled k (first.filled k f);
+      grows = omega (arith, rest.grows, first.grows);
+    } in
+    subst (λ (qs : List (List Record)). Extends ps qs) (append_assoc ps ([] ∷ []) (replicate n [])) both
+
+pub replicate-more : (n : ℕ) (p : List Record) → replicate n p ++ p ∷ [] ≡ replicate (n + 1) p
+replicate-more n p = replicate-append-replicate n 1 p
+
+-- so many more, or none
+pub extends-either : {E : Type 0} (r : Result (Unit {0}) E) (ps qs : List (List Record)) (n : ℕ) → OnOk r (qs ≡ ps ++ replicate n [])
+    → OnErr r (qs ≡ ps) → Extends ps qs
+extends-either (Ok u) ps qs n added same = subst (λ (xs : List (List Record)). Extends ps xs) (sym added) (extends-many ps n)
+extends-either (Err e) ps qs n added same = subst (λ (xs : List (List Record)). Extends ps xs) (sym same) (extends-none ps)
 
 pub room-ahead : (at n : ℕ) (ps : List (List Record)) → AreFilled at ps → at + n / 256 + 2 ≤ length ps → n ≤ room_of ps
 room-ahead at n ps f ahead = omega (arith, joined-below at ps f, ahead)

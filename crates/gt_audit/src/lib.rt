@@ -23,6 +23,7 @@ mod told;
 mod trail;
 
 pub use lines::{line, push_line, push_lost};
+pub use pieces::MOST_RESERVED;
 pub use record::{Hypercall, Record, Reply};
 pub use shared::{Pushed, SharedLog};
 pub use told::Told;

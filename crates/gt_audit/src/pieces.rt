@@ -1,6 +1,7 @@
 //! A list of records that grows by pieces. A record stays where it was put.
 ghost use Rattle.std.specs.Prelude.{◌≡◌, ◌<◌, ◌≤◌, ◌+◌, ◌++◌, ◌∷◌, [], IfOk, OnErr, OnOk, length, slice_index_or};
-ghost use Rattle.gt_audit.specs.Pieces.{AreFilled, Extends, HasRoomAt, joined, room_of};
+ghost use Rattle.std.specs.Prelude.{replicate};
+ghost use Rattle.gt_audit.specs.Pieces.{AreFilled, HasRoomAt, joined, room_of};
 
 use crate::compact::Compact;
 use crate::record::{Hypercall, Record, Reply};
@@ -10,6 +11,9 @@ use std::marker::Model;
 
 /// How many records a piece has room for: it takes 12 KiB.
 pub(crate) const PIECE: usize = 256;
+
+/// The most records that room is made for at once: 2^24, which take 768 MiB.
+pub const MOST_RESERVED: usize = 16_777_216;
 
 // What room for records is filled with while it is made.
 const BLANK: Record = Record {
@@ -112,15 +116,19 @@ fn add_written(alloc: Global, pieces: &mut Vec<Piece>) -> Result<(), AllocError>
     Ok(())
 }
 
-// Adds so many of them; fewer if memory is refused.
+// Adds `count` of them, or none if memory is refused.
 fn add_pieces(alloc: Global, pieces: &mut Vec<Piece>, count: usize) -> Result<(), AllocError>
-    ensures same { Extends pieces.old.items pieces.new.items }
-    ensures added { OnOk result (length pieces.new.items ≡ length pieces.old.items + count) }
+    ensures added { OnOk result (pieces.new.items ≡ pieces.old.items ++ replicate count []) }
+    ensures refused { OnErr result (pieces.new.items ≡ pieces.old.items) }
 {
+    let had = pieces.len();
     'added: for _ in 0..count {
         match add_written(alloc, pieces) {
             Ok(()) => {}
-            Err(refused) => return Err(refused),
+            Err(refused) => {
+                pieces.truncate(had);
+                return Err(refused);
+            }
         }
     }
     Ok(())
@@ -204,6 +212,7 @@ impl Model for Pieces {
 
 impl Pieces {
     ghost use Rattle.std.specs.Prelude.{◌≡◌, ◌≤◌, ◌+◌, ◌++◌, ◌∷◌, [], OnErr, OnOk, slice_get};
+    ghost use Rattle.gt_audit.specs.declared.pieces.TheConstants.{MOST_RESERVED};
 
     /// No records. It takes no memory.
     pub(crate) fn new(alloc: Global) -> Pieces
@@ -251,12 +260,18 @@ impl Pieces {
         self.at = 0;
     }
 
-    /// Makes room for so many more records, and writes it once.
+    /// Makes room for this many more records, and writes it once. If memory is refused, what was taken for it goes
+    /// back. More than [`MOST_RESERVED`] are refused before any memory is taken.
     pub(crate) fn reserve(&mut self, records: usize) -> Result<(), AllocError>
         ensures records { self.new.records ≡ self.old.records }
         ensures grows { self.old.room ≤ self.new.room }
         ensures room { OnOk result (records ≤ self.new.room) }
+        ensures bound { OnOk result (records ≤ MOST_RESERVED) }
+        ensures refused { OnErr result (self.new ≡ self.old) }
     {
+        if records > MOST_RESERVED {
+            return Err(AllocError);
+        }
         let ahead = self.pieces.len() - self.at;
         let wanted = records / PIECE + 2;
         add_pieces(self.alloc, &mut self.pieces, wanted.saturating_sub(ahead))

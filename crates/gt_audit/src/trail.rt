@@ -33,8 +33,9 @@ impl Model for Trail {
 }
 
 impl Trail {
-    ghost use Rattle.std.specs.Prelude.{◌≡◌, ◌==◌, ◌≤◌, OnOk, IfOk, length, slice_get};
+    ghost use Rattle.std.specs.Prelude.{◌≡◌, ◌==◌, ◌≤◌, OnErr, OnOk, IfOk, length, slice_get};
     ghost use Rattle.gt_audit.specs.Telling.{silent, ArePartsOf, HasNone, Tells};
+    ghost use Rattle.gt_audit.specs.declared.pieces.TheConstants.{MOST_RESERVED};
 
     /// No records, and as many may come as memory gives. It takes no memory.
     pub fn new(alloc: Global) -> Trail
@@ -57,13 +58,15 @@ impl Trail {
         self.most = records;
     }
 
-    /// Makes room for so many more records, and writes it once, so that the pages are there before the records come.
-    /// What it keeps stays, also if memory is refused.
+    /// Makes room for this many more records, and writes it once, so that the pages are there before the records come.
     ///
     /// # Errors
     ///
-    /// `Memory`.
+    /// `Memory` if memory is refused, and for more than [`MOST_RESERVED`] records, before any memory is taken. The trail
+    /// is then as it was: what was taken for the room has gone back.
     pub fn reserve(&mut self, records: usize) -> Result<(), Memory>
+        ensures bound { OnOk result (records ≤ MOST_RESERVED) }
+        ensures refused { OnErr result (self.new ≡ self.old) }
         ensures room { OnOk result (records ≤ self.new.room) }
         ensures grows { self.old.room ≤ self.new.room }
         ensures kept { self.new ≡ record self.old { room = self.new.room } }

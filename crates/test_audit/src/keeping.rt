@@ -1,5 +1,5 @@
 //! Trails, and a log that threads share.
-use gt_audit::{Hypercall, Record, Reply, SharedLog, Told, Trail};
+use gt_audit::{Hypercall, MOST_RESERVED, Record, Reply, SharedLog, Told, Trail};
 use gt_types::DomId;
 use std::sync::Wait;
 use std::test::Fail;
@@ -84,6 +84,15 @@ fn a_trail_keeps_no_more_than_it_may(rt: HostRuntime) -> Result<(), Fail> {
     trail.push(record(1, 5));
     assert_eq!(rt; (trail.len(), trail.lost()), (3, 3));
     Ok(())
+}
+
+#[test]
+fn too_much_room_is_refused_before_any_is_taken(rt: HostRuntime) {
+    let mut trail = Trail::new(rt.alloc());
+    assert!(rt; trail.reserve(MOST_RESERVED + 1).is_err());
+    assert!(rt; trail.reserve(usize::MAX).is_err());
+    trail.push(record(1, 0));
+    assert_eq!(rt; (trail.len(), trail.lost()), (1, 0));
 }
 
 // Pushes records, and counts those that their token and a look under their number give back.

@@ -1,4 +1,4 @@
-use Rattle.std.proofs.Common.{◌≡◌, ◌<◌, ◌+◌, ◌∙◌, ap, sym, arith, length, get_or, [], add-one, List}
+use Rattle.std.proofs.Common.{◌≡◌, ◌+◌, ◌∙◌, ap, sym, arith, length, get_or, [], add-one, List}
 use Rattle.std.proofs.lemmas.Bool.{eqb-true}
 use Rattle.gt_audit.specs.declared.record.Record.{Record}
 use Rattle.gt_audit.proofs.Joining.{after-empty, filled-next}

@@ -1,4 +1,4 @@
-use Rattle.std.proofs.Common.{◌≡◌, ◌+◌, ◌*◌, ◌/◌, ◌%◌, ◌∙◌, ℕ, arith, ap, length, List, slice_get, sym}
+use Rattle.std.proofs.Common.{◌≡◌, ◌+◌, ◌*◌, ◌/◌, ◌%◌, ◌∙◌, ℕ, arith, ap, List, slice_get, sym}
 use Rattle.gt_audit.specs.declared.record.Record.{Record}
 use Rattle.gt_audit.specs.Pieces.{Filling, joined}
 use Rattle.gt_audit.proofs.Joining.{past-get, place-get}
