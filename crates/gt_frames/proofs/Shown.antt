@@ -54,7 +54,7 @@ pub empty_read : (xs : List ℕ) (at : ℕ) → length xs ≡ 0 → get_or xs at
 empty_read [] at none = refl
 empty_read (x ∷ xs) at none = absurd (omega (arith, none))
 
-module _ (w v : Writers) (writs : v.writs ≡ w.writs) (used : v.used ≡ w.used) (most : v.most ≡ w.most) (sound : AreWriters w) where
+module _ (w v : Writers) (writs : v.writs ≡ w.writs) (used : v.used ≡ w.used) (limit : v.limit ≡ w.limit) (sound : AreWriters w) where
   same-writs : v.writs.items ≡ w.writs.items
   same-writs = ap (λ x. x.items) writs
 
@@ -70,8 +70,8 @@ module _ (w v : Writers) (writs : v.writs ≡ w.writs) (used : v.used ≡ w.used
   still-few : length v.writs.items ≤ most_writs
   still-few = omega (arith, count, sound.few)
 
-  still-looks : v.most ≤ most_writs
-  still-looks = omega (arith, most, sound.looks)
+  still-looks : v.limit ≤ most_writs
+  still-looks = omega (arith, limit, sound.looks)
 
   -- a range was given the number of a writ
   pub sound_show :

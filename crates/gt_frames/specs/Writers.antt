@@ -1,4 +1,4 @@
--- Who wrote each byte of a frame last, and by what right.
+-- The last writer of each byte of a frame, and the right by which it wrote.
 use Rattle.std.specs.Prelude.{◌≡◌, ℕ, zero, suc, ◌+◌, ◌*◌, ◌<◌, ◌≤◌, Bool, false, true, ◌&&◌, ◌⊎◌, if◌then◌else◌, nat_le}
 use Rattle.std.specs.Prelude.{nat_lt, List, [], ◌∷◌, length, replicate, slice_get, slice_index_or, Option, Some, None}
 use Rattle.gt_types.specs.declared.limits.TheConstants.{FRAME_SIZE}
@@ -22,7 +22,7 @@ abbrev pub writ_under : List Writ → ℕ → Option Writ
 writ_under ws zero = None
 writ_under ws (suc place) = slice_get ws place
 
--- the number of each byte: the latest stretch has its own, whatever stands in the list below it
+-- the number of each byte: in the latest stretch that of the stretch, whatever the list below has there
 unfoldable pub numbers_of : List ℕ → Stretch → List ℕ
 numbers_of below s = overlay below s.off (replicate s.len s.number)
 
@@ -45,11 +45,11 @@ count_used [] = 0
 count_used (true ∷ used) = suc (count_used used)
 count_used (false ∷ used) = count_used used
 
--- so many writs are kept at most
+-- the most writs that a frame keeps
 abbrev pub most_writs : ℕ
 most_writs = 2 * FRAME_SIZE
 
--- the number of each byte is that of a writ, whose place is marked, and there are not too many writs
+-- the number of each byte is that of a writ, whose place is marked, and the writs are within their bound
 pub record AreWriters (w : Writers) : Type 0 where
   pub size : (length w.below.items ≡ 0) ⊎ (length w.below.items ≡ FRAME_SIZE)
   pub lies : LiesIn w.latest w.below.items
@@ -57,7 +57,7 @@ pub record AreWriters (w : Writers) : Type 0 where
   pub marked : (at : ℕ) → IsUsed w.used.items (slice_index_or (numbers_of w.below.items w.latest) at 0)
   pub places : length w.used.items ≡ length w.writs.items
   pub few : length w.writs.items ≤ most_writs
-  pub looks : w.most ≤ most_writs
+  pub looks : w.limit ≤ most_writs
 
 -- each byte has the writ that it had
 abbrev pub ShowsSame : Writers → Writers → Type 0

@@ -1,4 +1,4 @@
-//! Who wrote each byte of a frame last, and by what right.
+//! The last writer of each byte of a frame, and the right by which it wrote.
 ghost use Rattle.std.specs.Prelude.{◌≡◌, ◌+◌, ◌<◌, ◌≤◌, ℕ, IfSome, None, false, true, length, replicate, slice_index_or};
 ghost use Rattle.gt_frames.specs.Bytes.{overlay};
 ghost use Rattle.gt_frames.specs.Writers.{IsUsed, LiesIn, count_used, numbers_of};
@@ -7,10 +7,10 @@ use crate::Writ;
 use gt_types::{FRAME_SIZE, Memory};
 use std::alloc::Global;
 
-// So many writs are kept before those that show no byte any more are looked for.
-const FEWEST: usize = 128;
+// The fewest writs at which unused ones are searched for.
+const MIN_LIMIT: usize = 128;
 
-// Bytes that lie side by side and have the same number.
+// Consecutive bytes with the same number.
 #[derive(Clone, Copy)]
 struct Stretch {
     off: usize,
@@ -18,38 +18,40 @@ struct Stretch {
     number: u16,
 }
 
-// No bytes.
-const NOTHING: Stretch = Stretch {
+// A stretch of no bytes.
+const EMPTY: Stretch = Stretch {
     off: 0,
     len: 0,
     number: 0,
 };
 
-/// For each byte of a frame the writ by which it was last written. It takes no memory before the first write.
+/// The writ by which each byte of a frame was last written. Takes no memory before the first write.
 ///
-/// A writ stays while it shows a byte. Its place is given to another one later, so there are at most twice as many
-/// places as writs that show bytes, or 128.
+/// A writ is kept while a byte has it; later its place is reused. There are at most 128 places, or twice as many as
+/// there are writs in use, if that is more.
 #[derive(Drop)]
 pub(crate) struct Writers {
     alloc: Global,
-    // For each byte the number of its writ, which is its place and one more; 0 if the byte was never written. What
-    // stands here for a byte of the latest stretch is of no account.
+    // The number of each byte's writ: its place plus one, or 0 if the byte was never written. Empty before the first
+    // write. Entries within the latest stretch are stale.
     below: Vec<u16>,
-    // The bytes that were written last. Their number is laid over those below only once others are written by another
-    // writ, so that writing the same bytes again, or more, costs the same however many they are.
+    // The bytes written last. Their number is copied to `below` only if a write needs another stretch, so writing the
+    // same bytes again takes the same time, however many they are.
     latest: Stretch,
     writs: Vec<Writ>,
-    // Whether a byte may have the writ at this place.
+    // For each place, whether a byte may have its writ.
     used: Vec<bool>,
-    // The number of the writ that was used last, 0 if there is none.
+    // The number of the writ used last, or 0.
     last: u16,
-    // From this place on a free one is looked for.
+    // The number of the writ used before that one, or 0. Two writs that alternate keep their places.
+    previous: u16,
+    // The place at which the search for a free one begins.
     next: usize,
-    // With so many places, unused ones are looked for before one is added.
-    most: usize,
+    // At this many places, unused ones are searched for before another is added.
+    limit: usize,
 }
 
-// The first place from this one on that is not used.
+// The first unused place at or after `from`.
 fn first_free(used: &[bool], from: usize) -> Option<usize>
     ensures some { IfSome result (λ n. (n < length used.now) × (slice_index_or used.now n true ≡ false)) }
     ensures none { result ≡ None → (at : ℕ) → from ≤ at → slice_index_or used.now at true ≡ true }
@@ -62,7 +64,7 @@ fn first_free(used: &[bool], from: usize) -> Option<usize>
     None
 }
 
-// Marks the places of the numbers that bytes have, and no others.
+// Marks the places of these numbers, and no others.
 fn mark(numbers: &[u16], used: &mut [bool])
     requires within { (at : ℕ) → slice_index_or numbers.now at 0 ≤ length used.old }
     ensures marked { (at : ℕ) → IsUsed used.new (slice_index_or numbers.now at 0) }
@@ -87,7 +89,7 @@ fn clear(used: &mut [bool])
     }
 }
 
-// How many places are used.
+// The number of used places.
 fn count(used: &[bool]) -> usize
     ensures { result ≡ count_used used.now }
 {
@@ -100,7 +102,7 @@ fn count(used: &[bool]) -> usize
     count
 }
 
-// Gives the bytes of this range a number.
+// Sets the numbers of this range.
 #[inline(always)]
 fn fill(numbers: &mut Vec<u16>, off: usize, len: usize, number: u16)
     requires { off + len ≤ length numbers.old.items }
@@ -109,7 +111,7 @@ fn fill(numbers: &mut Vec<u16>, off: usize, len: usize, number: u16)
     set_all(&mut numbers[off..off + len], number);
 }
 
-// Makes each of these numbers this one. The loop becomes one over 8 of them at a time.
+// Sets each of these numbers. The loop is vectorized, 8 numbers at a time.
 #[inline(always)]
 fn set_all(numbers: &mut [u16], number: u16)
     ensures { numbers.new ≡ replicate (length numbers.old) number }
@@ -119,10 +121,10 @@ fn set_all(numbers: &mut [u16], number: u16)
     }
 }
 
-// Lays the latest stretch over the numbers below it, and leaves none.
+// Copies the number of the latest stretch to the numbers below it, and empties the stretch.
 #[cold]
 #[inline(never)]
-fn settle(below: &mut Vec<u16>, latest: &mut Stretch)
+fn flush(below: &mut Vec<u16>, latest: &mut Stretch)
     requires { LiesIn latest.old below.old.items }
     ensures below { below.new.items ≡ numbers_of below.old.items latest.old }
     ensures all { numbers_of below.new.items latest.new ≡ below.new.items }
@@ -130,12 +132,12 @@ fn settle(below: &mut Vec<u16>, latest: &mut Stretch)
     ensures len { length below.new.items ≡ length below.old.items }
 {
     fill(below, latest.off, latest.len, latest.number);
-    *latest = NOTHING;
+    *latest = EMPTY;
 }
 
-// Gives the bytes of this range a number.
+// Gives the bytes of this range this number. Copies none if they hold the whole latest stretch, or continue it.
 #[inline(always)]
-fn lay(below: &mut Vec<u16>, latest: &mut Stretch, number: u16, off: usize, len: usize)
+fn assign(below: &mut Vec<u16>, latest: &mut Stretch, number: u16, off: usize, len: usize)
     requires lies { LiesIn latest.old below.old.items }
     requires range { off + len ≤ length below.old.items }
     ensures numbers { numbers_of below.new.items latest.new
@@ -151,7 +153,7 @@ fn lay(below: &mut Vec<u16>, latest: &mut Stretch, number: u16, off: usize, len:
         return;
     }
     if off > latest.off || end > off + len {
-        settle(below, latest);
+        flush(below, latest);
     }
     *latest = Stretch { off, len, number };
 }
@@ -163,7 +165,7 @@ impl Writers {
     ghost use Rattle.gt_frames.specs.Writers.{AreWriters, HasWrit, IsFree, IsUsed, KeepsWriters, ShowsSame, shown};
     ghost use Rattle.gt_frames.specs.Writers.{count_used, most_writs, numbers_of};
 
-    /// No byte was written.
+    /// No byte has been written.
     pub(crate) fn new(alloc: Global) -> Writers
         ensures sound { AreWriters result }
         ensures none { (at : ℕ) → shown result at ≡ None }
@@ -171,16 +173,17 @@ impl Writers {
         Writers {
             alloc,
             below: Vec::new(alloc),
-            latest: NOTHING,
+            latest: EMPTY,
             writs: Vec::new(alloc),
             used: Vec::new(alloc),
             last: 0,
+            previous: 0,
             next: 0,
-            most: FEWEST,
+            limit: MIN_LIMIT,
         }
     }
 
-    // Makes room for the numbers of all bytes, if it isn't there.
+    // Makes room for the numbers of all bytes, unless there is.
     fn make_numbers(&mut self) -> Result<(), Memory>
         requires { AreWriters self.old }
         ensures sound { AreWriters self.new }
@@ -193,7 +196,7 @@ impl Writers {
         Ok(())
     }
 
-    // Adds a place with this writ, which no byte has.
+    // Adds a place for this writ, which no byte has yet.
     fn add(&mut self, writ: &Writ) -> Result<usize, Memory>
         requires sound { AreWriters self.old }
         requires few { length self.old.writs.items < most_writs }
@@ -208,19 +211,19 @@ impl Writers {
         Ok(place)
     }
 
-    // Finds out which places are used.
-    fn look_for_unused(&mut self)
+    // Finds the places that no byte uses.
+    fn find_unused(&mut self)
         requires { AreWriters self.old }
         ensures same { KeepsWriters self.old self.new }
         ensures few { count_used self.new.used.items ≤ FRAME_SIZE }
     {
-        settle(&mut self.below, &mut self.latest);
+        flush(&mut self.below, &mut self.latest);
         mark(&self.below, &mut self.used);
-        self.most = (2 * count(&self.used)).max(FEWEST);
+        self.limit = (2 * count(&self.used)).max(MIN_LIMIT);
     }
 
-    // A place whose writ no byte has. If none is known, unused ones are looked for anew once there are many places;
-    // otherwise one is added.
+    // A place whose writ no byte has. If none is known, searches for unused ones once there are enough places, and
+    // otherwise adds one.
     fn free_place(&mut self, writ: &Writ) -> Result<usize, Memory>
         requires { AreWriters self.old }
         ensures same { KeepsWriters self.old self.new }
@@ -229,8 +232,8 @@ impl Writers {
         if let Some(place) = first_free(&self.used, self.next) {
             return Ok(place);
         }
-        if self.writs.len() >= self.most {
-            self.look_for_unused();
+        if self.writs.len() >= self.limit {
+            self.find_unused();
             if let Some(place) = first_free(&self.used, 0) {
                 return Ok(place);
             }
@@ -238,7 +241,7 @@ impl Writers {
         self.add(writ)
     }
 
-    // Puts the writ at a place that no byte has.
+    // Puts the writ at a place that no byte uses.
     fn put(&mut self, place: usize, writ: &Writ)
         requires sound { AreWriters self.old }
         requires free { IsFree self.old place }
@@ -250,20 +253,21 @@ impl Writers {
         self.next = place + 1;
     }
 
-    // Whether the writ that was used last is this one.
+    // Whether this number is that of this writ.
     #[inline(always)]
-    fn is_last(&self, writ: &Writ) -> bool
+    fn is_writ(&self, number: u16, writ: &Writ) -> bool
         ensures { result ≡ true →
-            (0 < self.now.last) × (slice_get self.now.writs.items (self.now.last - 1) ≡ Some writ.now) }
+            (0 < number) × (number ≤ length self.now.writs.items)
+            × (slice_get self.now.writs.items (number - 1) ≡ Some writ.now) }
     {
-        let number = usize::from(self.last);
+        let number = usize::from(number);
         if number == 0 || number > self.writs.len() {
             return false;
         }
         self.writs[number - 1].is(writ)
     }
 
-    // The number of this byte.
+    // The number of this byte's writ, or 0.
     fn number_at(&self, at: usize) -> usize
         requires { AreWriters self.now }
         ensures { result ≡ slice_index_or (numbers_of self.now.below.items self.now.latest) at 0 }
@@ -278,7 +282,7 @@ impl Writers {
         }
     }
 
-    /// By which writ the byte was last written.
+    /// The writ by which this byte was last written.
     pub(crate) fn last_writ(&self, at: usize) -> Option<Writ>
         requires { AreWriters self.now }
         ensures { result ≡ shown self.now at }
@@ -291,11 +295,11 @@ impl Writers {
         }
     }
 
-    /// The number of a writ, with which bytes can be shown.
+    /// The number of this writ, for `show`. Adds the writ if it is new.
     ///
     /// # Errors
     ///
-    /// `Memory`, and each byte has the writ that it had.
+    /// `Memory`. Each byte then has the writ that it had.
     #[inline(always)]
     pub(crate) fn number_of(&mut self, writ: &Writ) -> Result<u16, Memory>
         requires { AreWriters self.old }
@@ -304,19 +308,38 @@ impl Writers {
         ensures len { OnOk result (length self.new.below.items ≡ FRAME_SIZE) }
         ensures has { IfOk result (λ n. HasWrit self.new n writ.now) }
     {
-        if self.is_last(writ) && self.below.len() == FRAME_SIZE as usize {
+        if self.is_writ(self.last, writ) && self.below.len() == FRAME_SIZE as usize {
             let place = usize::from(self.last) - 1;
             self.used[place] = true;
             return Ok(self.last);
         }
-        self.number_anew(*writ)
+        self.number_of_other(*writ)
     }
 
-    // The same, for another writ than the last one. It takes the writ by value, so that nobody else has to have it in
-    // memory.
+    // The number of the previous writ, which becomes the last one.
+    fn use_previous(&mut self) -> u16
+        requires sound { AreWriters self.old }
+        requires there { (0 < self.old.previous) × (self.old.previous ≤ length self.old.writs.items) }
+        ensures sound { AreWriters self.new }
+        ensures same { ShowsSame self.old self.new }
+        ensures below { self.new.below ≡ self.old.below }
+        ensures writs { self.new.writs ≡ self.old.writs }
+        ensures number { result ≡ self.old.previous }
+        ensures used { IsUsed self.new.used.items result }
+    {
+        let number = self.previous;
+        self.previous = self.last;
+        self.last = number;
+        let place = usize::from(number) - 1;
+        self.used[place] = true;
+        number
+    }
+
+    // The slow path of `number_of`: another writ than the last, or the frame's first write. Takes the writ by value, so
+    // that the fast path can keep it in registers.
     #[cold]
     #[inline(never)]
-    fn number_anew(&mut self, writ: Writ) -> Result<u16, Memory>
+    fn number_of_other(&mut self, writ: Writ) -> Result<u16, Memory>
         requires { AreWriters self.old }
         ensures sound { AreWriters self.new }
         ensures same { ShowsSame self.old self.new }
@@ -324,13 +347,17 @@ impl Writers {
         ensures has { IfOk result (λ n. HasWrit self.new n writ) }
     {
         self.make_numbers()?;
+        if self.is_writ(self.previous, &writ) {
+            return Ok(self.use_previous());
+        }
         let place = self.free_place(&writ)?;
         self.put(place, &writ);
+        self.previous = self.last;
         self.last = place as u16 + 1;
         Ok(self.last)
     }
 
-    /// From now on the bytes of this range have the writ with this number.
+    /// Records that the bytes of this range were written by the writ with this number.
     #[inline(always)]
     pub(crate) fn show(&mut self, number: u16, off: usize, len: usize)
         requires sound { AreWriters self.old }
@@ -343,6 +370,6 @@ impl Writers {
             ≡ overlay (numbers_of self.old.below.items self.old.latest) off (replicate len number) }
         ensures len { length self.new.below.items ≡ length self.old.below.items }
     {
-        lay(&mut self.below, &mut self.latest, number, off, len);
+        assign(&mut self.below, &mut self.latest, number, off, len);
     }
 }
