@@ -1,8 +1,10 @@
 -- What the calls know between their steps.
 use Rattle.std.proofs.Common.{◌≡◌, ℕ, ◌+◌, ◌-◌, ◌≤◌, inl, length-take, length-drop, List, [], ◌∷◌, arith, drop, take, Bool, true, false, length, sym, refl, ap, ◌∙◌, subst}
-use Rattle.std.specs.Prelude.{Some, None}
+use Rattle.std.specs.Prelude.{IsTrue, Some, None, ◌&&◌, ◌++◌}
 use Rattle.atomic_table.specs.Table.{Allows, Me, rest}
-use Rattle.gt_frames.specs.Frames.{FrameState, bytes_at, contents, recorded}
+use Rattle.gt_frames.specs.Frames.{FrameState, IsKept, all_rightful, bytes_at, contents, is_rightful, recorded}
+use Rattle.gt_frames.specs.declared.writ.WriteRecord.{WriteRecord}
+use Rattle.gt_types.specs.declared.DomId.{DomId}
 use Rattle.gt_frames.specs.declared.writ.Writ.{Writ}
 use Rattle.gt_words.specs.Views.{IsAmong}
 use Rattle.gt_words.specs.declared.view.FrameStep.TheVariants.{Copied}
@@ -107,19 +109,37 @@ bytes_again x off len size inside = ap (bytes_at x off) (sym (bytes_len x off le
 pub took_is : (k : Layout) (s : Slot) (me m : Me Cell Holder) (t : Took k s me m) (x : FrameState) → m.1 ≡ (s.index, Some x) ∷ rest m.1 → t.0 ≡ x
 took_is k s me m t x e = one_value t.0 x (ap front (sym (ap (λ (z : Me Cell Holder). z.1) t.1) ∙ e))
 
+second_of : (a b : Bool) → IsTrue (a && b) → IsTrue b
+second_of true b e = e
+second_of false b e = absurd (cc e)
+
+first_of : (a b : Bool) → IsTrue (a && b) → IsTrue a
+first_of true b e = cc
+first_of false b e = absurd (cc e)
+
+-- the last record of a journal of rightful writes is by right
+pub last_right : (owner : DomId) (number : ℕ) (rs : List WriteRecord) (r : WriteRecord) → IsTrue (all_rightful owner number (rs ++ r ∷ [])) → IsTrue (is_rightful owner number r)
+last_right owner number [] r e = first_of (is_rightful owner number r) true e
+last_right owner number (x ∷ rs) r e = last_right owner number rs r (second_of (is_rightful owner number x) (all_rightful owner number (rs ++ r ∷ [])) e)
+
+-- a write that was made is by right
+pub is_right : (x frame : FrameState) (w : Writ) (off : ℕ) (ys : List ℕ) → frame ≡ record x { journal = recorded x.journal w off ys } → IsKept frame
+    → IsTrue (is_rightful x.owner x.number (record { writ = w; off = off; bytes = ys }))
+is_right x frame w off ys is kept = last_right x.owner x.number x.journal (record { writ = w; off = off; bytes = ys }) (subst IsKept is kept)
+
 -- a copy within a frame that was just taken
 pub frees_within : (b : Places) (slots id : ℕ) (z : TableId) (s : Slot) (me0 m0 m1 m2 : Me Cell Holder) (t : Took b.layout s me0 m0) → IsSlotOf b z s → (x frame : FrameState) → IsOut b.layout s true x m0
     → m1 ≡ (m0.0, (s.index, None) ∷ rest m0.1) → m2 ≡ (m1.0, (s.index, Some frame) ∷ rest m1.1) → (w : Writ) (off len to : ℕ) → length (contents x) ≡ FRAME_SIZE → off + len ≤ FRAME_SIZE
-    → frame ≡ record x { journal = recorded x.journal w to (bytes_at x off len) } → m0.0.own.gone ≡ false
+    → frame ≡ record x { journal = recorded x.journal w to (bytes_at x off len) } → IsKept frame → m0.0.own.gone ≡ false
     → Allows (HoldsAll b) slots id m2 s.lock (λ _. 0) (λ _ m'. Frees b (name_of s) (Copied s.owner s.number off (record { writ = w; off = to; bytes = bytes_at (held_first m2.0.held) off len })) (left_by true m2.0.held) m2 m')
-frees_within b slots id z s me0 m0 m1 m2 t of x frame out e f w off len to size inside is here =
+frees_within b slots id z s me0 m0 m1 m2 t of x frame out e f w off len to size inside is kept here =
     let same : m2.0 ≡ m0.0 = ap (λ (z : Me Cell Holder). z.0) f ∙ ap (λ (z : Me Cell Holder). z.0) e in
     let x_is : t.0 ≡ x = took_is b.layout s me0 m0 t x out.carried in
     let held_is : m0.0.held ≡ (s.index, x) ∷ me0.0.held = ap (λ (z : Me Cell Holder). z.0.held) t.1 ∙ ap (λ (y : FrameState). (s.index, y) ∷ me0.0.held) x_is in
     let first : held_first m2.0.held ≡ x = ap (λ (v : Holder). held_first v.held) same ∙ ap held_first held_is in
     subst (λ (y : FrameState). Allows (HoldsAll b) slots id m2 s.lock (λ _. 0) (λ _ m'. Frees b (name_of s) (Copied s.owner s.number off (record { writ = w; off = to; bytes = bytes_at y off len })) (left_by true m2.0.held) m2 m')) (sym first)
     (frees_out b slots id z s true x frame m0 m1 m2 of out e f (Copied s.owner s.number off (record { writ = w; off = to; bytes = bytes_at x off len })) is
-    ((s.index, x), subst (IsAmong (s.index, x)) (sym held_is) (inl refl), of.2, bytes_again x off len size inside) here)
+    ((s.index, x), subst (IsAmong (s.index, x)) (sym held_is) (inl refl), of.2, bytes_again x off len size inside, is_right x frame w to (bytes_at x off len) is kept) here)
 
 -- the one frame that a seat has may go back as it was taken
 pub returned_last : (b : Places) (slots id : ℕ) (z : TableId) (s : Slot) (x : FrameState) (me m2 : Me Cell Holder) → IsSlotOf b z s → me.0.held ≡ (s.index, x) ∷ []

@@ -4,3 +4,4 @@ pub mod Steps
 pub mod Facts
 pub mod Opens
 pub mod Names
+pub mod Seats

@@ -1,7 +1,7 @@
 -- The steps on the whole table: those on words as they were, a lock, and an access.
 use Rattle.std.proofs.Common.{◌≡◌, ℕ, zero, suc, ◌+◌, ◌*◌, ◌<◌, ◌≤◌, Bool, true, false, ◌==◌, List, [], ◌∷◌, map, take, set, length, sym, refl, ap, ◌∙◌, subst, arith}
 use Rattle.std.proofs.lemmas.Bool.Decides.{nat_tests}
-use Rattle.std.specs.Prelude.{slice_index, Some, MatchBool}
+use Rattle.std.specs.Prelude.{IsTrue, slice_index, Some, MatchBool}
 use mathlib.Core.Option.{Option as Maybe, some, none, some-injective, some-ne-none}
 use lib.ListN.{get_elem?, length-map}
 use lib.Seq.{map-set, take-set-le}
@@ -9,7 +9,7 @@ use Rattle.std.proofs.Math.Seq.{take-set-lt}
 use prog.Atomic.{either}
 use Rattle.atomic_table.specs.Table.{State, Me, Act, Valid, carried_after, homes_after, stepped, keeps, takes, gives, chain}
 use Rattle.atomic_table.proofs.Lists.{at_map, set_again, set_here}
-use Rattle.gt_frames.specs.Frames.{FrameState, bytes_at}
+use Rattle.gt_frames.specs.Frames.{FrameState, bytes_at, is_rightful}
 use Rattle.gt_words.proofs.Joining.{there as there_own, views_after}
 use Rattle.gt_words.proofs.Order.{within}
 use Rattle.gt_words.proofs.Moments.{one_history, taken_then}
@@ -56,7 +56,7 @@ nothing_moves hs (chain a b) is = let f = nothing_moves hs a is.0 in
     let g = nothing_moves hs b next in
     ((λ i. homes_after (f.0 i) (f.1 i) b) ∙ g.0, (λ i. carried_after (f.1 i) b) ∙ g.1)
 
-all_by : (b : Places) (s : State Cell Holder) (words : HoldsSo b.layout (inner b s)) (h : StepHistory) → words.shown.history ≡ h → Kept b h s → HoldsAll b s
+pub all_by : (b : Places) (s : State Cell Holder) (words : HoldsSo b.layout (inner b s)) (h : StepHistory) → words.shown.history ≡ h → Kept b h s → HoldsAll b s
 all_by b s words h e kept = record { words = words; frames = subst (λ (g : StepHistory). Kept b g s) (sym e) kept }
 
 module _ (b : Places) (s : State Cell Holder) (holds : HoldsAll b s) (id : ℕ) (v : Holder) (at : get_elem? s.views id ≡ some v) where
@@ -106,8 +106,11 @@ module _ (b : Places) (s : State Cell Holder) (holds : HoldsAll b s) (id : ℕ) 
 
     says_by : (m : FrameStep) → IsByHeld b v.held x m → SaysBytes b.layout h (Frame n.0 n.1 m)
     says_by (Read off bs) e = e ∙ ap (λ (z : FrameState). bytes_at z off (length bs)) x_is
-    says_by (Wrote r) e = tt
-    says_by (Copied d f off r) e = e.3 ∙ ap (λ (z : FrameState). bytes_at z off (length r.bytes)) (holds.frames.values id v e.0 (d, f) at e.1 e.2)
+    says_by (Wrote r) e = subst (λ (z : FrameState). IsTrue (is_rightful z.owner z.number r)) x_is e
+    says_by (Copied d f off r) e = (
+      e.3 ∙ ap (λ (z : FrameState). bytes_at z off (length r.bytes)) (holds.frames.values id v e.0 (d, f) at e.1 e.2),
+      subst (λ (z : FrameState). IsTrue (is_rightful z.owner z.number r)) x_is e.4,
+    )
 
     abbrev pub w : Holder
     w = holder_after h a_step hs v

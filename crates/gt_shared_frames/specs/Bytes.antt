@@ -1,6 +1,6 @@
 -- The frames that the one history makes.
-use Rattle.std.specs.Prelude.{◌≡◌, ℕ, cond, ◌==◌, ◌&&◌, List, [], ◌∷◌, ◌++◌, length}
-use Rattle.gt_frames.specs.Frames.{FrameState, bytes_at}
+use Rattle.std.specs.Prelude.{◌≡◌, ℕ, cond, ◌==◌, ◌&&◌, List, [], ◌∷◌, ◌++◌, length, IsTrue}
+use Rattle.gt_frames.specs.Frames.{FrameState, bytes_at, is_rightful}
 use Rattle.gt_frames.specs.declared.writ.WriteRecord.{WriteRecord}
 use Rattle.gt_words.specs.History.{Layout, StepHistory}
 use Rattle.gt_words.specs.Rule.{id_at}
@@ -30,15 +30,16 @@ journal_made t f (p ∷ h) = journal_after t f p.1 (journal_made t f h)
 abbrev pub frame_made : Layout → ℕ → ℕ → StepHistory → FrameState
 frame_made k t f h = record { owner = id_at k.ids t; number = f; journal = journal_made t f h }
 
--- an access says the bytes that the history makes
+-- a read or a copy has the bytes that the history makes, and a write is by right
 abbrev pub SaysBytes : Layout → StepHistory → SeatStep → Type 0
 SaysBytes k h (Entry d q m) = Unit {0}
 SaysBytes k h (Header d m) = Unit {0}
 SaysBytes k h (Frame t f (Read off bs)) = bs ≡ bytes_at (frame_made k t f h) off (length bs)
-SaysBytes k h (Frame t f (Wrote r)) = Unit {0}
-SaysBytes k h (Frame t f (Copied d q off r)) = r.bytes ≡ bytes_at (frame_made k d q h) off (length r.bytes)
+SaysBytes k h (Frame t f (Wrote r)) = IsTrue (is_rightful (id_at k.ids t) f r)
+SaysBytes k h (Frame t f (Copied d q off r)) =
+    (r.bytes ≡ bytes_at (frame_made k d q h) off (length r.bytes)) × IsTrue (is_rightful (id_at k.ids t) f r)
 
--- each access of the history says the bytes that the steps before it make
+-- each access of the history has the bytes that the steps before it make, and each write is by right
 abbrev pub AreTrueBytes : Layout → StepHistory → Type 0
 AreTrueBytes k [] = Unit {0}
 AreTrueBytes k (p ∷ h) = SaysBytes k h p.1 × AreTrueBytes k h

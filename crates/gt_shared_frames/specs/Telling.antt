@@ -1,10 +1,10 @@
 -- What the steps on frames tell.
 use Rattle.std.specs.Prelude.{◌≡◌, ℕ, List, [], ◌∷◌, ◌⊎◌, MatchBool, nat_lt, ◌==◌, length, Some, None}
-use Rattle.std.specs.Prelude.{Bool, true, false}
+use Rattle.std.specs.Prelude.{Bool, true, false, IsTrue}
 use Rattle.atomic_table.specs.Table.{Me, rest}
 use Rattle.atomic_table.specs.Seated.{TableId}
 use Rattle.atomic_table.specs.declared.shared.Seat.{Seat}
-use Rattle.gt_frames.specs.Frames.{FrameState, bytes_at}
+use Rattle.gt_frames.specs.Frames.{FrameState, bytes_at, is_rightful}
 use Rattle.gt_words.specs.History.{Layout, StepHistory}
 use Rattle.gt_words.specs.Rule.{HasStood, id_at}
 use Rattle.gt_words.specs.Steps.{StoodWith}
@@ -95,9 +95,10 @@ pub record IsOut (k : Layout) (s : Slot) (last : Bool) (x : FrameState) (me : Me
 -- what the access says is so by the frames that the seat holds
 abbrev pub IsByHeld : Places → List (ℕ × FrameState) → FrameState → FrameStep → Type 0
 IsByHeld b held x (Read off bs) = bs ≡ bytes_at x off (length bs)
-IsByHeld b held x (Wrote r) = Unit {0}
+IsByHeld b held x (Wrote r) = IsTrue (is_rightful x.owner x.number r)
 IsByHeld b held x (Copied d f off r) =
     (p : ℕ × FrameState) × IsAmong p held × IsNamed b p.0 (d, f) × (r.bytes ≡ bytes_at p.1 off (length r.bytes))
+    × IsTrue (is_rightful x.owner x.number r)
 
 -- a seat of this table
 abbrev pub IsOf : TableId → Seat Cell Holder → Type 0

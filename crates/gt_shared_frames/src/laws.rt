@@ -2,6 +2,7 @@
 ghost use Rattle.gt_shared_frames.specs.Laws.{AccessesGoOn, FramesAreTaken, FramesComeBack, FramesStay};
 ghost use Rattle.gt_shared_frames.specs.Laws.{FramesAreFreed, FramesAreLocked, FramesAreReturned, FramesHaveOneSlot};
 ghost use Rattle.gt_shared_frames.specs.Laws.{FramesOpen, WordsAreStepped};
+ghost use Rattle.gt_shared_frames.specs.Seats.{SeatsAreDealt, SeatsAreTakenIn};
 
 /// A law: an access to a frame may be the next step of the history.
 pub fn every_access_is_a_step()
@@ -31,4 +32,11 @@ pub fn every_table_opens()
 /// A law: no frame of a configuration has two slots.
 pub fn every_frame_has_one_slot()
     ensures { FramesHaveOneSlot }
+{}
+
+/// A law: the first seat may deal one for each domain of the run, and take each in that has no frame. Words, frames and
+/// their history stay.
+pub fn seats_come_and_go()
+    ensures dealt { SeatsAreDealt }
+    ensures taken_in { SeatsAreTakenIn }
 {}

@@ -19,6 +19,6 @@ mod table;
 pub use accesses::{copy, copy_within, read, try_read, try_write, write};
 pub use laws::{
     every_access_is_a_step, every_frame_has_one_slot, every_frame_is_kept, every_step_is_allowed,
-    every_table_opens,
+    every_table_opens, seats_come_and_go,
 };
 pub use table::{Cells, FrameSeat, Frames, Holder, Slot, lock, try_lock};

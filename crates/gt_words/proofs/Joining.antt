@@ -129,7 +129,7 @@ module _ (k : Layout) (words : List ℕ) (homes : List (Option (Unit {0}))) (v w
   placed : w.own.position ≡ suc j
   placed = (holds.shown.now.seats (suc j) w.own stands).0
 
-  same_views : whole_views (took v w ∷ set rest j gone) ≡ whole_views (v ∷ rest)
+  pub same_views : whole_views (took v w ∷ set rest j gone) ≡ whole_views (v ∷ rest)
   same_views = (λ i. set (put v.taken (v.own ∷ owns_set rest j gone i)) (placed i) w.own)
       ∙ (ap (λ z. set z (suc j) w.own) (put_set (v.own ∷ owns rest) (suc j) gone.own v.taken no_other)
       ∙ (set_twice (put v.taken (v.own ∷ owns rest)) (suc j) gone.own w.own
@@ -188,7 +188,7 @@ no_taken : (xs : List Outlook) (x : Outlook) → get_elem? xs 0 ≡ some x → x
 no_taken [] x at e = refl
 no_taken (z ∷ xs) x at e = ap (λ (u : Outlook). u.taken) (some-injective z x at) ∙ e
 
-dealt_views : (xs : List Outlook) (x : Outlook) → get_elem? xs 0 ≡ some x → x.taken ≡ []
+pub dealt_views : (xs : List Outlook) (x : Outlook) → get_elem? xs 0 ≡ some x → x.taken ≡ []
     → whole_views (set xs 0 (dealing x) ++ dealt_outlook x ∷ []) ≡ set (whole_views xs) 0 (dealer_after x.own) ++ dealt_to x.own ∷ []
 dealt_views [] x at e = absurd (some-ne-none x (sym at))
 dealt_views (z ∷ xs) x at e = ap (λ (ts : List View). put ts (dealer_after x.own ∷ owns (xs ++ dealt_outlook x ∷ []))) e
@@ -246,7 +246,7 @@ learns_so k slots me at d st here of_run s holds many found bound = (
 
 -- the first seat is the one at position 0
 
-first_id : (k : Layout) (s : State (Unit {0}) Outlook) → HoldsSo k s → (id : ℕ) (v : Outlook) → get_elem? s.views id ≡ some v → v.gone ≡ false → v.own.position ≡ 0 → id ≡ 0
+pub first_id : (k : Layout) (s : State (Unit {0}) Outlook) → HoldsSo k s → (id : ℕ) (v : Outlook) → get_elem? s.views id ≡ some v → v.gone ≡ false → v.own.position ≡ 0 → id ≡ 0
 first_id k s holds id v at here own = sym (holds.shown.now.seats id v.own (there k s holds id v at here)).0 ∙ own
 
 pub join_any : (k : Layout) (id other : ℕ) (v w gone : Outlook) → v.own.position ≡ 0 → v.gone ≡ false → w.gone ≡ false → gone.gone ≡ true → Joins (HoldsSo k) id v other w (took v w) gone
