@@ -1,14 +1,14 @@
 -- Steps on a header word keep the rule, and take the shown state to the one that their event gives.
-use Rattle.std.proofs.Common.{◌≡◌, ◌≢◌, ◌⊎◌, inl, inr, ⊎_elim, ℕ, ◌*◌, ◌<◌, ◌≤◌, Bool, true, false, cond, ◌==◌, List}
+use Rattle.std.proofs.Common.{◌≡◌, ◌≢◌, ◌⊎◌, inl, inr, ℕ, ◌*◌, ◌<◌, ◌≤◌, Bool, true, false, cond, ◌==◌, List}
 use Rattle.std.proofs.Common.{[], ◌∷◌, map, get_or, set, sym, refl, ap, ◌∙◌, subst, arith, length-set, get_or-set_other}
-use Rattle.std.proofs.Common.{get_or-set_same, eq-eqb, ne_eqb, Option, Some, None, IfSome, if◌then◌else◌}
+use Rattle.std.proofs.Common.{get_or-set_same, eq-eqb, ne_eqb, if◌then◌else◌}
 use mathlib.Core.Option.{some, none}
 use mathlib.Core.Logic.{dite}
 use native.Mathlib.Decide.{ℕ_discrete}
 use lib.ListN.{get_elem?}
 use lib.Seq.{map-set}
 use Rattle.atomic_table.specs.Table.{State, Me, step, stepped, keeps, Allows}
-use Rattle.atomic_table.proofs.Lists.{at_set, set_again, at_map}
+use Rattle.atomic_table.proofs.Lists.{set_again, at_map}
 use Rattle.gt_words.proofs.Lists.{whose_at, whose_here}
 use Rattle.gt_words.proofs.SeatsKept.{header_keeps, header_keeps_pins, header_keeps_rows, header_sees}
 use Rattle.gt_words.proofs.Lifts.{still_dealt, still_seated}
@@ -20,11 +20,11 @@ use Rattle.gt_types.specs.declared.limits.TheConstants.{ENTRIES_V1, ENTRIES_V2, 
 use Rattle.gt_words.specs.Answers.{AddsToHeader, LooksAtHeader, StepsOnHeader, StoresHeader}
 use Rattle.gt_words.specs.Events.{HeaderByOwner, header_after}
 use Rattle.gt_words.proofs.Order.{leads_on}
-use Rattle.gt_words.specs.History.{HasLedTo, StepHistory, SaysWord, left_by}
+use Rattle.gt_words.specs.History.{StepHistory, SaysWord, left_by}
 use Rattle.gt_words.specs.Rule.{IsHeader, IsKeptHeader, Layout, Shows, HasStood, Stands, ShowsEntry, header_now}
 use Rattle.gt_words.specs.Rule.{header_place, place}
 use Rattle.gt_words.specs.Steps.{TakesStep, looking_at_header, on_header, storing_header, tells, tells_stored}
-use Rattle.gt_words.specs.Views.{IsAmong, own, own_header, steps_on, steps_on_header, stored_header, with_step}
+use Rattle.gt_words.specs.Views.{own, own_header, steps_on, steps_on_header, stored_header, with_step}
 use Rattle.gt_words.specs.declared.view.EntryStep.{EntryStep}
 use Rattle.gt_words.specs.declared.view.HeaderStep.{HeaderStep}
 use Rattle.gt_words.specs.declared.view.View.{View}

@@ -1,8 +1,8 @@
 -- Each step of a history takes what the steps before it make to what its event gives.
-use Rattle.std.proofs.Common.{◌≡◌, ◌≢◌, ℕ, zero, suc, ◌+◌, ◌<◌, ◌≤◌, Bool, true, false, cond, ◌==◌, ◌&&◌, List, [], ◌∷◌}
+use Rattle.std.proofs.Common.{◌≡◌, ℕ, zero, suc, ◌+◌, ◌<◌, ◌≤◌, Bool, true, false, cond, ◌==◌, ◌&&◌, List, [], ◌∷◌}
 use Rattle.std.proofs.Common.{◌++◌, ◌*◌, length, map, get_or, get_or-set_same, set, sym, refl, ap, ◌∙◌, subst, arith}
 use Rattle.std.proofs.Common.{eq-eqb, ne_eqb, lt_of_not-le}
-use mathlib.Core.Option.{Option as Maybe, none, some, some-ne-none}
+use mathlib.Core.Option.{Option as Maybe, none, some}
 use mathlib.Core.Logic.{dite}
 use native.Mathlib.Decide.{ℕ_discrete}
 use lib.ListN.{get_elem?}
@@ -11,16 +11,15 @@ use Rattle.atomic_table.proofs.Lists.{at_map, set_here}
 use Rattle.gt_types.specs.declared.Dir.{Dir}
 use Rattle.gt_words.proofs.StepOnEntry.{happens_here}
 use Rattle.gt_words.proofs.Lifts.{apart_test, parts_at}
-use Rattle.gt_words.proofs.Lists.{whose_at}
 use Rattle.gt_words.proofs.Moments.{beyond, goes_on}
 use Rattle.gt_words.proofs.OneEntry.{held_at}
 use Rattle.gt_words.proofs.Order.{part_else, part_here, within}
 use Rattle.gt_words.specs.Events.{Happens, entry_after, event_on_entry, event_on_header}
-use Rattle.gt_words.specs.History.{PinsLast, entry_by, entry_made, header_made, parts_on, HasLedTo, HeaderByOwner}
+use Rattle.gt_words.specs.History.{PinsLast, entry_by, entry_made, header_made, parts_on, HasLedTo}
 use Rattle.gt_words.specs.History.{StepHistory, IsByOwner, IsOwners, IsTrue, Layout, SaysWord, part_of, word_place_of}
 use Rattle.gt_words.specs.History.{word_after}
 use Rattle.gt_words.specs.Laws.{EachStepHappened}
-use Rattle.gt_words.specs.Rule.{HasStood, Shows, Stands, owner_steps, total_pins}
+use Rattle.gt_words.specs.Rule.{HasStood, Shows, Stands, total_pins}
 use Rattle.gt_words.specs.Steps.{TakesStep}
 use Rattle.gt_words.specs.Views.{entry_steps, header_steps, pin_count, live_pins, steps_on, stored_header, with_step}
 use Rattle.gt_words.specs.declared.view.EntryStep.{EntryStep}

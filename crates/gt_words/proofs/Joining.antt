@@ -1,11 +1,11 @@
 -- Seats that one of them takes in.
-use Rattle.std.proofs.Common.{◌≡◌, ◌≢◌, ℕ, zero, suc, ◌<◌, Bool, true, false, List, [], ◌∷◌, ◌++◌, map, set, length, sym, refl, ap, ◌∙◌, subst, arith}
+use Rattle.std.proofs.Common.{◌≡◌, ◌≢◌, ℕ, zero, suc, ◌<◌, Bool, true, false, List, [], ◌∷◌, ◌++◌, set, length, sym, refl, ap, ◌∙◌, subst, arith}
 use mathlib.Core.Option.{Option, some, some-injective, some-ne-none}
 use lib.ListN.{get_elem?}
 use lib.Seq.{map-set}
 use Rattle.std.specs.Prelude.{slice_index}
 use Rattle.atomic_table.specs.Table.{State, Me, Act, Allows, Joins, Splits, Step as TableStep, keeps, opening, stepped, homes_after}
-use Rattle.atomic_table.proofs.Lists.{at_map, at_set, set_again, set_else, set_here}
+use Rattle.atomic_table.proofs.Lists.{at_map, set_again, set_else, set_here}
 use Rattle.gt_words.specs.Joining.{AreIn, AreTaken, HoldersLearn, HoldsSo, IsGoneAt, Learns, SeatsJoin, StepsLift, learns_all, outlook_of, tells_own, tells_own_stored, owns, put, taken_by, took, whole, whole_views}
 use Rattle.gt_words.specs.Rule.{Layout, Shows}
 use Rattle.gt_words.specs.Places.{dealer_after, dealing, dealt_outlook, dealt_to}
@@ -129,7 +129,7 @@ module _ (k : Layout) (words : List ℕ) (homes : List (Option (Unit {0}))) (v w
   placed : w.own.position ≡ suc j
   placed = (holds.shown.now.seats (suc j) w.own stands).0
 
-  same_views : whole_views (took v w ∷ set rest j gone) ≡ whole_views (v ∷ rest)
+  pub same_views : whole_views (took v w ∷ set rest j gone) ≡ whole_views (v ∷ rest)
   same_views = (λ i. set (put v.taken (v.own ∷ owns_set rest j gone i)) (placed i) w.own)
       ∙ (ap (λ z. set z (suc j) w.own) (put_set (v.own ∷ owns rest) (suc j) gone.own v.taken no_other)
       ∙ (set_twice (put v.taken (v.own ∷ owns rest)) (suc j) gone.own w.own
@@ -164,8 +164,12 @@ known xs us [] a = tt
 known xs us (t ∷ ts) a = (a.1, known xs us ts a.2)
 
 pub holders_learn : HoldersLearn
-holders_learn k s v holds at here = (whole s, holds.shown, there k s holds 0 v at here,
-    known s.views (whole_views s.views) v.taken (subst (λ (q : List View). AreTaken s.views (whole_views s.views) q) (first s.views at) holds.taken))
+holders_learn k s v holds at here = (
+  whole s,
+  holds.shown,
+  there k s holds 0 v at here,
+  known s.views (whole_views s.views) v.taken (subst (λ (q : List View). AreTaken s.views (whole_views s.views) q) (first s.views at) holds.taken),
+)
   where
     first : (xs : List Outlook) → get_elem? xs 0 ≡ some v → taken_by xs ≡ v.taken
     first [] e = absurd (some-ne-none v (sym e))
@@ -184,7 +188,7 @@ no_taken : (xs : List Outlook) (x : Outlook) → get_elem? xs 0 ≡ some x → x
 no_taken [] x at e = refl
 no_taken (z ∷ xs) x at e = ap (λ (u : Outlook). u.taken) (some-injective z x at) ∙ e
 
-dealt_views : (xs : List Outlook) (x : Outlook) → get_elem? xs 0 ≡ some x → x.taken ≡ []
+pub dealt_views : (xs : List Outlook) (x : Outlook) → get_elem? xs 0 ≡ some x → x.taken ≡ []
     → whole_views (set xs 0 (dealing x) ++ dealt_outlook x ∷ []) ≡ set (whole_views xs) 0 (dealer_after x.own) ++ dealt_to x.own ∷ []
 dealt_views [] x at e = absurd (some-ne-none x (sym at))
 dealt_views (z ∷ xs) x at e = ap (λ (ts : List View). put ts (dealer_after x.own ∷ owns (xs ++ dealt_outlook x ∷ []))) e
@@ -232,17 +236,17 @@ word_again (w ∷ ws) (suc i) = ap (λ z. w ∷ z) (word_again ws i)
 
 pub learns_so : (k : Layout) (slots : ℕ) (me : Me (Unit {0}) Outlook) (at : ℕ) (d : StepKind) (st : TableStep (Unit {0})) → me.0.gone ≡ false → d.layout ≡ k → Allows (HoldsSo k) slots 0 me at (λ n. n) (learns_all d st me)
 learns_so k slots me at d st here of_run s holds many found bound = (
-      me.0,
-      keeps,
-      tt,
-      subst (λ (ws : List ℕ). HoldsSo k (record { words = ws; homes = s.homes; views = set s.views 0 me.0 })) (sym (word_again s.words at))
+  me.0,
+  keeps,
+  tt,
+  subst (λ (ws : List ℕ). HoldsSo k (record { words = ws; homes = s.homes; views = set s.views 0 me.0 })) (sym (word_again s.words at))
       (subst (λ (xs : List Outlook). HoldsSo k (record { words = s.words; homes = s.homes; views = xs })) (sym (set_again s.views 0 me.0 found)) holds),
-      (refl, subst (λ (l : Layout). Learns l me.0) (sym of_run) (holders_learn k s me.0 holds found here)),
-    )
+  (refl, subst (λ (l : Layout). Learns l me.0) (sym of_run) (holders_learn k s me.0 holds found here)),
+)
 
 -- the first seat is the one at position 0
 
-first_id : (k : Layout) (s : State (Unit {0}) Outlook) → HoldsSo k s → (id : ℕ) (v : Outlook) → get_elem? s.views id ≡ some v → v.gone ≡ false → v.own.position ≡ 0 → id ≡ 0
+pub first_id : (k : Layout) (s : State (Unit {0}) Outlook) → HoldsSo k s → (id : ℕ) (v : Outlook) → get_elem? s.views id ≡ some v → v.gone ≡ false → v.own.position ≡ 0 → id ≡ 0
 first_id k s holds id v at here own = sym (holds.shown.now.seats id v.own (there k s holds id v at here)).0 ∙ own
 
 pub join_any : (k : Layout) (id other : ℕ) (v w gone : Outlook) → v.own.position ≡ 0 → v.gone ≡ false → w.gone ≡ false → gone.gone ≡ true → Joins (HoldsSo k) id v other w (took v w) gone

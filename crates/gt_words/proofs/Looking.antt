@@ -1,5 +1,5 @@
 -- What a look says of the record that it found, by the words of one entry.
-use Rattle.std.proofs.Common.{◌≡◌, ◌≢◌, inl, inr, ℕ, ◌<◌, List, [], ◌∷◌, sym, refl, ap, ◌∙◌, subst, Option, Some, None}
+use Rattle.std.proofs.Common.{◌≡◌, ◌≢◌, inl, inr, ℕ, ◌<◌, List, ◌∷◌, sym, refl, ap, ◌∙◌, subst, Option, Some, None}
 use Rattle.std.proofs.Common.{IsSome}
 use Rattle.gt_entry.specs.Laws.{digits, entry-read}
 use Rattle.gt_entry.specs.Spelling.{IsSpelled, control_with, entry_of, low_bits, named_domain, word_of}

@@ -1,20 +1,18 @@
 -- The order of all steps follows from what the seats know, and a new step comes right after all others.
-use Rattle.std.proofs.Common.{◌≡◌, ◌≢◌, ⊎_elim, ℕ, zero, suc, ◌+◌, ◌*◌, ◌<◌, ◌≤◌, Bool, true, false, cond, ◌==◌, List}
-use Rattle.std.proofs.Common.{[], ◌∷◌, length, get_or, set, sym, refl, ap, ◌∙◌, subst, arith, length-set}
+use Rattle.std.proofs.Common.{◌≡◌, ◌≢◌, ℕ, zero, suc, ◌≤◌, Bool, true, false, cond, ◌==◌, List}
+use Rattle.std.proofs.Common.{[], ◌∷◌, length, get_or, sym, refl, ap, ◌∙◌, subst, arith, length-set}
 use mathlib.Core.Option.{Option as Maybe, none, some, some-ne-none}
 use mathlib.Core.Logic.{dite}
 use native.Mathlib.Decide.{ℕ_discrete}
 use lib.ListN.{get_elem?}
-use Rattle.atomic_table.specs.Table.{Act, Me, State, keeps, stepped}
+use Rattle.atomic_table.specs.Table.{Act, State, keeps, stepped}
 use Rattle.atomic_table.proofs.Lists.{set_else, set_here}
 use Rattle.gt_words.proofs.Order.{nothing_yet, part_else, part_here, up_else, up_here, within}
 use Rattle.gt_words.specs.History.{HasLedTo, StepHistory, IsTrue, Layout, SaysWord, part_of, word_place_of, up_to}
-use Rattle.gt_words.specs.History.{word_after}
 use Rattle.gt_words.specs.Laws.{AllowedStepsSayWhatIsThere, HistoryIsOne, StepsAreTakenThen}
 use Rattle.gt_words.specs.Views.{with_step}
 use Rattle.gt_words.specs.declared.view.SeatStep.{SeatStep}
 use Rattle.gt_words.specs.declared.view.View.{View}
-use Rattle.gt_words.specs.declared.word_table.TheConstants.{DOMAIN_WORDS}
 
 -- up to the last step of a seat there are no more steps of another
 fewer : (m j : ℕ) (h : StepHistory) → length (part_of m (up_to j h)) ≤ length (part_of m h)

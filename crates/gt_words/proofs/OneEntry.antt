@@ -1,7 +1,7 @@
 -- What each kind of step does to an entry, with the owner's moves among those of all seats.
 use Rattle.gt_types.specs.declared.limits.TheConstants.{MAX_PINS, LAST_GENERATION}
 use Rattle.std.proofs.Common.{◌≡◌, ◌≢◌, ◌⊎◌, inl, inr, ℕ, zero, suc, ◌+◌, ◌-◌, ◌*◌, ◌<◌, ◌≤◌, Bool, true, false, not}
-use Rattle.std.proofs.Common.{List, [], ◌∷◌, set, sym, refl, ap, ◌∙◌, subst, arith, Some, get_or-set_other}
+use Rattle.std.proofs.Common.{List, [], ◌∷◌, set, sym, refl, ap, ◌∙◌, subst, arith, get_or-set_other}
 use mathlib.Core.Option.{some, some-injective, some-ne-none}
 use mathlib.Core.Logic.{dite}
 use native.Mathlib.Decide.{ℕ_discrete}

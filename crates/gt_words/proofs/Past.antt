@@ -1,6 +1,6 @@
 -- What the rule says of words by views, and of pins of records that the owner's list has gone on from.
 use Rattle.std.proofs.Common.{◌≡◌, ◌≢◌, inl, inr, ℕ, zero, suc, ◌+◌, ◌<◌, ◌≤◌, Bool, true, false, cond, nat_le, List}
-use Rattle.std.proofs.Common.{[], ◌∷◌, map, get_or, set, sym, refl, ap, ◌∙◌, subst, arith}
+use Rattle.std.proofs.Common.{[], ◌∷◌, map, get_or, sym, refl, ap, ◌∙◌, subst, arith}
 use Rattle.std.proofs.lemmas.Bool.Decides.{nat_tests}
 use mathlib.Core.Option.{some, some-injective, some-ne-none}
 use lib.ListN.{get_elem?}
@@ -12,10 +12,10 @@ use Rattle.gt_entry.specs.declared.entry.Entry.TheVariants.{Invalid}
 use Rattle.gt_words.proofs.Lifts.{owner_made}
 use Rattle.gt_words.proofs.Moments.{taken_then}
 use Rattle.gt_words.specs.Steps.{on_entry}
-use Rattle.gt_words.specs.Controls.{generation_of, pins_in}
+use Rattle.gt_words.specs.Controls.{generation_of}
 use Rattle.gt_words.specs.Laws.{PastPinsAreRefused, PinsLeftAreCounted, WordsFollowViews}
 use Rattle.gt_words.specs.Rule.{ShowsEntry, header_now, owner_steps, place, total_until}
-use Rattle.gt_words.specs.Views.{IsAmong, LivePin, exchanged, last_record, live_pins, pins_until, steps_on}
+use Rattle.gt_words.specs.Views.{IsAmong, LivePin, last_record, live_pins, pins_until, steps_on}
 use Rattle.gt_words.specs.Views.{steps_on_header}
 use Rattle.gt_words.specs.Views.{weight}
 use Rattle.gt_words.specs.declared.view.EntryRecord.{EntryRecord}

@@ -1,5 +1,5 @@
 -- After a revocation, and after a publication, no view has a pin of the record that was there.
-use Rattle.std.proofs.Common.{◌≡◌, ◌⊎◌, inl, inr, ℕ, zero, suc, ◌+◌, ◌<◌, ◌≤◌, Bool, true, false, cond, List, [], ◌∷◌}
+use Rattle.std.proofs.Common.{◌≡◌, inl, inr, ℕ, suc, ◌<◌, ◌≤◌, Bool, true, false, cond, List, [], ◌∷◌}
 use Rattle.std.proofs.Common.{◌++◌, map, sym, refl, ap, ◌∙◌, subst, arith}
 use Rattle.std.specs.Prelude.{◌==◌, ◌&&◌}
 use mathlib.Core.Option.{some}
@@ -14,10 +14,10 @@ use Rattle.gt_words.proofs.Lists.{whose_at}
 use Rattle.gt_words.proofs.Past.{pins_left}
 use Rattle.gt_words.proofs.Records.{legal_record, spelled_parts}
 use Rattle.gt_words.proofs.StepFacts.{owners_entry}
-use Rattle.gt_words.specs.Answers.{Changes, Publishes, Revokes}
+use Rattle.gt_words.specs.Answers.{Changes}
 use Rattle.gt_words.specs.Conditions.{HasNoPins}
 use Rattle.gt_words.specs.Controls.{generation_of, pins_in}
-use Rattle.gt_words.specs.Laws.{EndsPins, NoPinOutlivesItsRecord}
+use Rattle.gt_words.specs.Laws.{NoPinOutlivesItsRecord}
 use Rattle.gt_words.specs.Rule.{Layout, Shows, owner_steps, total_pins}
 use Rattle.gt_words.specs.Steps.{changed, changed_word}
 use Rattle.gt_words.specs.Views.{IsAmong, LivePin, earlier_records, entry_steps, exchanged, last_of, pin_count}

@@ -1,5 +1,5 @@
 -- What a seat saw of an entry is of its owner's list: each step of the history said the word that was there.
-use Rattle.std.proofs.Common.{◌≡◌, ◌≢◌, ◌⊎◌, inl, inr, ⊎_elim, ℕ, ◌+◌, ◌*◌, ◌<◌, ◌==◌, ◌&&◌, Bool, true, cond, List, []}
+use Rattle.std.proofs.Common.{◌≡◌, ◌⊎◌, inl, inr, ⊎_elim, ℕ, ◌<◌, ◌==◌, ◌&&◌, Bool, true, cond, List, []}
 use Rattle.std.proofs.Common.{◌∷◌, map, get_or, sym, refl, ap, ◌∙◌, subst, arith, eq-eqb}
 use mathlib.Core.Option.{some}
 use mathlib.Core.Logic.{dite}
@@ -14,7 +14,7 @@ use Rattle.gt_words.proofs.Looking.{saw_grown, saw_more}
 use Rattle.gt_words.proofs.Order.{part_else, part_here}
 use Rattle.gt_words.specs.History.{StepHistory, SaysWord, SaysFound, part_of, word_place_of, word_after, word_on}
 use Rattle.gt_words.specs.Laws.{WhatWasSeenIsListed}
-use Rattle.gt_words.specs.Rule.{HasStood, IsLawful, Layout, Shows, ShowsRecord, Stands, owner_steps, place, total_pins}
+use Rattle.gt_words.specs.Rule.{HasStood, IsLawful, Layout, ShowsRecord, Stands, owner_steps, place, total_pins}
 use Rattle.gt_words.specs.Sight.{SawRecord}
 use Rattle.gt_words.specs.Views.{earlier_records, entry_steps, last_record, seen, steps_on}
 use Rattle.gt_words.specs.declared.view.EntryStep.{EntryStep}

@@ -18,7 +18,7 @@ use Rattle.gt_types.specs.declared.Dir.{Dir}
 use Rattle.gt_types.specs.declared.Dir.TheVariants.{Read, Write}
 use Rattle.gt_words.proofs.HistorySteps.{takes}
 use Rattle.gt_words.proofs.SeatsKept.{there_is}
-use Rattle.gt_words.proofs.Lifts.{added, inside, shows_step}
+use Rattle.gt_words.proofs.Lifts.{inside, shows_step}
 use Rattle.gt_words.proofs.OneEntry.{entry_grants, entry_looks, entry_misses_change, entry_misses_pin, entry_pins}
 use Rattle.gt_words.proofs.OneEntry.{entry_revokes, entry_reads, entry_stores_first, entry_stores_second, entry_turns}
 use Rattle.gt_words.proofs.OneEntry.{entry_unpins, entry_withdraws, mine, pin_counted, pins_last, turned_domain}
@@ -35,7 +35,7 @@ use Rattle.gt_words.specs.Events.{IsByOwner}
 use Rattle.gt_words.specs.History.{IsOfRecord, SaysFound, owner_steps, left_on_entry, word_place_of, word_on}
 use Rattle.gt_words.specs.Rule.{id_at, IsRecord, Layout, Shows, ShowsEntry, place, total_pins}
 use Rattle.gt_words.specs.Steps.{StepKind, TakesStep, changed, entry_kind, exchanging, half_index, half_of, looking}
-use Rattle.gt_words.specs.Steps.{missed, on_entry, reading, storing, taken, tells, tells_stored, unpinning}
+use Rattle.gt_words.specs.Steps.{missed, reading, storing, taken, tells, tells_stored, unpinning}
 use Rattle.gt_words.specs.Sight.{SawRecord}
 use Rattle.gt_words.specs.Views.{earlier_records, invalid_at, last_of, last_record, last_seen, live_pins, record_seen}
 use Rattle.gt_words.specs.Views.{seen}

@@ -10,7 +10,7 @@ use lib.ListN.{get_elem?}
 use Rattle.atomic_table.proofs.Lists.{at_map}
 use Rattle.atomic_table.specs.Table.{State}
 use Rattle.gt_entry.specs.Entries.{is_read_only}
-use Rattle.gt_entry.specs.Spelling.{control_with, idle_word_of, named_domain, word_of}
+use Rattle.gt_entry.specs.Spelling.{control_with, named_domain, word_of}
 use Rattle.gt_entry.specs.Words.{control_of, unit_of}
 use Rattle.gt_entry.specs.declared.control.Control.{Control}
 use Rattle.gt_entry.specs.declared.entry.Entry.{Entry}

@@ -1,27 +1,20 @@
 -- A step on an entry takes the state that words and views show to the one that its event gives.
-use Rattle.std.proofs.Common.{◌≡◌, ℕ, Bool, true, cond, ◌==◌, ◌&&◌, List, [], ◌∷◌, map, get_or, set, sym, refl, ap, ◌∙◌}
-use Rattle.std.proofs.Common.{subst, eq-eqb}
+use Rattle.std.proofs.Common.{◌≡◌, ℕ, List, [], ◌∷◌, map, get_or, set, sym, refl, ap, ◌∙◌}
+use Rattle.std.proofs.Common.{subst}
 use mathlib.Core.Option.{some}
-use mathlib.Core.Logic.{dite}
-use native.Mathlib.Decide.{ℕ_discrete}
 use lib.ListN.{get_elem?}
 use lib.Seq.{map-set}
-use Rattle.atomic_table.specs.Table.{State, stepped, keeps}
 use Rattle.atomic_table.proofs.Lists.{at_map, set_again}
-use Rattle.gt_words.proofs.Lifts.{added, apart_test, map_else, map_here}
 use Rattle.gt_words.proofs.Lists.{whose_at, whose_here}
 use Rattle.gt_words.proofs.OneEntry.{same_owner}
 use Rattle.gt_words.specs.Events.{IsByOwner, entry_after}
 use Rattle.gt_words.specs.History.{entry_by}
-use Rattle.gt_words.specs.History.{StepHistory}
-use Rattle.gt_words.specs.Rule.{Layout, header_now, owner_steps}
-use Rattle.gt_words.specs.Steps.{on_entry}
-use Rattle.gt_words.specs.Views.{LivePin, last_record, live_pins, steps_on, steps_on_header, stored_body, without_pin}
+use Rattle.gt_words.specs.Rule.{owner_steps}
+use Rattle.gt_words.specs.Views.{LivePin, last_record, live_pins, stored_body, without_pin}
 use Rattle.gt_words.specs.declared.view.EntryStep.{EntryStep}
 use Rattle.gt_words.specs.declared.view.EntryStep.TheVariants.{ChangeMissed, Changed, Looked, PinMissed, Pinned}
 use Rattle.gt_words.specs.declared.view.EntryStep.TheVariants.{ReadBody, StoredBody, Unpinned}
 use Rattle.gt_entry.specs.declared.change.Half.TheVariants.{First, Second}
-use Rattle.gt_words.specs.declared.view.View.{View}
 
 module _ (g t : ℕ) (hs : List (List EntryStep)) (i : ℕ) (h : List EntryStep) (at : get_elem? hs i ≡ some h) where
   live_here : (m : EntryStep) → map live_pins (set hs i (m ∷ h)) ≡ set (map live_pins hs) i (live_pins (m ∷ h))

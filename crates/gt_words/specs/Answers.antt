@@ -11,7 +11,6 @@ use Rattle.gt_words.specs.History.{StepHistory, entry_made}
 use Rattle.gt_words.specs.Rule.{IsKeptHeader, Layout, header_place, place}
 use Rattle.gt_words.specs.Steps.{TakesStep, changed, changed_word, half_index, on_entry, on_header}
 use Rattle.gt_words.specs.Views.{IsAmong, last_of, last_seen, own_body, own_header, own_list, live_pins, record_seen}
-use Rattle.gt_words.specs.Views.{seen}
 use Rattle.gt_words.specs.Views.{steps_on, steps_on_header, with_step}
 use Rattle.gt_words.specs.declared.view.HeaderStep.TheVariants as header
 use Rattle.gt_words.specs.Conditions.{Board, SeatOf, IsSeatOf, position_at, IsWordOf, IsBusyOf, MayPin, HasNoPins}

@@ -1,9 +1,8 @@
 -- What each event of the core makes of the state that a history of steps makes.
-use Rattle.std.specs.Prelude.{◌≡◌, ℕ, zero, suc, cond, ◌==◌, ◌&&◌, List, [], ◌∷◌, map, slice_index, slice_index_or}
+use Rattle.std.specs.Prelude.{◌≡◌, ℕ, cond, ◌==◌, ◌&&◌, List, [], ◌∷◌, slice_index_or}
 use Rattle.std.specs.Prelude.{slice_set}
 use Rattle.atomic_table.specs.Table.{State}
 use Rattle.gt_entry.specs.declared.change.Half.TheVariants.{First, Second}
-use Rattle.gt_words.specs.declared.view.EntryRecord.{EntryRecord}
 use Rattle.gt_words.specs.declared.view.EntryStep.{EntryStep}
 use Rattle.gt_words.specs.declared.view.EntryStep.TheVariants.{Looked, ReadBody, Pinned, PinMissed, Unpinned}
 use Rattle.gt_words.specs.declared.view.EntryStep.TheVariants.{StoredBody, Changed, ChangeMissed}
@@ -12,8 +11,7 @@ use Rattle.gt_words.specs.declared.view.HeaderStep.TheVariants as header
 use Rattle.gt_words.specs.declared.view.SeatStep.{SeatStep}
 use Rattle.gt_words.specs.declared.view.SeatStep.TheVariants.{Entry, Frame, Header}
 use Rattle.gt_words.specs.declared.view.View.{View}
-use Rattle.gt_words.specs.Views.{LivePin, live_pins, without_pin, last_record, stored_body, steps_on, steps_on_header}
-use Rattle.gt_words.specs.Views.{entry_steps, header_steps, stored_header}
+use Rattle.gt_words.specs.Views.{LivePin, without_pin}
 use Rattle.gt_words.specs.History.{EntryState, StepHistory, Moment, PinsLast, SaysWord, entry_made, header_made}
 use Rattle.gt_words.specs.History.{word_place_of}
 use Rattle.gt_words.specs.History.{word_after}

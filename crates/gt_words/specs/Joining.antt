@@ -1,5 +1,5 @@
 -- Seats that one of them takes in: what the table's rule is then, and what their holder learns.
-use Rattle.std.specs.Prelude.{◌≡◌, ◌≢◌, ℕ, ◌<◌, Bool, true, false, List, [], ◌∷◌, map, slice_set, slice_index, length}
+use Rattle.std.specs.Prelude.{◌≡◌, ℕ, true, false, List, [], ◌∷◌, map, slice_set}
 use Rattle.gt_words.specs.Prelude.{some, get_elem?, State, Me, Allows, View}
 use Rattle.atomic_table.specs.Table.{Joins}
 use Rattle.gt_words.specs.Prelude.{TableId, TableStep}
@@ -11,9 +11,18 @@ use Rattle.gt_words.specs.Steps.{StepKind, tells, tells_stored}
 abbrev pub outlook_of : View → Outlook
 outlook_of v = record { own = v; taken = []; gone = false }
 
+-- the view of a seat, with the slots that it carries
+abbrev pub own_part : Me (Unit {0}) Outlook → Me (Unit {0}) View
+own_part m = (m.0.own, m.1)
+
+-- the view that says nothing
+abbrev pub blank_view : View
+blank_view =
+    record { position = 0; first = 0; headers = []; ids = []; dealt = 0; steps = []; past = [] }
+
 -- a seat that was taken in knows nothing
 abbrev pub gone_outlook : Outlook
-gone_outlook = record { own = record { position = 0; first = 0; headers = []; ids = []; dealt = 0; steps = []; past = [] }; taken = []; gone = true }
+gone_outlook = record { own = blank_view; taken = []; gone = true }
 
 -- the views with each of these at its position
 abbrev pub put : List View → List View → List View
@@ -63,19 +72,20 @@ Learns k v = (s : State (Unit {0}) View) × Shows k s × (get_elem? s.views 0 �
 -- every step that the rule of today allows is allowed then, and tells the same
 abbrev pub StepsLift : Type 0
 StepsLift =
-    (k : Layout) (slots id : ℕ) (me : Me (Unit {0}) Outlook) (at : ℕ) (f : ℕ → ℕ) (d : StepKind) (st : TableStep (Unit {0}))
-    → me.0.gone ≡ false → Allows (Shows k) slots id (me.0.own, me.1) at f (tells d st (me.0.own, me.1))
+    (k : Layout) (slots id : ℕ) (me : Me (Unit {0}) Outlook) (at : ℕ) (f : ℕ → ℕ) (d : StepKind)
+    (st : TableStep (Unit {0}))
+    → me.0.gone ≡ false → Allows (Shows k) slots id (own_part me) at f (tells d st (own_part me))
     → Allows (HoldsSo k) slots id me at f
-    (λ n m. tells d st (me.0.own, me.1) n (m.0.own, m.1) × (m.0.taken ≡ me.0.taken) × (m.0.gone ≡ false))
+    (λ n m. tells d st (own_part me) n (own_part m) × (m.0.taken ≡ me.0.taken) × (m.0.gone ≡ false))
 
 -- what a seat's step tells, and that it took none in by it
 abbrev pub tells_own : StepKind → TableStep (Unit {0}) → Me (Unit {0}) Outlook → ℕ → Me (Unit {0}) Outlook → Type 0
 tells_own d st m n m' =
-    tells d st (m.0.own, m.1) n (m'.0.own, m'.1) × (m'.0.taken ≡ m.0.taken) × (m'.0.gone ≡ false)
+    tells d st (own_part m) n (own_part m') × (m'.0.taken ≡ m.0.taken) × (m'.0.gone ≡ false)
 
 abbrev pub tells_own_stored : StepKind → TableStep (Unit {0}) → Me (Unit {0}) Outlook → Me (Unit {0}) Outlook → Type 0
 tells_own_stored d st m m' =
-    tells_stored d st (m.0.own, m.1) (m'.0.own, m'.1) × (m'.0.taken ≡ m.0.taken) × (m'.0.gone ≡ false)
+    tells_stored d st (own_part m) (own_part m') × (m'.0.taken ≡ m.0.taken) × (m'.0.gone ≡ false)
 
 -- the first seat may take each other in that took none
 abbrev pub SeatsJoin : Type 0
@@ -86,14 +96,15 @@ SeatsJoin =
 -- and its holder learns then of one state with all these views
 abbrev pub HoldersLearn : Type 0
 HoldersLearn =
-    (k : Layout) (s : State (Unit {0}) Outlook) (v : Outlook) → HoldsSo k s → get_elem? s.views 0 ≡ some v → v.gone ≡ false
+    (k : Layout) (s : State (Unit {0}) Outlook) (v : Outlook) → HoldsSo k s → get_elem? s.views 0 ≡ some v
+    → v.gone ≡ false
     → Learns k v
 
 -- what the first seat's look tells then: nothing changed, and there is one state with all these views
 abbrev pub learns_all : StepKind → TableStep (Unit {0}) → Me (Unit {0}) Outlook → ℕ → Me (Unit {0}) Outlook → Type 0
 learns_all d st m n m' = (m' ≡ m) × Learns d.layout m.0
 
--- what clauses see of seats that were gathered: the table of words that they are of, and their views, the first seat's first
+-- what clauses see of seats that were gathered: the table that they are of, and their views, the first seat's first
 pub record GatheredOf : Type 0 where
   pub table : TableId
   pub views : List View

@@ -12,8 +12,8 @@ use Rattle.gt_words.specs.Answers.{Publishes, Revokes}
 use Rattle.gt_words.specs.Controls.{generation_of, pins_in}
 use Rattle.gt_words.specs.Events.{TookPlace}
 use Rattle.gt_words.specs.History.{StepHistory, IsOwners, PinsLast, SaysWord, word_place_of}
-use Rattle.gt_words.specs.Rule.{IsLawful, IsNextEntry, IsRevocation, Layout, Shows, Stands, header_place, id_at}
-use Rattle.gt_words.specs.Rule.{layout_of, owner_steps, place, position_in, total_until}
+use Rattle.gt_words.specs.Rule.{IsLawful, IsNextEntry, IsRevocation, Layout, Shows, header_place, id_at}
+use Rattle.gt_words.specs.Rule.{layout_of, owner_steps, place, position_in}
 use Rattle.gt_words.specs.Sight.{SawRecord}
 use Rattle.gt_words.specs.Steps.{on_entry}
 use Rattle.gt_words.specs.Views.{IsAmong, LivePin, earlier_records, exchanged, last_of, last_record, live_pins, seen}

@@ -9,7 +9,8 @@ use Rattle.gt_words.specs.Rule.{Layout}
 
 -- the view of a seat that has done nothing
 abbrev pub new_view : ℕ → List ℕ → List DomId → ℕ → View
-new_view g headers ids t = record { position = t; first = g; headers = headers; ids = ids; dealt = 1; steps = []; past = [] }
+new_view g headers ids t =
+    record { position = t; first = g; headers = headers; ids = ids; dealt = 1; steps = []; past = [] }
 
 -- the view of the seat that dealt another, after it
 abbrev pub dealer_after : View → View
@@ -30,7 +31,8 @@ dealt_outlook o = record { own = dealt_to o.own; taken = []; gone = false }
 abbrev pub IsSamePlace : Seat (Unit {0}) Outlook → Seat (Unit {0}) Outlook → Type 0
 IsSamePlace s t =
     (t.table_id ≡ s.table_id) × (t.id ≡ s.id) × (t.me.1 ≡ s.me.1) × (t.me.0.own.position ≡ s.me.0.own.position)
-    × (t.me.0.own.first ≡ s.me.0.own.first) × (t.me.0.own.headers ≡ s.me.0.own.headers) × (t.me.0.own.ids ≡ s.me.0.own.ids)
+    × (t.me.0.own.first ≡ s.me.0.own.first) × (t.me.0.own.headers ≡ s.me.0.own.headers)
+    × (t.me.0.own.ids ≡ s.me.0.own.ids)
     × (t.me.0.gone ≡ false) × (t.me.0.taken ≡ s.me.0.taken)
 
 -- the seat of the table underneath for the position i, which has done nothing

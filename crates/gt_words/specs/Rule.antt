@@ -2,7 +2,7 @@
 use Rattle.std.specs.Prelude.{◌≡◌, ◌≢◌, ◌⊎◌, ℕ, ◌+◌, ◌*◌, ◌<◌, ◌≤◌, true, not, ◌==◌, List, [], ◌∷◌, map, length}
 use Rattle.std.specs.Prelude.{slice_index, slice_index_or, position, unwrap_or}
 use Rattle.gt_words.specs.Prelude.{some, get_elem?, State, IsEntry, is_read_only, with_ro, IsSpelled, word_of}
-use Rattle.gt_words.specs.Prelude.{header_word, Header, Entry, Invalid, Page, Sub, Via, Dir, Read, Write, DomId, Config}
+use Rattle.gt_words.specs.Prelude.{header_word, Header, Invalid, Dir, Read, Write, DomId, Config}
 use Rattle.gt_words.specs.Prelude.{DomainConfig, MAX_TABLE_FRAMES, TABLE_ENTRIES, DOMAIN_WORDS, EntryStep, First}
 use Rattle.gt_words.specs.Prelude.{Second, HeaderStep, EntryRecord, View}
 use Rattle.gt_words.specs.Controls.{generation_of, pins_in}

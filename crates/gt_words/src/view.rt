@@ -64,18 +64,18 @@ pub enum HeaderStep {
     Stored(u64),
 }
 
-/// One access to a frame: it takes place when the frame's lock is freed.
+/// One access to a frame, which takes place when the frame's lock is freed.
 pub enum FrameStep {
-    /// The bytes from this offset on were read.
+    /// Bytes were read, starting at this offset.
     Read(u16, FrameBytes),
     /// A range was written.
     Wrote(WriteRecord),
-    /// A range was written, with the bytes of a frame of the domain at this position, of this number, from this offset on.
+    /// A range was written with the bytes of another frame: the position of that frame's owner, its number, and the
+    /// offset at which the bytes began.
     Copied(u64, u64, u16, WriteRecord),
 }
 
-/// A step, with the position of the domain among those of the run, and the reference if it is on an entry, or the number
-/// of the frame.
+/// A step on an entry, a header or a frame of the domain at a position, with the reference or the frame's number.
 pub enum SeatStep {
     Entry(u64, u64, EntryStep),
     Header(u64, HeaderStep),
@@ -105,7 +105,7 @@ pub struct View {
     pub past: LinkedList<(u64, SeatStep)>,
 }
 
-/// What a seat knows, and the views of the seats that it took in. A seat that was taken in is gone.
+/// The view of a seat, and the views of the seats that it took in. A seat that was taken in is gone.
 pub struct Outlook {
     pub own: View,
     pub taken: LinkedList<View>,

@@ -18,7 +18,7 @@ ghost use Rattle.gt_words.specs.Answers.{LooksAtHeader, MissesBusy, MissesChange
 ghost use Rattle.gt_words.specs.Answers.{Revokes, StoresBody, StoresHeader, Unpins};
 ghost use Rattle.gt_words.specs.Places.{new_view, IsSamePlace};
 ghost use Rattle.gt_words.specs.Joining.{HoldsSo, Learns, gone_outlook, learns_all, outlook_of, tells_own};
-ghost use Rattle.gt_words.specs.Joining.{tells_own_stored, took};
+ghost use Rattle.gt_words.specs.Joining.{own_part, tells_own_stored, took};
 
 use crate::view::{Outlook, Purpose};
 use atomic_table::{Join, Play, Seat, Shared, Table, TableRule};
@@ -114,11 +114,13 @@ fn load_word<J: OfKind>(
         × IsWide cells.now.table_id.words (layout_of cells.now.key) × (at < length cells.now.key.domains.items)
         × (gref < TABLE_ENTRIES) × (word < 3) }
     requires here { seat.old.me.0.gone ≡ false }
-    requires allowed { Allows (Shows (layout_of cells.now.key)) cells.now.table_id.slots seat.old.id (seat.old.me.0.own, seat.old.me.1)
+    requires allowed { Allows (Shows (layout_of cells.now.key)) cells.now.table_id.slots
+        seat.old.id (own_part seat.old.me)
         (place at gref word) (λ n. n)
-        (tells J.kind (step cells.now.table_id.slots (place at gref word) 0 0 none) (seat.old.me.0.own, seat.old.me.1)) }
+        (tells J.kind (step cells.now.table_id.slots (place at gref word) 0 0 none) (own_part seat.old.me)) }
     ensures { (seat.new.table_id ≡ seat.old.table_id) × (seat.new.id ≡ seat.old.id)
-        × tells J.kind (step cells.now.table_id.slots (place at gref word) 0 0 none) (seat.old.me.0.own, seat.old.me.1) result (seat.new.me.0.own, seat.new.me.1)
+        × tells J.kind (step cells.now.table_id.slots (place at gref word) 0 0 none)
+        (own_part seat.old.me) result (own_part seat.new.me)
         × (seat.new.me.0.taken ≡ seat.old.me.0.taken) × (seat.new.me.0.gone ≡ false) }
 {
     cells.load::<Tells<J>>(seat, (at * DOMAIN_ROWS + (gref + 1)) * ENTRY_WORDS + word)
@@ -137,11 +139,14 @@ fn store_word<J: OfKind>(
         × IsWide cells.now.table_id.words (layout_of cells.now.key) × (at < length cells.now.key.domains.items)
         × (gref < TABLE_ENTRIES) × (word < 3) }
     requires here { seat.old.me.0.gone ≡ false }
-    requires allowed { Allows (Shows (layout_of cells.now.key)) cells.now.table_id.slots seat.old.id (seat.old.me.0.own, seat.old.me.1)
+    requires allowed { Allows (Shows (layout_of cells.now.key)) cells.now.table_id.slots
+        seat.old.id (own_part seat.old.me)
         (place at gref word) (λ _. new)
-        (λ _. tells_stored J.kind (step cells.now.table_id.slots (place at gref word) new 0 none) (seat.old.me.0.own, seat.old.me.1)) }
+        (λ _. tells_stored J.kind (step cells.now.table_id.slots (place at gref word) new 0 none)
+        (own_part seat.old.me)) }
     ensures { (seat.new.table_id ≡ seat.old.table_id) × (seat.new.id ≡ seat.old.id)
-        × tells_stored J.kind (step cells.now.table_id.slots (place at gref word) new 0 none) (seat.old.me.0.own, seat.old.me.1) (seat.new.me.0.own, seat.new.me.1)
+        × tells_stored J.kind (step cells.now.table_id.slots (place at gref word) new 0 none)
+        (own_part seat.old.me) (own_part seat.new.me)
         × (seat.new.me.0.taken ≡ seat.old.me.0.taken) × (seat.new.me.0.gone ≡ false) }
 {
     cells.store::<TellsStore<J>>(
@@ -165,11 +170,13 @@ fn exchange_word<J: OfKind>(
         × IsWide cells.now.table_id.words (layout_of cells.now.key) × (at < length cells.now.key.domains.items)
         × (gref < TABLE_ENTRIES) }
     requires here { seat.old.me.0.gone ≡ false }
-    requires allowed { Allows (Shows (layout_of cells.now.key)) cells.now.table_id.slots seat.old.id (seat.old.me.0.own, seat.old.me.1)
+    requires allowed { Allows (Shows (layout_of cells.now.key)) cells.now.table_id.slots
+        seat.old.id (own_part seat.old.me)
         (place at gref 0) (λ n. either (n == old) new n)
-        (tells J.kind (step cells.now.table_id.slots (place at gref 0) old new none) (seat.old.me.0.own, seat.old.me.1)) }
+        (tells J.kind (step cells.now.table_id.slots (place at gref 0) old new none) (own_part seat.old.me)) }
     ensures { (seat.new.table_id ≡ seat.old.table_id) × (seat.new.id ≡ seat.old.id)
-        × tells J.kind (step cells.now.table_id.slots (place at gref 0) old new none) (seat.old.me.0.own, seat.old.me.1) result (seat.new.me.0.own, seat.new.me.1)
+        × tells J.kind (step cells.now.table_id.slots (place at gref 0) old new none)
+        (own_part seat.old.me) result (own_part seat.new.me)
         × (seat.new.me.0.taken ≡ seat.old.me.0.taken) × (seat.new.me.0.gone ≡ false) }
 {
     let _ = purpose;
@@ -195,11 +202,13 @@ fn subtract_from_word<J: OfKind>(
         × IsWide cells.now.table_id.words (layout_of cells.now.key) × (at < length cells.now.key.domains.items)
         × (gref < TABLE_ENTRIES) }
     requires here { seat.old.me.0.gone ≡ false }
-    requires allowed { Allows (Shows (layout_of cells.now.key)) cells.now.table_id.slots seat.old.id (seat.old.me.0.own, seat.old.me.1)
+    requires allowed { Allows (Shows (layout_of cells.now.key)) cells.now.table_id.slots
+        seat.old.id (own_part seat.old.me)
         (place at gref 0) (λ n. (n + (2 ^ 64 - one)) % 2 ^ 64)
-        (tells J.kind (step cells.now.table_id.slots (place at gref 0) one 0 none) (seat.old.me.0.own, seat.old.me.1)) }
+        (tells J.kind (step cells.now.table_id.slots (place at gref 0) one 0 none) (own_part seat.old.me)) }
     ensures { (seat.new.table_id ≡ seat.old.table_id) × (seat.new.id ≡ seat.old.id)
-        × tells J.kind (step cells.now.table_id.slots (place at gref 0) one 0 none) (seat.old.me.0.own, seat.old.me.1) result (seat.new.me.0.own, seat.new.me.1)
+        × tells J.kind (step cells.now.table_id.slots (place at gref 0) one 0 none)
+        (own_part seat.old.me) result (own_part seat.new.me)
         × (seat.new.me.0.taken ≡ seat.old.me.0.taken) × (seat.new.me.0.gone ≡ false) }
 {
     let _ = dir;
@@ -212,11 +221,13 @@ fn load_header_word<J: OfKind>(cells: &Cells, seat: &mut TableSeat, at: usize) -
     requires fits { (seat.old.table_id ≡ cells.now.table_id)
         × IsWide cells.now.table_id.words (layout_of cells.now.key) × (at < length cells.now.key.domains.items) }
     requires here { seat.old.me.0.gone ≡ false }
-    requires allowed { Allows (Shows (layout_of cells.now.key)) cells.now.table_id.slots seat.old.id (seat.old.me.0.own, seat.old.me.1)
+    requires allowed { Allows (Shows (layout_of cells.now.key)) cells.now.table_id.slots
+        seat.old.id (own_part seat.old.me)
         (header_place at) (λ n. n)
-        (tells J.kind (step cells.now.table_id.slots (header_place at) 0 0 none) (seat.old.me.0.own, seat.old.me.1)) }
+        (tells J.kind (step cells.now.table_id.slots (header_place at) 0 0 none) (own_part seat.old.me)) }
     ensures { (seat.new.table_id ≡ seat.old.table_id) × (seat.new.id ≡ seat.old.id)
-        × tells J.kind (step cells.now.table_id.slots (header_place at) 0 0 none) (seat.old.me.0.own, seat.old.me.1) result (seat.new.me.0.own, seat.new.me.1)
+        × tells J.kind (step cells.now.table_id.slots (header_place at) 0 0 none)
+        (own_part seat.old.me) result (own_part seat.new.me)
         × (seat.new.me.0.taken ≡ seat.old.me.0.taken) × (seat.new.me.0.gone ≡ false) }
 {
     cells.load::<Tells<J>>(seat, at * DOMAIN_WORDS)
@@ -239,11 +250,13 @@ fn store_header_word<J: OfKind>(cells: &Cells, seat: &mut TableSeat, at: usize, 
     requires fits { (seat.old.table_id ≡ cells.now.table_id)
         × IsWide cells.now.table_id.words (layout_of cells.now.key) × (at < length cells.now.key.domains.items) }
     requires here { seat.old.me.0.gone ≡ false }
-    requires allowed { Allows (Shows (layout_of cells.now.key)) cells.now.table_id.slots seat.old.id (seat.old.me.0.own, seat.old.me.1)
+    requires allowed { Allows (Shows (layout_of cells.now.key)) cells.now.table_id.slots
+        seat.old.id (own_part seat.old.me)
         (header_place at) (λ _. new)
-        (λ _. tells_stored J.kind (step cells.now.table_id.slots (header_place at) new 0 none) (seat.old.me.0.own, seat.old.me.1)) }
+        (λ _. tells_stored J.kind (step cells.now.table_id.slots (header_place at) new 0 none) (own_part seat.old.me)) }
     ensures { (seat.new.table_id ≡ seat.old.table_id) × (seat.new.id ≡ seat.old.id)
-        × tells_stored J.kind (step cells.now.table_id.slots (header_place at) new 0 none) (seat.old.me.0.own, seat.old.me.1) (seat.new.me.0.own, seat.new.me.1)
+        × tells_stored J.kind (step cells.now.table_id.slots (header_place at) new 0 none)
+        (own_part seat.old.me) (own_part seat.new.me)
         × (seat.new.me.0.taken ≡ seat.old.me.0.taken) × (seat.new.me.0.gone ≡ false) }
 {
     cells.store::<TellsStore<J>>(seat, at * DOMAIN_WORDS, new)
@@ -290,7 +303,8 @@ impl WordTable {
         requires domain { at < length self.now.table.shared.key.domains.items }
         requires here { seat.old.me.0.gone ≡ false }
         ensures seat { IsSamePlace seat.old seat.new }
-        ensures look { LooksAtHeader (layout_of self.now.table.shared.key) at result seat.old.me.0.own seat.new.me.0.own }
+        ensures look { LooksAtHeader (layout_of self.now.table.shared.key) at result
+            seat.old.me.0.own seat.new.me.0.own }
     {
         load_header_word::<Brand>(&self.table.shared, seat, at)
     }
@@ -313,7 +327,8 @@ impl WordTable {
         requires entry { (at < length self.now.table.shared.key.domains.items) × (gref < TABLE_ENTRIES) }
         requires here { seat.old.me.0.gone ≡ false }
         ensures seat { IsSamePlace seat.old seat.new }
-        ensures look { LooksAtControl (layout_of self.now.table.shared.key) at gref result seat.old.me.0.own seat.new.me.0.own }
+        ensures look { LooksAtControl (layout_of self.now.table.shared.key) at gref result
+            seat.old.me.0.own seat.new.me.0.own }
         ensures own { seat.old.me.0.own.position ≡ at → IsWordOf (last_of gref seat.new.me.0.own) result }
     {
         load_word::<Brand>(&self.table.shared, seat, at, gref, 0)
@@ -347,7 +362,8 @@ impl WordTable {
         ensures seat { IsSamePlace seat.old seat.new }
         ensures step { MatchResult result
             (λ _. Pins (layout_of self.now.table.shared.key) at gref dir looked seat.old.me.0.own seat.new.me.0.own)
-            (λ n. MissesPin (layout_of self.now.table.shared.key) at gref dir looked n seat.old.me.0.own seat.new.me.0.own) }
+            (λ n. MissesPin (layout_of self.now.table.shared.key) at gref dir looked n
+            seat.old.me.0.own seat.new.me.0.own) }
         ensures counted { CountsPins (layout_of self.now.table.shared.key) at gref dir }
     {
         let new = looked + pin_unit(dir);
@@ -378,7 +394,8 @@ impl WordTable {
         requires held { Holds at gref dir generation seat.old.me.0.own }
         requires here { seat.old.me.0.gone ≡ false }
         ensures seat { IsSamePlace seat.old seat.new }
-        ensures step { Unpins (layout_of self.now.table.shared.key) at gref dir generation seat.old.me.0.own seat.new.me.0.own }
+        ensures step { Unpins (layout_of self.now.table.shared.key) at gref dir generation
+            seat.old.me.0.own seat.new.me.0.own }
     {
         let one = pin_unit(dir);
         subtract_from_word::<Brand>(&self.table.shared, seat, at, gref, one, dir, generation);
@@ -398,7 +415,8 @@ impl WordTable {
         requires invalid { (last_of gref seat.old.me.0.own).entry ≡ Entry.Invalid }
         requires here { seat.old.me.0.gone ≡ false }
         ensures seat { IsSamePlace seat.old seat.new }
-        ensures step { StoresBody (layout_of self.now.table.shared.key) gref half value seat.old.me.0.own seat.new.me.0.own }
+        ensures step { StoresBody (layout_of self.now.table.shared.key) gref half value
+            seat.old.me.0.own seat.new.me.0.own }
     {
         store_word::<Brand>(&self.table.shared, seat, at, gref, index_of(half), value);
     }
@@ -468,7 +486,8 @@ impl WordTable {
         requires here { seat.old.me.0.gone ≡ false }
         ensures seat { IsSamePlace seat.old seat.new }
         ensures step { MatchResult result
-            (λ _. Changes (layout_of self.now.table.shared.key) gref Change.Withdraw word seat.old.me.0.own seat.new.me.0.own)
+            (λ _. Changes (layout_of self.now.table.shared.key) gref Change.Withdraw word
+            seat.old.me.0.own seat.new.me.0.own)
             (λ n. MissesChange (layout_of self.now.table.shared.key) gref Change.Withdraw word n
             seat.old.me.0.own seat.new.me.0.own) }
     {
@@ -516,7 +535,8 @@ impl WordTable {
         requires here { seat.old.me.0.gone ≡ false }
         ensures seat { IsSamePlace seat.old seat.new }
         ensures step { MatchResult result
-            (λ _. Changes (layout_of self.now.table.shared.key) gref Change.Promote word seat.old.me.0.own seat.new.me.0.own)
+            (λ _. Changes (layout_of self.now.table.shared.key) gref Change.Promote word
+            seat.old.me.0.own seat.new.me.0.own)
             (λ n. MissesChange (layout_of self.now.table.shared.key) gref Change.Promote word n
             seat.old.me.0.own seat.new.me.0.own) }
     {

@@ -432,7 +432,7 @@ impl Words {
     ghost use Rattle.std.specs.Prelude.{◌≡◌, ◌∷◌, []};
     ghost use Rattle.gt_words.specs.Joining.{StandTogether, with_view};
 
-    /// Gathers seats whose steps are all made: the first domain's first.
+    /// Begins to gather the seats of a run, with the first domain's. A seat that is gathered makes no more steps.
     pub fn gather(&self, first: Seat) -> Gathered
         requires { IsSeatOf self.now first × (first.view.position ≡ 0) }
         ensures { (result.table ≡ self.now.table) × (result.views ≡ first.view ∷ []) }
@@ -441,7 +441,7 @@ impl Words {
         Gathered { place }
     }
 
-    /// One seat more.
+    /// Adds a seat to those that are gathered.
     pub fn gather_more(&self, all: &mut Gathered, other: Seat)
         requires { (all.old.table ≡ self.now.table) × IsSeatOf self.now other }
         ensures { (all.new.table ≡ all.old.table) × (all.new.views ≡ with_view other.view all.old.views) }
@@ -450,7 +450,8 @@ impl Words {
         self.words.take_in(&mut all.place, place);
     }
 
-    /// Words and views showed one state, with the views of all seats that were gathered. So their steps have one order.
+    /// Looks at the table with all seats that are gathered: words and views show one state that has the views of them
+    /// all, so their steps have one order. It is one load.
     pub fn tell_of_all(&self, all: &mut Gathered)
         requires { all.old.table ≡ self.now.table }
         ensures same { all.new.views ≡ all.old.views }

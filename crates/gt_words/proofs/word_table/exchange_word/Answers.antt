@@ -1,10 +1,10 @@
-use Rattle.std.proofs.Common.{◌≡◌, ℕ, ◌+◌, ◌*◌, ◌-◌, ◌%◌, ◌^◌, ◌<◌, ◌==◌, arith, refl, ap}
+use Rattle.std.proofs.Common.{◌≡◌, ℕ, ◌+◌, ◌*◌, ◌==◌, arith, ap}
 use mathlib.Core.Option.{none}
 use prog.Atomic.{either}
 use Rattle.atomic_table.specs.Table.{step}
-use Rattle.gt_words.specs.Rule.{header_place, layout_of, place}
+use Rattle.gt_words.specs.Rule.{layout_of, place}
 use Rattle.gt_words.proofs.word_table.exchange_word.Goals as goal
-use Rattle.gt_words.proofs.Joining.{lifted, lifted_store}
+use Rattle.gt_words.proofs.Joining.{lifted}
 
 pub compare_exchange-requires : goal.compare_exchange-requires
 compare_exchange-requires g c = let f = c.requires.fits in let b = c.args.cells.now in let at = c.args.at in
@@ -13,5 +13,5 @@ compare_exchange-requires g c = let f = c.requires.fits in let b = c.args.cells.
       f.0,
       omega arith,
       lifted (layout_of b.key) b.table_id.slots c.args.seat.now.id c.args.seat.now.me (place at c.args.gref 0) ((at * 8193 + (c.args.gref + 1)) * 8) (λ n. either (n == c.args.old) c.args.new n) g.J.OfKind.kind _ _ c.requires.here same
-      (ap (λ (i : ℕ). step b.table_id.slots i c.args.old c.args.new none) same) c.requires.allowed,
+          (ap (λ (i : ℕ). step b.table_id.slots i c.args.old c.args.new none) same) c.requires.allowed,
     )

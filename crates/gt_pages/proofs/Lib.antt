@@ -1,5 +1,0 @@
-pub mod Accesses
-pub mod Keeping
-pub mod Steps
-pub mod Facts
-pub mod Opens

@@ -1,0 +1,5 @@
+pub mod Bytes
+pub mod Laws
+pub mod Rule
+pub mod Telling
+pub mod Seats

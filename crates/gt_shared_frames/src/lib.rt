@@ -1,0 +1,24 @@
+//! The frames of a run in the table of its words: each frame lies in a slot, under a lock that is a word.
+//!
+//! A seat takes a frame out of its slot, reads or writes it, puts it back and frees the lock. The store that frees the
+//! lock is one step of the history that the words have, and says which bytes were read, written or copied. So an
+//! access has a place among all steps of all domains, and what it read is what the steps before it make.
+//!
+//! Promised: `Accessed` (specs/Telling.antt) of each call that read, wrote or copied, and nothing else done. The rule
+//! of the table is `HoldsAll` (specs/Rule.antt): words and views show a state of the core, a frame in its slot is what
+//! the history makes of it, and a frame that is out is in one seat's hands, as it was taken.
+//!
+//! It stands on `gt_words` (steps, views and the rule of the words), `gt_frames` (frames and their journals) and
+//! `atomic_table`. The running monitor keeps its frames in `gt_frames`' pool and does not use this crate yet.
+#![tactic(auto)]
+
+mod accesses;
+mod laws;
+mod table;
+
+pub use accesses::{copy, copy_within, read, try_read, try_write, write};
+pub use laws::{
+    every_access_is_a_step, every_frame_has_one_slot, every_frame_is_kept, every_step_is_allowed,
+    every_table_opens, seats_come_and_go,
+};
+pub use table::{Cells, FrameSeat, Frames, Holder, Slot, lock, try_lock};
