@@ -19,7 +19,6 @@ use Rattle.gt_calls.specs.declared.action.Verdict.TheVariants.{Given, Granted, M
 use Rattle.gt_calls.specs.declared.call.Question.{Question}
 use Rattle.gt_calls.specs.declared.call.Question.TheVariants.{Size, Version}
 use Rattle.gt_calls.specs.declared.known.Own.{Own}
-use Rattle.gt_calls.specs.declared.request.Asked.{Asked}
 use Rattle.gt_calls.specs.declared.request.Asked.TheVariants as asks
 use Rattle.gt_calls.specs.declared.request.Request.{Request}
 use Rattle.gt_calls.specs.declared.request.Request.TheVariants as requests

@@ -1,7 +1,6 @@
 -- What a domain knows by itself at a call's beginning, and calls that are answered there.
 use Rattle.std.proofs.Common.{◌≡◌, ℕ, refl, sym, ap, ◌∙◌, subst, List, []}
 use Rattle.std.specs.Prelude.{is_some}
-use Rattle.gt_types.specs.declared.DomId.{DomId}
 use Rattle.gt_types.specs.declared.config.Config.{Config}
 use Rattle.gt_entry.specs.declared.header.Header.{Header}
 use Rattle.gt_types.specs.Config.{IsWithinLimits}
@@ -21,7 +20,7 @@ use Rattle.gt_calls.specs.declared.held.Held.{Held}
 use Rattle.gt_calls.specs.declared.known.Own.{Own}
 use Rattle.gt_calls.specs.declared.request.Asked.{Asked}
 use Rattle.gt_calls.specs.declared.request.Asked.TheVariants as asks
-use Rattle.gt_calls.specs.Rules.{CallerKnowledge, knowledge_of}
+use Rattle.gt_calls.specs.Rules.{knowledge_of}
 use Rattle.gt_live.specs.declared.domain.Domain.{Domain}
 use Rattle.gt_live.specs.Domains.{IsDomainOf, AllowRelation, done_by, frames_told, knowledge, verdict_of}
 use Rattle.gt_live.specs.Domains.{verdict_of_frames}

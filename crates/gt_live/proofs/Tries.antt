@@ -1,5 +1,5 @@
 -- A map whose leg is walked on the words: what each step makes of it.
-use Rattle.std.proofs.Common.{◌≡◌, ◌∙◌, ℕ, List, [], ◌∷◌, None, refl, sym, ap, subst}
+use Rattle.std.proofs.Common.{◌≡◌, ℕ, List, [], ◌∷◌, None, refl, sym, ap, subst}
 use Rattle.std.specs.Prelude.{Result, Ok, Err}
 use Rattle.gt_types.specs.declared.DomId.{DomId}
 use Rattle.gt_types.specs.declared.GrantRef.{GrantRef}
@@ -12,7 +12,6 @@ use Rattle.gt_calls.specs.Path.{map_leg, path}
 use Rattle.gt_calls.specs.Rules.{CallerKnowledge, begun}
 use Rattle.gt_calls.specs.declared.action.Seen.{Seen}
 use Rattle.gt_calls.specs.declared.action.Verdict.TheVariants.{Mapped, Refused}
-use Rattle.gt_calls.specs.declared.call.Phase.{Phase}
 use Rattle.gt_calls.specs.declared.call.Phase.TheVariants.{Walking}
 use Rattle.gt_calls.specs.declared.copying.Aim.TheVariants.{Mapping}
 use Rattle.gt_calls.specs.declared.held.Held.{Held}
@@ -25,7 +24,7 @@ use Rattle.gt_calls.specs.declared.request.Asked.{Asked}
 use Rattle.gt_calls.specs.declared.request.Asked.TheVariants as asks
 use Rattle.gt_live.specs.declared.driving.Effect.{Effect}
 use Rattle.gt_live.specs.declared.driving.Effect.TheVariants.{Nothing, Pinned, Unpinned, Changed, Stored}
-use Rattle.gt_live.specs.Driving.{CanMake, Knows, Leaves}
+use Rattle.gt_live.specs.Driving.{Knows, Leaves}
 use Rattle.gt_live.specs.Effects.{Answers, effect_of}
 use Rattle.gt_live.specs.Legs.{CanWalkLeg, ComesBy, LegStep, WalksLeg, next_by}
 use Rattle.gt_live.specs.Maps.{pin_effect, pin_verdict}

@@ -5,7 +5,7 @@ use Rattle.gt_live.specs.Prelude.{Denial, N16, N26, NoFacts, TABLE_ENTRIES, deni
 use Rattle.gt_live.specs.Prelude.{KeepsPins, Unpins, generation_of, Moment, Layout, position_in, last_of, own_table}
 use Rattle.gt_live.specs.Prelude.{live_pins, steps_on, View, HandleMap, value_of, Handle, Verdict, Granted, Given}
 use Rattle.gt_live.specs.Prelude.{Mapped}
-use Rattle.gt_live.specs.Prelude.{Refused, Frames, SizeTold, Version, Held, CopyArgs, End, Request, Copying, begun_of}
+use Rattle.gt_live.specs.Prelude.{Refused, Frames, SizeTold, Version, Held, CopyArgs, Request, Copying, begun_of}
 use Rattle.gt_live.specs.Prelude.{path_of, CallerKnowledge, knowledge_of}
 use Rattle.gt_live.specs.Prelude.{entry_in}
 use Rattle.gt_live.specs.Prelude.{own_generation, Domain, Left, Monitor, NotMade, Gone, OutOfMemory, Step}

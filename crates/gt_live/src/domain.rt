@@ -401,7 +401,7 @@ impl Domain {
         )
     }
 
-    // Makes an owner's change of the entry with this row that no rule answered at its beginning, and keeps it in the row.
+    // Makes a change of the entry with this row that no rule answered at its beginning, and keeps it in the row.
     #[inline(always)]
     fn change_own<P: Allows>(
         &mut self,
@@ -469,7 +469,8 @@ impl Domain {
             begun_of (known_on P.may monitor.now self.now) self.now.seat.dom (Request.GrantBytes gref bytes.entry)
             ≡ Some (Verdict.Refused denial)) }
         ensures open { IfOk result (λ entry.
-            (begun_of (known_on P.may monitor.now self.now) self.now.seat.dom (Request.GrantBytes gref bytes.entry) ≡ None)
+            (begun_of (known_on P.may monitor.now self.now) self.now.seat.dom
+            (Request.GrantBytes gref bytes.entry) ≡ None)
             × (asks.Grant gref entry ≡ asked (Request.GrantBytes gref bytes.entry))
             × (begun (known_on P.may monitor.now self.now) self.now.seat.dom (asks.Grant gref entry) ≡ None)) }
     {
