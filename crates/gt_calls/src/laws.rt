@@ -1,5 +1,5 @@
-//! Laws of calls: the numbers that their paths and bounds rest on, and how a call goes on. A law is a function that does
-//! nothing, whose contract is the law.
+//! Laws of calls: the numbers that their paths and bounds rest on, and how a call goes on. A law is a function that
+//! does nothing, whose contract is the law.
 ghost use Rattle.std.specs.Prelude.{◌≡◌, ◌+◌};
 ghost use Rattle.gt_types.specs.declared.limits.TheConstants.{FRAME_SIZE, MAX_TRIES, TABLE_ENTRIES};
 ghost use Rattle.gt_calls.specs.Following.{GoesByPhase};

@@ -41,7 +41,7 @@ use Rattle.gt_calls.specs.declared.action.Seen.TheVariants.{Nothing}
 use Rattle.gt_calls.specs.declared.request.Asked.{Asked}
 use Rattle.gt_calls.specs.declared.request.Asked.TheVariants as asks
 use Rattle.gt_calls.specs.declared.call.Phase.TheVariants.{Accessing}
-use Rattle.gt_calls.specs.CopyCalls.{copy_call}
+use Rattle.gt_live.specs.Copies.{copy_call}
 use Rattle.gt_calls.specs.Resting.{IsReached, RestsOnWays}
 use Rattle.gt_calls.specs.Rules.{CallerKnowledge, begun, copy_begun, denied, first}
 use Rattle.gt_types.specs.Copies.{is_dest_granted, is_source_granted}

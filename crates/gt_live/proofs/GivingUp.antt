@@ -1,5 +1,5 @@
 -- A call that is refused by N18 made just four tries, each of which was missed.
-use Rattle.std.proofs.Common.{◌≡◌, ◌≢◌, ◌⊎◌, inl, inr, ⊎_elim, ◌+◌, ◌==◌, ◌<◌, ℕ, zero, suc, Bool, true, false}
+use Rattle.std.proofs.Common.{◌≡◌, ◌≢◌, ◌⊎◌, inl, inr, ⊎_elim, ◌==◌, ℕ, zero, suc, Bool, true, false}
 use Rattle.std.proofs.Common.{if◌then◌else◌, not, nat_lt, refl, sym, ap, ◌∙◌, subst, List, [], ◌∷◌, ◌++◌, map, length}
 use Rattle.std.proofs.Common.{Option, Some, None, append_assoc, eq-eqb, ne_eqb, arith}
 use Rattle.std.specs.Prelude.{nat_le}
@@ -8,7 +8,6 @@ use Rattle.gt_types.specs.declared.GrantRef.{GrantRef}
 use Rattle.gt_types.specs.declared.TypeId.{TypeId}
 use Rattle.gt_types.specs.declared.perms.Perms.{Perms}
 use Rattle.gt_types.specs.declared.rights.Triple.{Triple}
-use Rattle.gt_types.specs.declared.Dir.{Dir}
 use Rattle.gt_types.specs.declared.Dir.TheVariants.{Read, Write}
 use Rattle.gt_types.specs.declared.denial.Denial.{Denial}
 use Rattle.gt_types.specs.declared.denial.Field.{Field}
@@ -19,7 +18,6 @@ use Rattle.gt_types.specs.Denial.{denial_of}
 use Rattle.gt_entry.specs.declared.change.Change.{Change}
 use Rattle.gt_entry.specs.declared.change.Change.TheVariants.{Demote as ToReadOnly, Promote as ToWritable, Publish}
 use Rattle.gt_entry.specs.declared.change.Change.TheVariants.{Revoke as ToInvalid, Withdraw as ToWithdrawn}
-use Rattle.gt_entry.specs.declared.change.Half.{Half}
 use Rattle.gt_entry.specs.declared.change.Half.TheVariants.{First as FirstHalf, Second as SecondHalf}
 use Rattle.gt_entry.specs.declared.control.Control.{Control}
 use Rattle.gt_entry.specs.declared.control.Kind.TheVariants.{Sub as KindSub}
@@ -40,7 +38,6 @@ use Rattle.gt_words.specs.declared.view.EntryStep.TheVariants.{ReadBody, Unpinne
 use Rattle.gt_words.specs.declared.view.HeaderStep.TheVariants as header
 use Rattle.gt_words.specs.declared.view.SeatStep.{SeatStep}
 use Rattle.gt_words.specs.declared.view.View.{View}
-use Rattle.gt_handles.specs.declared.handles.Handle.{Handle}
 use Rattle.gt_calls.specs.declared.action.Action.{Action}
 use Rattle.gt_calls.specs.declared.action.Action.TheVariants.{Done, Step as Makes}
 use Rattle.gt_calls.specs.declared.action.Seen.{Seen}
@@ -49,9 +46,8 @@ use Rattle.gt_calls.specs.declared.action.Step.{Step}
 use Rattle.gt_calls.specs.declared.action.Step.TheVariants.{Exchange, LookBody, LookControl, LookHeader, Pin, StoreBody}
 use Rattle.gt_calls.specs.declared.action.Step.TheVariants.{StoreHeader, Unpin, Read as ReadBytes, Write as WriteBytes}
 use Rattle.gt_calls.specs.declared.action.Step.TheVariants.{Copy as CopyBytes}
-use Rattle.gt_calls.specs.declared.action.Value.{Value}
 use Rattle.gt_calls.specs.declared.action.Verdict.{Verdict}
-use Rattle.gt_calls.specs.declared.action.Verdict.TheVariants.{Given, Granted, Mapped, Refused}
+use Rattle.gt_calls.specs.declared.action.Verdict.TheVariants.{Granted, Mapped, Refused}
 use Rattle.gt_calls.specs.declared.held.Held.{Held}
 use Rattle.gt_calls.specs.declared.held.Route.{Route}
 use Rattle.gt_calls.specs.declared.held.Route.TheVariants.{Direct, Own, Through}
@@ -65,18 +61,18 @@ use Rattle.gt_calls.specs.declared.request.Request.{Request}
 use Rattle.gt_calls.specs.Asking.{asked, begun_by, begun_of, bytes_of, field_refused, plainly_asked}
 use Rattle.gt_calls.specs.Holding.{held_by}
 use Rattle.gt_calls.specs.Path.{AfterPin, AfterRefusal, Continuation, accesses, after_beginning, after_first}
-use Rattle.gt_calls.specs.Path.{asks as asks_of, at_first_look, beyond, by_mapping, copies, dest_pair, end_leg, ended}
-use Rattle.gt_calls.specs.Path.{entry_refusal, exchanges, exchanges_once, give_back, grant_path, held_of, is_stopped}
-use Rattle.gt_calls.specs.Path.{last_step, leg, looks, looks_again, makes, map_leg, path_of, pins, publishes, reaches}
+use Rattle.gt_calls.specs.Path.{at_first_look, beyond, by_mapping, copies, dest_pair, end_leg, ended}
+use Rattle.gt_calls.specs.Path.{entry_refusal, exchanges, exchanges_once, give_back, held_of, is_stopped}
+use Rattle.gt_calls.specs.Path.{last_step, leg, looks, makes, map_leg, path_of, pins, reaches}
 use Rattle.gt_calls.specs.Path.{reads_body, reads_second, refused_at, refused_holding, rule_of_try, second_leg}
-use Rattle.gt_calls.specs.Path.{source_pair, steps_of, stores_second, to_dest, told_to, tries, try_pin, turn, turns}
+use Rattle.gt_calls.specs.Path.{source_pair, steps_of, to_dest, tries, try_pin, turn, turns}
 use Rattle.gt_calls.specs.Path.{unless_refused}
-use Rattle.gt_calls.specs.Rules.{CallerKnowledge, before_pin, begun, copy_denied, denied, first, first_look}
+use Rattle.gt_calls.specs.Rules.{CallerKnowledge, before_pin, begun, denied, first, first_look}
 use Rattle.gt_calls.specs.Rules.{refused_when, stands, via_judged, is_invalid}
 use Rattle.gt_types.specs.Copies.{is_dest_granted, is_source_granted}
 use Rattle.gt_live.specs.Tries.{AreReads, AreUnpins, BeginsTries, FourTriesWereMissed, FoundAnother, GaveUp}
 use Rattle.gt_live.specs.Tries.{IsMissedTry, MissedTries, in_order}
-use Rattle.gt_live.specs.Walks.{Called, IsWalk, Made, MakesStep, view_after, all_shown, shown_by, seen_in_step}
+use Rattle.gt_live.specs.Walks.{IsWalk, Made, MakesStep, view_after, all_shown, shown_by, seen_in_step}
 use Rattle.gt_live.proofs.Walking.{after-position}
 
 -- lists

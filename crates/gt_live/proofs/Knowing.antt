@@ -1,7 +1,6 @@
 -- What a domain knows by itself at a call's beginning, and calls that are answered there.
 use Rattle.std.proofs.Common.{◌≡◌, ℕ, refl, sym, ap, ◌∙◌, subst, List, []}
 use Rattle.std.specs.Prelude.{is_some}
-use Rattle.gt_types.specs.declared.DomId.{DomId}
 use Rattle.gt_types.specs.declared.config.Config.{Config}
 use Rattle.gt_entry.specs.declared.header.Header.{Header}
 use Rattle.gt_types.specs.Config.{IsWithinLimits}
@@ -13,7 +12,6 @@ use Rattle.gt_words.specs.declared.view.View.{View}
 use Rattle.gt_handles.specs.declared.handles.Handle.{Handle}
 use Rattle.gt_handles.specs.Handles.{HandleMap}
 use Rattle.gt_handles.specs.Listing.{IsInserted}
-use Rattle.gt_types.specs.declared.GrantRef.{GrantRef}
 use Rattle.gt_calls.specs.declared.action.Value.{Value}
 use Rattle.gt_calls.specs.declared.action.Value.TheVariants as values
 use Rattle.gt_calls.specs.declared.action.Verdict.{Verdict}
@@ -22,19 +20,15 @@ use Rattle.gt_calls.specs.declared.held.Held.{Held}
 use Rattle.gt_calls.specs.declared.known.Own.{Own}
 use Rattle.gt_calls.specs.declared.request.Asked.{Asked}
 use Rattle.gt_calls.specs.declared.request.Asked.TheVariants as asks
-use Rattle.gt_calls.specs.Rules.{CallerKnowledge, knowledge_of}
+use Rattle.gt_calls.specs.Rules.{knowledge_of}
 use Rattle.gt_live.specs.declared.domain.Domain.{Domain}
-use Rattle.gt_live.specs.Domains.{IsDomainOf, AllowRelation, done_by, frames_told, knowledge, size_told, verdict_of}
+use Rattle.gt_live.specs.Domains.{IsDomainOf, AllowRelation, done_by, frames_told, knowledge, verdict_of}
 use Rattle.gt_live.specs.Domains.{verdict_of_frames}
-use Rattle.gt_live.specs.Domains.{verdict_of_size, verdict_of_version, version_told}
-use Rattle.gt_live.specs.Driving.{IsSame, Knows, Leaves}
+use Rattle.gt_live.specs.Driving.{Knows}
 use Rattle.gt_live.specs.Walks.{CarriesFound, TellsSteps}
 use Rattle.gt_types.specs.declared.denial.Facts.{Facts}
 use Rattle.gt_types.specs.declared.denial.Facts.TheVariants as facts
-use Rattle.gt_live.specs.Ending.{IsAnswerTo, IsAtOnce, IsMap, IsOfMapping, IsWordless}
-use Rattle.gt_live.specs.declared.driving.Effect.{Effect}
-use Rattle.gt_entry.specs.declared.change.Change.{Change}
-use Rattle.gt_live.specs.declared.driving.Effect.TheVariants.{Nothing, Pinned, Unpinned, Changed, Stored}
+use Rattle.gt_live.specs.Ending.{IsAnswerTo, IsAtOnce, IsWordless}
 
 -- what is known by lent parts is what is known
 pub same-knowledge : (c : Config) (may : AllowRelation) (d : Domain) (own : List Own) (h : Header) → own ≡ d.own.items → h ≡ own_table d.seat.view
@@ -54,21 +48,6 @@ knows-own b c may d limits run is kept = record {
   generations = is.generations;
   mapped = λ h m e. (is.mapped h m e).pin;
 }
-
-map-of-mapping : (request : Asked) → IsMap request → IsOfMapping request
-map-of-mapping (asks.Map dom gref flags) is = tt
-map-of-mapping _ is = absurd is
-
--- a call that neither maps nor unmaps, and changed no entry, has only looked
-pub unchanged : (c : CallerKnowledge) (k : Layout) (caller : DomId) (request : Asked) (v w : View) (effect : Effect)
-    → (IsOfMapping request → ⊥) → ((q : GrantRef) (change : Change) → effect ≡ Changed q change → ⊥)
-    → Leaves c k caller request v w effect → IsSame v w
-unchanged c k caller request v w Nothing other not left = left
-unchanged c k caller request v w (Pinned p) other not left = absurd (other (map-of-mapping request left.asked))
-unchanged c k caller request v w (Unpinned h) other not left =
-    absurd (other (subst (λ (r : Asked). IsOfMapping r) (sym left.asked) tt))
-unchanged c k caller request v w (Changed q change) other not left = absurd (not q change refl)
-unchanged c k caller request v w Stored other not left = left.0
 
 -- a call that is answered at its beginning
 
@@ -132,16 +111,6 @@ done-back request Granted is a = refl
 done-back request (Refused denial) is a = refl
 done-back request (Mapped p) is a = absurd (plain-mapped request p is a)
 done-back request (Given value) is a = absurd (plain-given request value is a)
-
-pub version-back : (dom : DomId) (verdict : Verdict) → IsAnswerTo (asks.GetVersion dom) verdict → verdict ≡ verdict_of_version (version_told verdict)
-version-back dom (Refused denial) a = refl
-version-back dom (Given (values.Version n)) a = refl
-version-back dom _ a = absurd a
-
-pub size-back : (dom : DomId) (verdict : Verdict) → IsAnswerTo (asks.QuerySize dom) verdict → verdict ≡ verdict_of_size (size_told verdict)
-size-back dom (Refused denial) a = refl
-size-back dom (Given (values.Size s)) a = refl
-size-back dom _ a = absurd a
 
 pub frames-back : (n : ℕ) (verdict : Verdict) → IsAnswerTo (asks.SetupTable n) verdict → verdict ≡ verdict_of_frames (frames_told verdict)
 frames-back n (Refused denial) a = refl

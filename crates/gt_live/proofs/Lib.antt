@@ -12,8 +12,12 @@ pub mod Knowing
 pub mod Labels
 pub mod AnsweredAtOnce
 pub mod Accessing
-pub mod Maps
+pub mod OneStep
+pub mod Stepping
 pub mod OwnChanges
+pub mod AtOnce
+pub mod Told
+pub mod Questions
 pub mod Legs
 pub mod Tries
 pub mod Visiting

@@ -7,6 +7,7 @@ use Rattle.gt_words.specs.declared.view.View.{View}
 use Rattle.gt_calls.specs.declared.action.Action.{Action}
 use Rattle.gt_calls.specs.declared.action.Action.TheVariants.{Step as Makes, Done}
 use Rattle.gt_calls.specs.declared.action.Seen.{Seen}
+use Rattle.gt_calls.specs.declared.action.Seen.TheVariants.{Nothing as Unseen}
 use Rattle.gt_calls.specs.declared.action.Step.{Step}
 use Rattle.gt_calls.specs.declared.action.Verdict.TheVariants.{Refused}
 use Rattle.gt_calls.specs.declared.call.Phase.{Phase}
@@ -18,18 +19,18 @@ use Rattle.gt_calls.specs.declared.leg.LegNext.TheVariants.{Going}
 use Rattle.gt_calls.specs.declared.leg.LegPhase.TheVariants.{Header}
 use Rattle.gt_calls.specs.declared.held.Pins.{Pins}
 use Rattle.gt_types.specs.declared.copies.CopyArgs.{CopyArgs}
-use Rattle.gt_calls.specs.CopyCalls.{CopyBeginsAs, CopyGoesOnAs, copy_call, unmoved_copy}
 use Rattle.gt_calls.specs.Holding.{no_pins}
 use Rattle.gt_calls.specs.Machine.{action_at, after_leg, at_source, phase_after}
 use Rattle.gt_calls.specs.Legs.{leg_step}
 use Rattle.gt_calls.specs.Rules.{CallerKnowledge, copy_begun}
 use Rattle.std.specs.Prelude.{Result, Ok, Err}
-use Rattle.gt_live.specs.Copies.{StopsSo, after_copy}
+use Rattle.gt_live.specs.Copies.{StopsSo, after_copy, copy_call, unmoved_copy}
 use Rattle.gt_live.specs.Driving.{Knows}
 use Rattle.gt_live.specs.Legs.{CanWalkLeg, ComesBy, LegStep, WalksLeg}
 use Rattle.gt_live.specs.Phases.{CanRun, PhaseStep, Runs, RunsBy}
 use Rattle.gt_live.specs.Underway.{IsUnderway}
 use Rattle.gt_live.specs.Walks.{MakesStep}
+use Rattle.gt_live.proofs.Stepping.{PhaseLaw}
 use Rattle.gt_live.proofs.Stopping.{comes-there, ends-refused, goes-on, makes-copy, no-leg, starts}
 
 module _ (c : CallerKnowledge) (k : Layout) (caller : DomId) where
@@ -93,7 +94,7 @@ module _ (c : CallerKnowledge) (k : Layout) (caller : DomId) where
   can-then start mid v u can x = λ at w step y acts other. can at w step (runs-then start mid at v u w x y) acts other
 
   -- a copy under way, and what it comes to
-  module _ (copy : CopyArgs) (law : (phase : Phase) (seen : Seen) → CopyGoesOnAs c caller copy phase seen) (v : View)
+  module _ (copy : CopyArgs) (law : PhaseLaw c) (v : View)
       (knows : Knows c k caller v) where
     abbrev pub StandsAt : Phase → View → Type 0
     StandsAt phase w = IsUnderway c k v w (copy_call caller copy phase) (action_at caller phase)
@@ -104,7 +105,7 @@ module _ (c : CallerKnowledge) (k : Layout) (caller : DomId) where
         (goes-on c k v u w (copy_call caller copy at) (copy_call caller copy (phase_after c caller at seen))
         (action_at caller (phase_after c caller at seen)) s seen knows
         (subst (λ (a : Action). IsUnderway c k v u (copy_call caller copy at) a) acts here) made refl refl
-        (law at seen)).0
+        (law (copy_call caller copy at) seen)).0
     step-further at seen u w (Done verdict) acts made here = absurd made
 
     stands-by : (start : Phase) → StandsAt start v → (xs : List PhaseStep) (phase : Phase) (w : View)
@@ -126,12 +127,11 @@ module _ (c : CallerKnowledge) (k : Layout) (caller : DomId) where
         other
 
     -- a copy that no rule answered at its beginning
-    pub stands-first : CopyBeginsAs c caller copy → copy_begun c caller copy ≡ None
-        → StandsAt (at_source c caller copy) v
-    stands-first begins none =
+    pub stands-first : copy_begun c caller copy ≡ None → StandsAt (at_source c caller copy) v
+    stands-first none =
         starts c k v (unmoved_copy caller copy) (copy_call caller copy (at_source c caller copy))
         (action_at caller (at_source c caller copy)) copy knows (record { unmoved = refl; unanswered = none }) refl
-        refl refl begins
+        refl refl (law (unmoved_copy caller copy) Unseen)
 
     -- where it stops
     pub stops : (result : Result Pins Denial) (w : View) → StandsAt (after_copy copy result) w

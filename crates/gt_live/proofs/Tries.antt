@@ -1,5 +1,5 @@
 -- A map whose leg is walked on the words: what each step makes of it.
-use Rattle.std.proofs.Common.{◌≡◌, ℕ, List, [], ◌∷◌, None, refl, sym, subst}
+use Rattle.std.proofs.Common.{◌≡◌, ℕ, List, [], ◌∷◌, None, refl, sym, ap, subst}
 use Rattle.std.specs.Prelude.{Result, Ok, Err}
 use Rattle.gt_types.specs.declared.DomId.{DomId}
 use Rattle.gt_types.specs.declared.GrantRef.{GrantRef}
@@ -7,110 +7,104 @@ use Rattle.gt_types.specs.declared.denial.Denial.{Denial}
 use Rattle.gt_words.specs.Rule.{Layout}
 use Rattle.gt_words.specs.declared.view.View.{View}
 use Rattle.gt_calls.specs.Legs.{leg_after, leg_step}
-use Rattle.gt_calls.specs.MapCalls.{MapBeginsAs, MapGoesOnAs, MapCall, call_of}
+use Rattle.gt_calls.specs.Machine.{after_leg}
 use Rattle.gt_calls.specs.Path.{map_leg, path}
 use Rattle.gt_calls.specs.Rules.{CallerKnowledge, begun}
-use Rattle.gt_calls.specs.declared.action.Action.TheVariants.{Step as Makes}
 use Rattle.gt_calls.specs.declared.action.Seen.{Seen}
 use Rattle.gt_calls.specs.declared.action.Verdict.TheVariants.{Mapped, Refused}
+use Rattle.gt_calls.specs.declared.call.Phase.TheVariants.{Walking}
+use Rattle.gt_calls.specs.declared.copying.Aim.TheVariants.{Mapping}
 use Rattle.gt_calls.specs.declared.held.Held.{Held}
 use Rattle.gt_calls.specs.declared.leg.Leg.{Leg}
 use Rattle.gt_calls.specs.declared.leg.LegNext.{LegNext}
 use Rattle.gt_calls.specs.declared.leg.LegNext.TheVariants.{Going as GoesTo, Refused as LegRefused, Pinned as LegPinned}
 use Rattle.gt_calls.specs.declared.leg.LegPhase.{LegPhase}
 use Rattle.gt_calls.specs.declared.leg.LegPhase.TheVariants.{Header}
+use Rattle.gt_calls.specs.declared.request.Asked.{Asked}
 use Rattle.gt_calls.specs.declared.request.Asked.TheVariants as asks
-use Rattle.gt_live.specs.declared.driving.Effect.TheVariants.{Nothing, Pinned}
-use Rattle.gt_live.specs.Driving.{CanMake, Going, Knows, Leaves}
+use Rattle.gt_live.specs.declared.driving.Effect.{Effect}
+use Rattle.gt_live.specs.declared.driving.Effect.TheVariants.{Nothing, Pinned, Unpinned, Changed, Stored}
+use Rattle.gt_live.specs.Driving.{Knows, Leaves}
+use Rattle.gt_live.specs.Effects.{Answers, effect_of}
 use Rattle.gt_live.specs.Legs.{CanWalkLeg, ComesBy, LegStep, WalksLeg, next_by}
 use Rattle.gt_live.specs.Maps.{pin_effect, pin_verdict}
 use Rattle.gt_live.specs.Walks.{Called, Made}
 use Rattle.gt_live.proofs.Advancing.{makes-next}
-use Rattle.gt_live.proofs.Maps.{map-on, map-pinned, map-refused, map-starts}
+use Rattle.gt_live.proofs.Stepping.{IsIn, PhaseLaw, call_in, further, over, starts}
 
--- a map of this leg, in this phase
-abbrev pub map_at : DomId → DomId → GrantRef → ℕ → Leg → LegPhase → MapCall
-map_at caller dom gref flags leg at =
-    record { caller = caller; dom = dom; gref = gref; flags = flags; leg = leg; at = at }
+refused-left : (c : CallerKnowledge) (k : Layout) (caller : DomId) (request : Asked) (v w : View) (effect : Effect)
+    (denial : Denial) → Answers effect (Refused denial) → Leaves c k caller request v w effect
+    → Leaves c k caller request v w Nothing
+refused-left c k caller request v w Nothing denial a left = left
+refused-left c k caller request v w (Pinned p) denial a left = absurd a
+refused-left c k caller request v w (Unpinned h) denial a left = absurd a
+refused-left c k caller request v w (Changed q change) denial a left = absurd a
+refused-left c k caller request v w Stored denial a left = absurd a
 
--- the map is under way
-abbrev pub Stands : CallerKnowledge → Layout → View → View → MapCall → Type 0
-Stands c k v w m = Going c k Nothing v w (call_of m) (Makes (leg_step m.leg m.at))
+pinned-left : (c : CallerKnowledge) (k : Layout) (caller : DomId) (request : Asked) (v w : View) (effect : Effect)
+    (p : Held) → Answers effect (Mapped p) → Leaves c k caller request v w effect
+    → Leaves c k caller request v w (Pinned p)
+pinned-left c k caller request v w (Pinned q) p a left =
+    subst (λ (x : Held). Leaves c k caller request v w (Pinned x)) (sym a) left
+pinned-left c k caller request v w Nothing p a left = absurd a
+pinned-left c k caller request v w (Unpinned h) p a left = absurd a
+pinned-left c k caller request v w (Changed q change) p a left = absurd a
+pinned-left c k caller request v w Stored p a left = absurd a
 
-abbrev Came : CallerKnowledge → Layout → View → View → MapCall → LegNext → Type 0
-Came c k v w m (GoesTo at) = Stands c k v w (record m { at = at })
-Came c k v w m (LegRefused denial) =
-    Called k (path c m.caller (asks.Map m.dom m.gref m.flags)) (Refused denial) v w
-    × Leaves c k m.caller (asks.Map m.dom m.gref m.flags) v w Nothing
-Came c k v w m (LegPinned p) =
-    Called k (path c m.caller (asks.Map m.dom m.gref m.flags)) (Mapped p) v w
-    × Leaves c k m.caller (asks.Map m.dom m.gref m.flags) v w (Pinned p)
+module _ (c : CallerKnowledge) (law : PhaseLaw c) (k : Layout) (v : View) (caller dom : DomId) (gref : GrantRef)
+    (flags : ℕ) (l : Leg) (knows : Knows c k caller v) where
+  -- the map is under way, and its leg is here
+  abbrev pub Stands : LegPhase → View → Type 0
+  Stands at w = IsIn c law k v caller (asks.Map dom gref flags) (Walking Mapping l at) (leg_step l at) w
 
--- what the map came to, whatever its phase was: another phase, or its end
-abbrev pub Comes : CallerKnowledge → Layout → View → View → MapCall → LegNext → Type 0
-Comes c k v w m next = Came c k v w (record m { at = Header }) next
+  -- what the map came to by its leg: another phase, or its end
+  abbrev pub Comes : LegNext → View → Type 0
+  Comes (GoesTo at) w = Stands at w
+  Comes (LegRefused denial) w =
+      Called k (path c caller (asks.Map dom gref flags)) (Refused denial) v w
+      × Leaves c k caller (asks.Map dom gref flags) v w Nothing
+  Comes (LegPinned p) w =
+      Called k (path c caller (asks.Map dom gref flags)) (Mapped p) v w
+      × Leaves c k caller (asks.Map dom gref flags) v w (Pinned p)
 
--- a map goes on as its leg does
-abbrev pub LegLaw : CallerKnowledge → Type 0
-LegLaw c = (m : MapCall) (seen : Seen) → MapGoesOnAs c m seen (leg_after m.leg m.at seen)
+  -- a step that was made leads to what its leg goes on with
+  comes : (at : LegPhase) (seen : Seen) (next : LegNext) (u w : View) → Stands at u → Made k (leg_step l at) seen u w
+      → leg_after l at seen ≡ next → Comes next w
+  comes at seen (GoesTo at2) u w here made is =
+      further c law k v caller (asks.Map dom gref flags) (Walking Mapping l at) (leg_step l at) seen
+      (Walking Mapping l at2) (leg_step l at2) u w knows tt here made
+      (ap (λ (n : LegNext). after_leg c caller Mapping l n) is) refl
+  comes at seen (LegRefused denial) u w here made is =
+      let e = over c law k v caller (asks.Map dom gref flags) (Walking Mapping l at) (leg_step l at) seen (Refused denial)
+      u w knows tt here made (ap (λ (n : LegNext). after_leg c caller Mapping l n) is) in
+      (e.called, refused-left c k caller (asks.Map dom gref flags) v w (effect_of (leg_step l at) seen) denial e.answers.0 e.left)
+  comes at seen (LegPinned p) u w here made is =
+      let e = over c law k v caller (asks.Map dom gref flags) (Walking Mapping l at) (leg_step l at) seen (Mapped p)
+      u w knows tt here made (ap (λ (n : LegNext). after_leg c caller Mapping l n) is) in
+      (e.called, pinned-left c k caller (asks.Map dom gref flags) v w (effect_of (leg_step l at) seen) p e.answers.0 e.left)
 
-comes-so : (c : CallerKnowledge) (k : Layout) (v w w' : View) (m : MapCall) (seen : Seen) (next : LegNext)
-    → Knows c k m.caller v → Stands c k v w m → Made k (leg_step m.leg m.at) seen w w' → MapGoesOnAs c m seen next
-    → Comes c k v w' m next
-comes-so c k v w w' m seen (GoesTo at) knows g made goes = (map-on c k v w w' m seen at knows g made goes).0
-comes-so c k v w w' m seen (LegRefused denial) knows g made goes =
-    map-refused c k v w w' m seen denial m.caller (asks.Map m.dom m.gref m.flags) knows g made goes refl refl
-comes-so c k v w w' m seen (LegPinned p) knows g made goes =
-    map-pinned c k v w w' m seen p m.caller (asks.Map m.dom m.gref m.flags) knows g made goes refl refl
+  -- what a map has come to by the steps of its leg
+  comes-by : Stands Header v → (xs : List LegStep) (next : LegNext) (w : View) → ComesBy k l v xs next w → Comes next w
+  comes-by here [] next w x =
+      subst (λ (n : LegNext). Comes n w) (sym x.0) (subst (λ (u : View). Comes (GoesTo Header) u) (sym x.1) here)
+  comes-by here ((at, seen, u) ∷ xs) next w x =
+      comes at seen next u w (comes-by here xs (GoesTo at) u x.2) x.0 (sym x.1)
 
--- after a step that was made the map has come to what its leg goes on with
-pub comes : (c : CallerKnowledge) (k : Layout) (v w w' : View) (m : MapCall) (seen : Seen) → LegLaw c
-    → Knows c k m.caller v → Stands c k v w m → Made k (leg_step m.leg m.at) seen w w'
-    → Comes c k v w' m (leg_after m.leg m.at seen)
-comes c k v w w' m seen law knows g made =
-    comes-so c k v w w' m seen (leg_after m.leg m.at seen) knows g made (law m seen)
+  -- a map that no rule answered at its beginning
+  pub opened : begun c caller (asks.Map dom gref flags) ≡ None → l ≡ map_leg c caller dom gref flags → Stands Header v
+  opened none is =
+      starts c law k v caller (asks.Map dom gref flags) (Walking Mapping l Header) (leg_step l Header) none
+      (ap (λ (x : Leg). Walking Mapping x Header) (sym is)) refl
 
--- a map under way can make its step
-pub can-step : (c : CallerKnowledge) (k : Layout) (v w : View) (m : MapCall) → Knows c k m.caller v
-    → Stands c k v w m → CanMake k w (leg_step m.leg m.at)
-can-step c k v w m knows g = makes-next c k Nothing v w (call_of m) (leg_step m.leg m.at) knows tt g
+  -- a map under way can make each step of its leg
+  pub map-can-walk : Stands Header v → CanWalkLeg k l v
+  map-can-walk here = λ at w x.
+      makes-next c k Nothing v w (call_in caller (asks.Map dom gref flags) (Walking Mapping l at)) (leg_step l at) knows tt
+      (comes-by here x.0 (GoesTo at) w x.1)
 
--- a map begins with the look at the header
-abbrev pub BeginLaw : CallerKnowledge → Type 0
-BeginLaw c = (caller dom : DomId) (gref : GrantRef) (flags : ℕ)
-    → MapBeginsAs c (map_at caller dom gref flags (map_leg c caller dom gref flags) Header)
-
--- a map that no rule answered at its beginning
-pub opened : (c : CallerKnowledge) (k : Layout) (v : View) (caller dom : DomId) (gref : GrantRef) (flags : ℕ)
-    (leg : Leg) → BeginLaw c → begun c caller (asks.Map dom gref flags) ≡ None
-    → leg ≡ map_leg c caller dom gref flags → Stands c k v v (map_at caller dom gref flags leg Header)
-opened c k v caller dom gref flags leg law none is =
-    subst (λ (l : Leg). Stands c k v v (map_at caller dom gref flags l Header)) (sym is)
-    (map-starts c k v (map_at caller dom gref flags (map_leg c caller dom gref flags) Header) none
-    (law caller dom gref flags))
-
--- what a map has come to by the steps of its leg
-pub map-comes : (c : CallerKnowledge) (k : Layout) (v : View) (m : MapCall) → LegLaw c → Knows c k m.caller v
-    → Stands c k v v (record m { at = Header }) → (xs : List LegStep) (next : LegNext) (w : View)
-    → ComesBy k m.leg v xs next w → Comes c k v w m next
-map-comes c k v m law knows g [] next w x =
-    subst (λ (n : LegNext). Comes c k v w m n) (sym x.0)
-    (subst (λ (u : View). Comes c k v u m (GoesTo Header)) (sym x.1) g)
-map-comes c k v m law knows g ((at, seen, u) ∷ xs) next w x =
-    subst (λ (n : LegNext). Comes c k v w m n) (sym x.1)
-    (comes c k v u w (record m { at = at }) seen law knows (map-comes c k v m law knows g xs (GoesTo at) u x.2) x.0)
-
--- a map under way can make each step of its leg
-pub map-can-walk : (c : CallerKnowledge) (k : Layout) (v : View) (m : MapCall) → LegLaw c → Knows c k m.caller v
-    → Stands c k v v (record m { at = Header }) → CanWalkLeg k m.leg v
-map-can-walk c k v m law knows g = λ at w x.
-    can-step c k v w (record m { at = at }) knows (map-comes c k v m law knows g x.0 (GoesTo at) w x.1)
-
--- a map whose leg was walked to its end
-pub map-walked : (c : CallerKnowledge) (k : Layout) (v w : View) (m : MapCall) (result : Result Held Denial)
-    → LegLaw c → Knows c k m.caller v → Stands c k v v (record m { at = Header })
-    → WalksLeg k m.leg v (next_by result) w
-    → Called k (path c m.caller (asks.Map m.dom m.gref m.flags)) (pin_verdict result) v w
-    × Leaves c k m.caller (asks.Map m.dom m.gref m.flags) v w (pin_effect result)
-map-walked c k v w m (Ok p) law knows g x = map-comes c k v m law knows g x.0 (LegPinned p) w x.1
-map-walked c k v w m (Err denial) law knows g x = map-comes c k v m law knows g x.0 (LegRefused denial) w x.1
+  -- a map whose leg was walked to its end
+  pub map-walked : (result : Result Held Denial) (w : View) → Stands Header v → WalksLeg k l v (next_by result) w
+      → Called k (path c caller (asks.Map dom gref flags)) (pin_verdict result) v w
+      × Leaves c k caller (asks.Map dom gref flags) v w (pin_effect result)
+  map-walked (Ok p) w here x = comes-by here x.0 (LegPinned p) w x.1
+  map-walked (Err denial) w here x = comes-by here x.0 (LegRefused denial) w x.1

@@ -1,15 +1,23 @@
 -- A copy whose steps are written out: what each part of its walk leads to. The code's own representation. It is in
 -- specs/ because contracts cite it.
-use Rattle.std.specs.Prelude.{◌≡◌, List, [], ◌∷◌, None, Result, Ok, Err}
+use Rattle.std.specs.Prelude.{◌≡◌, List, [], ◌∷◌, Some, None, Result, Ok, Err}
 use Rattle.gt_live.specs.Prelude.{DomId, Read, Write, GrantRef, Denial, Layout, View, Nothing, Unpin, Refused, Phase}
 use Rattle.gt_live.specs.Prelude.{Accessing, Ending, Walking, Aim, Source, Dest, Held, Pins, Route, Leg, Header}
-use Rattle.gt_live.specs.Prelude.{CopyArgs, ByLeg, copy_call, unmoved_copy, last_first, no_pins, pins_so_far}
+use Rattle.gt_live.specs.Prelude.{CopyArgs, Copy, Call, ByLeg, last_first, no_pins, pins_so_far}
 use Rattle.gt_live.specs.Prelude.{without_last, after_pin_of, at_dest, end_leg, place_of, second_leg, CallerKnowledge}
 use Rattle.gt_live.specs.Prelude.{Halfway}
 use Rattle.gt_calls.specs.declared.held.Route.TheVariants.{Own}
 use Rattle.gt_live.specs.Driving.{CanMake}
 use Rattle.gt_live.specs.Underway.{AtAccess, EndsRefused}
 use Rattle.gt_live.specs.Walks.{Made}
+
+-- the call that a copy in this phase is
+abbrev pub copy_call : DomId → CopyArgs → Phase → Call
+copy_call caller copy phase = record { caller = caller; request = Copy copy; phase = Some phase }
+
+-- the same before its first step
+abbrev pub unmoved_copy : DomId → CopyArgs → Call
+unmoved_copy caller copy = record { caller = caller; request = Copy copy; phase = None }
 
 -- the pin of this Via is the last that is held for the aim
 abbrev pub IsLastOf : Held → Aim → Type 0

@@ -5,8 +5,8 @@ use Rattle.gt_live.specs.Prelude.{Denial, N16, N26, NoFacts, TABLE_ENTRIES, deni
 use Rattle.gt_live.specs.Prelude.{KeepsPins, Unpins, generation_of, Moment, Layout, position_in, last_of, own_table}
 use Rattle.gt_live.specs.Prelude.{live_pins, steps_on, View, HandleMap, value_of, Handle, Verdict, Granted, Given}
 use Rattle.gt_live.specs.Prelude.{Mapped}
-use Rattle.gt_live.specs.Prelude.{Refused, Frames, SizeTold, Version, Held, CopyArgs, End, Request, Copying, begun_of}
-use Rattle.gt_live.specs.Prelude.{path, path_of, IsFreshCall, IsStepAction, Call, CallerKnowledge, knowledge_of}
+use Rattle.gt_live.specs.Prelude.{Refused, Frames, SizeTold, Version, Held, CopyArgs, Request, Copying, begun_of}
+use Rattle.gt_live.specs.Prelude.{path_of, CallerKnowledge, knowledge_of}
 use Rattle.gt_live.specs.Prelude.{entry_in}
 use Rattle.gt_live.specs.Prelude.{own_generation, Domain, Left, Monitor, NotMade, Gone, OutOfMemory, Step}
 use Rattle.gt_audit.specs.Telling.{Tells}
@@ -100,12 +100,6 @@ MapAnswered may m d request (Err denial) e =
     × (d.mappings.room ≡ 0) × (e.seat.view ≡ d.seat.view)))
     × KeepsPinned d e
 
--- a call is open, has made no step, and begins with one
-pub record IsOpened (c : CallerKnowledge) (caller : DomId) (call : Call) : Type 0 where
-  pub of_caller : call.caller ≡ caller
-  pub fresh : IsFreshCall c call
-  pub steps : IsStepAction (path c caller call.request [])
-
 -- a rule stood at the beginning of this request, and refuses it without a word of an entry
 pub record IsRefused (c : CallerKnowledge) (caller : DomId) (request : Request) (denial : Denial) : Type 0 where
   pub answered : begun_of c caller request ≡ Some (Refused denial)
@@ -127,18 +121,6 @@ StaysOfRun d e = (b : Board) (c : Config) (may : AllowRelation) → IsDomainOf b
 abbrev pub done_by : Verdict → Result (Unit {0}) Denial
 done_by (Refused denial) = Err denial
 done_by verdict = Ok tt
-
--- the version that is answered, 0 if none is
-abbrev pub version_told : Verdict → Result ℕ Denial
-version_told (Refused denial) = Err denial
-version_told (Given (Version version)) = Ok version
-version_told verdict = Ok 0
-
--- the size that is answered, none if none is
-abbrev pub size_told : Verdict → Result Size Denial
-size_told (Refused denial) = Err denial
-size_told (Given (SizeTold size)) = Ok size
-size_told verdict = Ok (record { frames = 0; max = 0 })
 
 -- the number of frames that is answered, 0 if none is
 abbrev pub frames_told : Verdict → Result ℕ Denial
@@ -198,11 +180,6 @@ told_by (replies.Frames frames) = Given (Frames frames)
 told_by (replies.Size size) = Given (SizeTold size)
 told_by (replies.Version version) = Given (Version version)
 told_by (replies.Denied denial) = Refused denial
-
--- an answer without the mapping that a map is given, which no record has
-abbrev pub without_mapping : Verdict → Verdict
-without_mapping (Mapped p) = Granted
-without_mapping verdict = verdict
 
 -- the record of a call of this domain, which was answered so
 abbrev pub told_of : Domain → Hypercall → Verdict → Record

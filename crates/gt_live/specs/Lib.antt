@@ -17,3 +17,4 @@ pub mod Starting
 pub mod Tries
 pub mod Halves
 pub mod Prelude
+pub mod Questions

@@ -10,6 +10,8 @@ use Rattle.gt_entry.specs.declared.change.Change.TheVariants.{Publish, Revoke, W
 use Rattle.gt_words.specs.Rule.{Layout}
 use Rattle.gt_words.specs.declared.view.View.{View}
 use Rattle.gt_calls.specs.Path.{entry_refusal}
+use Rattle.gt_calls.specs.Rules.{CallerKnowledge}
+use Rattle.gt_calls.specs.declared.known.Own.{Own}
 use Rattle.gt_calls.specs.declared.action.Seen.TheVariants.{Taken, Missed}
 use Rattle.gt_calls.specs.declared.action.Step.TheVariants.{Exchange}
 use Rattle.gt_calls.specs.declared.request.Asked.{Asked}
@@ -42,3 +44,8 @@ abbrev pub ChangesOnce : Layout → DomId → GrantRef → ℕ → Change → Re
 ChangesOnce k caller gref looked change (Ok u) v w = Made k (Exchange gref looked change) Taken v w
 ChangesOnce k caller gref looked change (Err denial) v w =
     (n : ℕ) × (denial ≡ entry_refusal caller gref N19 n) × Made k (Exchange gref looked change) (Missed n) v w
+
+-- the row is what is known of this entry
+pub record IsRowOf (c : CallerKnowledge) (gref : GrantRef) (own : Own) : Type 0 where
+  pub entry : own.entry ≡ c.entry gref.0
+  pub generation : own.generation ≡ c.generation gref.0

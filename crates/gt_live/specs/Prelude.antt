@@ -8,7 +8,6 @@ pub use Rattle.gt_audit.specs.declared.record.Record.{Record}
 pub use Rattle.gt_audit.specs.declared.record.Reply.{Reply}
 pub use Rattle.gt_calls.specs.Asking.{asked, begun_of}
 pub use Rattle.gt_calls.specs.Changes.{raise_of}
-pub use Rattle.gt_calls.specs.CopyCalls.{copy_call, unmoved_copy}
 pub use Rattle.gt_calls.specs.Following.{GoesOnWith, IsStepAction}
 pub use Rattle.gt_calls.specs.Holding.{last_first, no_pins, pins_so_far, without_last}
 pub use Rattle.gt_calls.specs.Machine.{action_at, after_pin_of, at_dest}

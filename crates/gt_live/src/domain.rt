@@ -1,7 +1,6 @@
 //! A domain of the run, and its calls.
 ghost use Rattle.std.specs.Prelude.{◌≡◌, ◌≤◌, ℕ, [], OnOk, OnErr, IfOk, IfErr, None, Some};
 ghost use Rattle.gt_calls.specs.Asking.{asked};
-ghost use Rattle.gt_calls.specs.Following.{Starts};
 ghost use Rattle.gt_calls.specs.Path.{path};
 ghost use Rattle.gt_words.specs.Conditions.{IsSameSeat};
 ghost use Rattle.gt_words.specs.Rule.{IsKeptHeader};
@@ -9,27 +8,29 @@ ghost use Rattle.gt_words.specs.Views.{own_table};
 ghost use Rattle.gt_calls.specs.Rules.{knows};
 ghost use Rattle.gt_live.specs.declared.domain.Domain.{Domain};
 ghost use Rattle.gt_live.specs.Rows.{row_changed};
-ghost use Rattle.gt_live.specs.Ending.{IsAnswerTo, IsOfMapping, WaitsForNobody};
 ghost use Rattle.gt_live.specs.Domains.{Answered, AnswersQuietly, AnswersTold, BelongsTo, StaysIn};
 ghost use Rattle.gt_live.specs.Domains.{done_by, known_on, outcome_of, denial_in};
-ghost use Rattle.gt_live.specs.Domains.{reply_of, told_by, version_told, size_told, frames_told, without_mapping};
+ghost use Rattle.gt_live.specs.Domains.{reply_of, told_by, frames_told};
+ghost use Rattle.gt_live.specs.Domains.{verdict_of_frames, verdict_of_size, verdict_of_version};
+ghost use Rattle.gt_live.specs.Questions.{answer_by};
+ghost use Rattle.gt_calls.specs.declared.call.Question.{Question};
 ghost use Rattle.gt_live.specs.Walks.{Called};
 ghost use Rattle.gt_live.specs.Driving.{Leaves};
-ghost use Rattle.gt_live.specs.Effects.{Answers};
 ghost use Rattle.gt_audit.specs.Telling.{Tells};
 
 mod bytes;
 mod copies;
 
-use crate::driving::{Effect, Finished, drive, drive_map, pin_of};
+use crate::driving::{drive_map, pin_of};
+use crate::headers::{drive_query, drive_setup, drive_version};
 use crate::monitor::Monitor;
-use crate::owning::{drive_change, judge_change};
+use crate::owning::{drive_change, judge_own};
 pub use copies::Halfway;
 use gt_access::{Refused, Run, read_by, write_by};
 use gt_audit::{Hypercall, Record, Reply, Trail};
 use gt_calls::{
-    Call, Handle, Handles, Held, Known, Own, Request, Route, Start, Value, Verdict, judge_map,
-    judge_unmap,
+    Handle, Handles, Held, Known, Own, Route, Value, Verdict, judge_bytes, judge_map, judge_query,
+    judge_setup, judge_unmap, judge_version, own_entry, size_in, version_in,
 };
 use gt_entry::{Change, Entry};
 use gt_frames::Visits;
@@ -115,25 +116,25 @@ fn done(verdict: Verdict) -> Result<(), Denial>
     }
 }
 
-// The version that is answered.
-fn version_told(verdict: Verdict) -> Result<u32, Denial>
-    ensures { result ≡ version_told verdict }
+// The version that a header's word answers.
+#[inline(always)]
+fn version_by(answer: Result<u64, Denial>) -> Result<u32, Denial>
+    ensures { verdict_of_version result ≡ answer_by Question.Version answer }
 {
-    match verdict {
-        Verdict::Refused(denial) => Err(denial),
-        Verdict::Given(Value::Version(version)) => Ok(version),
-        _ => Ok(0),
+    match answer {
+        Ok(word) => Ok(version_in(word)),
+        Err(denial) => Err(denial),
     }
 }
 
-// The size that is answered.
-fn size_told(verdict: Verdict) -> Result<Size, Denial>
-    ensures { result ≡ size_told verdict }
+// The size that a header's word answers.
+#[inline(always)]
+fn size_by(answer: Result<u64, Denial>) -> Result<Size, Denial>
+    ensures { verdict_of_size result ≡ answer_by Question.Size answer }
 {
-    match verdict {
-        Verdict::Refused(denial) => Err(denial),
-        Verdict::Given(Value::Size(size)) => Ok(size),
-        _ => Ok(Size { frames: 0, max: 0 }),
+    match answer {
+        Ok(word) => Ok(size_in(word)),
+        Err(denial) => Err(denial),
     }
 }
 
@@ -158,20 +159,6 @@ pub(crate) fn refusal_of(verdict: Verdict) -> Denial
     }
 }
 
-// What a record keeps of an answer.
-fn reply_of(verdict: Verdict) -> Reply
-    ensures reply { result ≡ reply_of verdict }
-    ensures tells { told_by result ≡ without_mapping verdict }
-{
-    match verdict {
-        Verdict::Granted | Verdict::Mapped(_) => Reply::Done,
-        Verdict::Given(Value::Frames(frames)) => Reply::Frames(frames),
-        Verdict::Given(Value::Size(size)) => Reply::Size(size),
-        Verdict::Given(Value::Version(version)) => Reply::Version(version),
-        Verdict::Refused(denial) => Reply::Denied(denial),
-    }
-}
-
 // What a record keeps of an answer that is Ok, or a refusal.
 fn outcome_reply<T>(answer: &Result<T, Denial>) -> Reply
     ensures reply { result ≡ reply_of (outcome_of answer.now) }
@@ -179,6 +166,38 @@ fn outcome_reply<T>(answer: &Result<T, Denial>) -> Reply
 {
     match answer {
         Ok(_) => Reply::Done,
+        Err(denial) => Reply::Denied(*denial),
+    }
+}
+
+// What a record keeps of the answer of a call that tells a version, a size or how many frames a table has, or of its
+// refusal.
+fn version_reply(answer: &Result<u32, Denial>) -> Reply
+    ensures reply { result ≡ reply_of (verdict_of_version answer.now) }
+    ensures tells { told_by result ≡ verdict_of_version answer.now }
+{
+    match answer {
+        Ok(version) => Reply::Version(*version),
+        Err(denial) => Reply::Denied(*denial),
+    }
+}
+
+fn size_reply(answer: &Result<Size, Denial>) -> Reply
+    ensures reply { result ≡ reply_of (verdict_of_size answer.now) }
+    ensures tells { told_by result ≡ verdict_of_size answer.now }
+{
+    match answer {
+        Ok(size) => Reply::Size(*size),
+        Err(denial) => Reply::Denied(*denial),
+    }
+}
+
+fn frames_reply(answer: &Result<u32, Denial>) -> Reply
+    ensures reply { result ≡ reply_of (verdict_of_frames answer.now) }
+    ensures tells { told_by result ≡ verdict_of_frames answer.now }
+{
+    match answer {
+        Ok(frames) => Reply::Frames(*frames),
         Err(denial) => Reply::Denied(*denial),
     }
 }
@@ -206,11 +225,16 @@ impl Domain {
     ghost use Rattle.std.specs.Prelude.{◌≡◌, ◌≤◌, ℕ, List, [], OnOk, OnErr, IfOk, IfErr, IfSome, None, Some};
     ghost use Rattle.gt_audit.specs.Telling.{ArePartsOf, HasNone, Tells};
     ghost use Rattle.gt_live.specs.Domains.{mapping_reply, subject_of, told_of, Answered, HasLeft, BelongsTo};
-    ghost use Rattle.gt_live.specs.Domains.{IsOpened, IsUnsettled, KeepsPinned, MapAnswered};
+    ghost use Rattle.gt_live.specs.Domains.{IsUnsettled, KeepsPinned, MapAnswered};
     ghost use Rattle.gt_live.specs.Domains.{Released, StaysOfRun};
     ghost use Rattle.gt_live.specs.Maps.{pin_effect, pin_verdict};
-    ghost use Rattle.gt_live.specs.Owning.{asks_change, change_effect};
+    ghost use Rattle.gt_live.specs.Owning.{IsRowOf, asks_change, change_effect};
+    ghost use Rattle.gt_live.specs.Questions.{answer_by, asks_question};
+    ghost use Rattle.gt_calls.specs.Asking.{asked, begun_of};
+    ghost use Rattle.gt_calls.specs.Path.{idle_word, path};
     ghost use Rattle.gt_calls.specs.Rules.{begun};
+    ghost use Rattle.gt_calls.specs.declared.call.Question.{Question};
+    ghost use Rattle.gt_calls.specs.declared.request.Request.{Request};
     ghost use Rattle.gt_calls.specs.Rules.{knows, label_of, map_begun, unmap_begun};
     ghost use Rattle.gt_calls.specs.declared.request.Asked.TheVariants as asks;
     ghost use Rattle.gt_live.specs.Domains.{known_on, verdict_of, verdict_of_frames, verdict_of_size};
@@ -319,90 +343,43 @@ impl Domain {
         known_with(monitor, &self.seat, &self.own, &self.mappings)
     }
 
-    // Judges a call at its beginning.
-    fn begin<P: Allows>(&self, monitor: &Monitor<P>, request: Request<'_>) -> Start
-        ensures { Starts (known_on P.may monitor.now self.now) self.now.seat.dom request.entry result }
-    {
-        Call::begin(self.seat.dom(), request, &self.known(monitor))
-    }
-
-    // Drives an open call to its end.
-    fn drive<P: Allows>(&mut self, monitor: &Monitor<P>, call: &mut Call) -> Finished
-        requires mine { BelongsTo P.may monitor.now self.old }
-        requires opened { IsOpened (known_on P.may monitor.now self.old) self.old.seat.dom call.old }
-        requires waits { WaitsForNobody call.old.request }
-        ensures kept { IsUnsettled self.old self.new }
-        ensures called { Called monitor.now.words.layout
-            (path (known_on P.may monitor.now self.old) self.old.seat.dom call.old.request)
-            result.verdict self.old.seat.view self.new.seat.view }
-        ensures leaves { Leaves (known_on P.may monitor.now self.old) monitor.now.words.layout
-            self.old.seat.dom call.old.request self.old.seat.view self.new.seat.view result.effect }
-        ensures answers { Answers result.effect result.verdict × IsAnswerTo call.old.request result.verdict }
-    {
-        let known = known_with(monitor, &self.seat, &self.own, &self.mappings);
-        drive(&monitor.words, &known, &mut self.seat, call)
-    }
-
-    // Drives an open call to its end, and keeps what it changed. It neither maps nor unmaps.
-    fn run<P: Allows>(&mut self, monitor: &Monitor<P>, call: &mut Call) -> Verdict
-        requires mine { BelongsTo P.may monitor.now self.old }
-        requires opened { IsOpened (known_on P.may monitor.now self.old) self.old.seat.dom call.old }
-        requires waits { WaitsForNobody call.old.request × (IsOfMapping call.old.request → ⊥) }
-        ensures mine { BelongsTo P.may monitor.now self.new }
-        ensures seat { IsSameSeat self.old.seat self.new.seat }
-        ensures called { Called monitor.now.words.layout
-            (path (known_on P.may monitor.now self.old) self.old.seat.dom call.old.request)
-            result self.old.seat.view self.new.seat.view }
-        ensures answer { IsAnswerTo call.old.request result }
-        ensures kept { KeepsPinned self.old self.new }
-        ensures silent { self.new.trail ≡ self.old.trail }
-        ensures untouched { self.new.visits ≡ self.old.visits }
-    {
-        let finished = self.drive(monitor, call);
-        if let Effect::Changed(gref, change) = finished.effect {
-            change_row(&mut self.own, gref, change);
-        }
-        finished.verdict
-    }
-
-    // Makes a call that takes no memory, and neither maps nor unmaps.
-    fn call<P: Allows>(&mut self, monitor: &Monitor<P>, request: Request<'_>) -> Verdict
-        requires mine { BelongsTo P.may monitor.now self.old }
-        requires waits { WaitsForNobody (asked request) × (IsOfMapping (asked request) → ⊥) }
-        ensures stays { StaysIn P.may monitor.now self.old self.new }
-        ensures answers { AnswersQuietly P.may monitor.now self.old request.entry result self.new }
-        ensures answer { IsAnswerTo (asked request.entry) result }
-    {
-        match self.begin(monitor, request) {
-            Start::Done(verdict) => verdict,
-            Start::Open(mut call) => self.run(monitor, &mut call),
-        }
-    }
-
-    // The verdict at the beginning of an owner's change, if one is given there.
+    // What it knows of an entry of its own.
     #[inline(always)]
-    fn judge_change<P: Allows>(
+    fn own_entry<P: Allows>(&self, monitor: &Monitor<P>, gref: GrantRef) -> Own
+        ensures { IsRowOf (known_on P.may monitor.now self.now) gref result }
+    {
+        own_entry(&self.known(monitor), gref)
+    }
+
+    // The verdict at the beginning of a change of the entry with this row, if one is given there.
+    #[inline(always)]
+    fn judge_own<P: Allows>(
         &self,
         monitor: &Monitor<P>,
+        own: Own,
         gref: GrantRef,
         change: Change,
     ) -> Option<Verdict>
+        requires row { IsRowOf (known_on P.may monitor.now self.now) gref own }
         ensures { result ≡ begun (known_on P.may monitor.now self.now) self.now.seat.dom (asks_change gref change) }
     {
-        judge_change(&self.known(monitor), gref, change)
+        judge_own(&self.known(monitor), own, gref, change)
     }
 
-    // Drives an owner's change that no rule answered at its beginning to its end.
+    // Drives an owner's change that no rule answered at its beginning to its end. `looked` is the owner's word of the
+    // entry with no pins.
     #[inline(always)]
     fn drive_change<P: Allows>(
         &mut self,
         monitor: &Monitor<P>,
         gref: GrantRef,
+        looked: u64,
         change: Change,
     ) -> Result<(), Denial>
         requires mine { BelongsTo P.may monitor.now self.old }
         requires unanswered { begun (known_on P.may monitor.now self.old) self.old.seat.dom (asks_change gref change)
             ≡ None }
+        requires looked { looked ≡ idle_word (known_on P.may monitor.now self.old) gref }
         ensures kept { IsUnsettled self.old self.new }
         ensures called { Called monitor.now.words.layout
             (path (known_on P.may monitor.now self.old) self.old.seat.dom (asks_change gref change))
@@ -413,18 +390,28 @@ impl Domain {
     {
         let known = known_with(monitor, &self.seat, &self.own, &self.mappings);
         let caller = self.seat.dom();
-        drive_change(&monitor.words, &known, &mut self.seat, caller, gref, change)
+        drive_change(
+            &monitor.words,
+            &known,
+            &mut self.seat,
+            caller,
+            gref,
+            looked,
+            change,
+        )
     }
 
-    // Makes an owner's change that no rule answered at its beginning, and keeps it in the entry's row.
+    // Makes a change of the entry with this row that no rule answered at its beginning, and keeps it in the row.
     #[inline(always)]
     fn change_own<P: Allows>(
         &mut self,
         monitor: &Monitor<P>,
+        own: Own,
         gref: GrantRef,
         change: Change,
     ) -> Result<(), Denial>
         requires mine { BelongsTo P.may monitor.now self.old }
+        requires row { IsRowOf (known_on P.may monitor.now self.old) gref own }
         requires unanswered { begun (known_on P.may monitor.now self.old) self.old.seat.dom (asks_change gref change)
             ≡ None }
         ensures stays { StaysIn P.may monitor.now self.old self.new }
@@ -435,7 +422,7 @@ impl Domain {
         ensures silent { self.new.trail ≡ self.old.trail }
         ensures untouched { self.new.visits ≡ self.old.visits }
     {
-        match self.drive_change(monitor, gref, change) {
+        match self.drive_change(monitor, gref, own.idle_word(), change) {
             Ok(()) => {
                 change_row(&mut self.own, gref, change);
                 Ok(())
@@ -461,10 +448,105 @@ impl Domain {
         ensures silent { self.new.trail ≡ self.old.trail }
         ensures untouched { self.new.visits ≡ self.old.visits }
     {
-        if let Some(verdict) = self.judge_change(monitor, gref, change) {
+        let own = self.own_entry(monitor, gref);
+        if let Some(verdict) = self.judge_own(monitor, own, gref, change) {
             return done(verdict);
         }
-        self.change_own(monitor, gref, change)
+        self.change_own(monitor, own, gref, change)
+    }
+
+    // Judges a grant by bytes at its beginning: the entry that they spell.
+    #[inline(always)]
+    fn judge_bytes<P: Allows>(
+        &self,
+        monitor: &Monitor<P>,
+        own: Own,
+        gref: GrantRef,
+        bytes: &[u8],
+    ) -> Result<Entry, Denial>
+        requires row { IsRowOf (known_on P.may monitor.now self.now) gref own }
+        ensures refused { IfErr result (λ denial.
+            begun_of (known_on P.may monitor.now self.now) self.now.seat.dom (Request.GrantBytes gref bytes.entry)
+            ≡ Some (Verdict.Refused denial)) }
+        ensures open { IfOk result (λ entry.
+            (begun_of (known_on P.may monitor.now self.now) self.now.seat.dom
+            (Request.GrantBytes gref bytes.entry) ≡ None)
+            × (asks.Grant gref entry ≡ asked (Request.GrantBytes gref bytes.entry))
+            × (begun (known_on P.may monitor.now self.now) self.now.seat.dom (asks.Grant gref entry) ≡ None)) }
+    {
+        judge_bytes(self.known(monitor).header, own, gref, bytes)
+    }
+
+    // Stores another version in the header of its table, without a record.
+    #[inline(always)]
+    fn change_version<P: Allows>(
+        &mut self,
+        monitor: &Monitor<P>,
+        version: u32,
+    ) -> Result<(), Denial>
+        requires mine { BelongsTo P.may monitor.now self.old }
+        ensures stays { StaysIn P.may monitor.now self.old self.new }
+        ensures answers { AnswersQuietly P.may monitor.now self.old
+            (Request.SetVersion version) (verdict_of result) self.new }
+    {
+        let known = known_with(monitor, &self.seat, &self.own, &self.mappings);
+        if let Some(verdict) = judge_version(known.header, known.own, version) {
+            return done(verdict);
+        }
+        let caller = self.seat.dom();
+        drive_version(&monitor.words, &known, &mut self.seat, caller, version);
+        Ok(())
+    }
+
+    // Stores more frames in the header of its table, without a record, and answers how many it then has.
+    #[inline(always)]
+    fn change_size<P: Allows>(&mut self, monitor: &Monitor<P>, frames: u32) -> Result<u32, Denial>
+        requires mine { BelongsTo P.may monitor.now self.old }
+        ensures stays { StaysIn P.may monitor.now self.old self.new }
+        ensures answers { AnswersQuietly P.may monitor.now self.old
+            (Request.SetupTable frames) (verdict_of_frames result) self.new }
+    {
+        let label = self.label(monitor);
+        let known = known_with(monitor, &self.seat, &self.own, &self.mappings);
+        if let Some(verdict) = judge_setup(&known, label, frames) {
+            return frames_told(verdict);
+        }
+        let caller = self.seat.dom();
+        drive_setup(&monitor.words, &known, &mut self.seat, caller, frames);
+        Ok(frames)
+    }
+
+    // Looks at the header of a domain's table for a question, without a record.
+    #[inline(always)]
+    fn ask<P: Allows>(&mut self, monitor: &Monitor<P>, dom: DomId) -> Result<u64, Denial>
+        requires mine { BelongsTo P.may monitor.now self.old }
+        ensures stays { StaysIn P.may monitor.now self.old self.new }
+        ensures called { (question : Question) → Called monitor.now.words.layout
+            (path (known_on P.may monitor.now self.old) self.old.seat.dom (asks_question dom question))
+            (answer_by question result) self.old.seat.view self.new.seat.view }
+        ensures kept { KeepsPinned self.old self.new }
+        ensures silent { self.new.trail ≡ self.old.trail }
+        ensures untouched { self.new.visits ≡ self.old.visits }
+    {
+        let label = self.label(monitor);
+        let known = known_with(monitor, &self.seat, &self.own, &self.mappings);
+        let caller = self.seat.dom();
+        if let Some(verdict) = judge_query(&known, caller, label, dom) {
+            return Err(refusal_of(verdict));
+        }
+        Ok(drive_query(&monitor.words, &known, &mut self.seat, caller, dom))
+    }
+
+    // Keeps the record of a call of its own.
+    #[inline(always)]
+    fn tell(&mut self, call: Hypercall, reply: Reply)
+        ensures told { Tells self.old.trail
+            (record { dom = self.old.seat.dom; call = call; reply = reply }) self.new.trail }
+        ensures mine { StaysOfRun self.old self.new }
+        ensures kept { self.new ≡ record self.old { trail = self.new.trail } }
+    {
+        let dom = self.seat.dom();
+        self.trail.push(Record { dom, call, reply });
     }
 
     // The entry that the mapping under a handle is of.
@@ -475,26 +557,6 @@ impl Domain {
             Some(held) => Some((held.dom, held.gref)),
             None => None,
         }
-    }
-
-    // Makes a call that takes no memory, and keeps its record.
-    fn told_call<P: Allows>(
-        &mut self,
-        monitor: &Monitor<P>,
-        request: Request<'_>,
-        call: Hypercall,
-    ) -> Verdict
-        requires mine { BelongsTo P.may monitor.now self.old }
-        requires waits { WaitsForNobody (asked request) × (IsOfMapping (asked request) → ⊥) }
-        ensures stays { StaysIn P.may monitor.now self.old self.new }
-        ensures answers { AnswersTold P.may monitor.now self.old request.entry call result self.new }
-        ensures answer { IsAnswerTo (asked request.entry) result }
-    {
-        let verdict = self.call(monitor, request);
-        let dom = self.seat.dom();
-        let reply = reply_of(verdict);
-        self.trail.push(Record { dom, call, reply });
-        verdict
     }
 
     /// Publishes an entry in place of an invalid one, if that has no pins left.
@@ -531,7 +593,11 @@ impl Domain {
         ensures answers { AnswersQuietly P.may monitor.now self.old
             (Request.GrantBytes gref bytes.entry) (verdict_of result) self.new }
     {
-        done(self.call(monitor, Request::GrantBytes { gref, bytes }))
+        let own = self.own_entry(monitor, gref);
+        match self.judge_bytes(monitor, own, gref, bytes) {
+            Ok(entry) => self.change_own(monitor, own, gref, Change::Publish(entry)),
+            Err(denial) => Err(denial),
+        }
     }
 
     /// Makes an entry of its own invalid, if it has no pins.
@@ -603,8 +669,9 @@ impl Domain {
         ensures answers { AnswersTold P.may monitor.now self.old
             (Request.SetVersion version) (Hypercall.SetVersion version) (verdict_of result) self.new }
     {
-        let call = Hypercall::SetVersion { version };
-        done(self.told_call(monitor, Request::SetVersion { version }, call))
+        let result = self.change_version(monitor, version);
+        self.tell(Hypercall::SetVersion { version }, outcome_reply(&result));
+        result
     }
 
     /// Gives its table so many frames, at most 4, if it has fewer, and answers how many it then has.
@@ -621,8 +688,9 @@ impl Domain {
         ensures answers { AnswersTold P.may monitor.now self.old
             (Request.SetupTable frames) (Hypercall.SetupTable frames) (verdict_of_frames result) self.new }
     {
-        let call = Hypercall::SetupTable { frames };
-        frames_told(self.told_call(monitor, Request::SetupTable { frames }, call))
+        let result = self.change_size(monitor, frames);
+        self.tell(Hypercall::SetupTable { frames }, frames_reply(&result));
+        result
     }
 
     /// How many frames the table of a domain has, and how many it may have.
@@ -639,8 +707,9 @@ impl Domain {
         ensures answers { AnswersTold P.may monitor.now self.old
             (Request.QuerySize dom) (Hypercall.QuerySize dom) (verdict_of_size result) self.new }
     {
-        let call = Hypercall::QuerySize { dom };
-        size_told(self.told_call(monitor, Request::QuerySize { dom }, call))
+        let result = size_by(self.ask(monitor, dom));
+        self.tell(Hypercall::QuerySize { dom }, size_reply(&result));
+        result
     }
 
     /// The version of the table of a domain.
@@ -657,8 +726,9 @@ impl Domain {
         ensures answers { AnswersTold P.may monitor.now self.old
             (Request.GetVersion dom) (Hypercall.GetVersion dom) (verdict_of_version result) self.new }
     {
-        let call = Hypercall::GetVersion { dom };
-        version_told(self.told_call(monitor, Request::GetVersion { dom }, call))
+        let result = version_by(self.ask(monitor, dom));
+        self.tell(Hypercall::GetVersion { dom }, version_reply(&result));
+        result
     }
 
     // Drives a map that no rule answered at its beginning to its end.

@@ -1,24 +1,19 @@
-//! A call driven along its path, each of its steps made on the words.
-ghost use Rattle.std.specs.Prelude.{◌≡◌, ◌<◌, None, Some, [], ◌∷◌, MatchResult};
+//! The steps of calls on the words, and a map driven along its path.
+ghost use Rattle.std.specs.Prelude.{◌≡◌, None, Some, [], ◌∷◌, MatchResult};
 ghost use Rattle.gt_calls.specs.Rules.{knows, map_begun};
 ghost use Rattle.gt_calls.specs.Path.{path};
-ghost use Rattle.gt_calls.specs.Following.{IsStepAction};
-ghost use Rattle.gt_calls.specs.Standing.{IsFreshCall};
 ghost use Rattle.gt_words.specs.Conditions.{IsSeatOf, IsSameSeat};
 ghost use Rattle.gt_live.specs.Walks.{Made, Called, ReadsBody};
-ghost use Rattle.gt_live.specs.Effects.{Answers, effect_of};
-ghost use Rattle.gt_live.specs.Ending.{IsAnswerTo, WaitsForNobody};
 ghost use Rattle.gt_live.specs.Driving.{CanMake, Knows, Leaves};
 ghost use Rattle.gt_live.specs.Legs.{CanWalkLeg, WalksLeg, next_by};
 ghost use Rattle.gt_live.specs.Maps.{pin_effect, pin_of, pin_verdict};
 ghost use Rattle.gt_calls.specs.declared.request.Asked.TheVariants as asks;
 
 use gt_calls::{
-    Action, Call, Half, Held, Holder, Known, Leg, MORE_TRIES, Seen, Step, Verdict, entry_refusal,
-    every_map_begins_with_its_header, every_map_goes_on_by_its_leg, has_entry, header_refusal,
-    judge_control, judge_words, map_leg, pinned,
+    Half, Held, Known, Leg, MORE_TRIES, Seen, Step, entry_refusal, every_call_goes_on_by_its_phase,
+    has_entry, header_refusal, judge_control, judge_words, map_leg, pinned,
 };
-use gt_entry::{Change, Control, Header, Kind};
+use gt_entry::{Change, Control, Kind};
 use gt_handles::Handle;
 use gt_types::{Allows, Denial, DomId, GrantRef, Rule};
 use gt_words::{Pin, Seat, Words};
@@ -37,24 +32,6 @@ pub enum Effect {
     Stored,
 }
 
-/// How a call ended.
-#[derive(Clone, Copy)]
-pub struct Finished {
-    pub verdict: Verdict,
-    pub effect: Effect,
-}
-
-// The header with these numbers.
-fn header_with(version: u32, frames: u32) -> Header
-    requires { (version < 256) × (frames < 256) }
-    ensures { (result.version ≡ version) × (result.frames ≡ frames) }
-{
-    Header {
-        version: version as u8,
-        frames: frames as u8,
-    }
-}
-
 // The pin that is held, as the words know it.
 pub(crate) fn pin_of(held: Held) -> Pin
     ensures { result ≡ pin_of held }
@@ -67,127 +44,9 @@ pub(crate) fn pin_of(held: Held) -> Pin
     }
 }
 
-// Makes a step of a call on the words. It is a function of its own, so that the step is not copied out of its place.
-#[inline(never)]
-fn perform(words: &Words, seat: &mut Seat, step: &Step) -> Seen
-    requires seat { IsSeatOf words.now seat.old }
-    requires can { CanMake words.now.layout seat.old.view step.now }
-    ensures seat { IsSameSeat seat.old seat.new }
-    ensures made { Made words.now.layout step.now result seat.old.view seat.new.view }
-{
-    match *step {
-        Step::LookHeader { dom } => Seen::Word(words.load_header(seat, dom)),
-        Step::LookControl { dom, gref } => Seen::Word(words.load_control(seat, dom, gref)),
-        Step::LookBody { dom, gref, half } => Seen::Word(words.load_body(seat, dom, gref, half)),
-        Step::Pin { held } => match words.pin(seat, held.dom, held.gref, held.word, held.dir) {
-            Ok(_) => Seen::Taken,
-            Err(found) => Seen::Missed(found),
-        },
-        Step::Unpin { held, .. } => {
-            words.unpin(seat, pin_of(held));
-            Seen::Nothing
-        }
-        Step::StoreBody { gref, half, word } => {
-            words.store_body(seat, gref, half, word);
-            Seen::Nothing
-        }
-        Step::StoreHeader { version, frames } => {
-            words.store_header(seat, header_with(version, frames));
-            Seen::Nothing
-        }
-        Step::Exchange {
-            gref,
-            looked,
-            change,
-        } => exchange(words, seat, gref, looked, change),
-        Step::Read { .. } | Step::Write { .. } | Step::Copy { .. } => Seen::Nothing,
-    }
-}
-
-// Makes an owner's exchange.
-fn exchange(words: &Words, seat: &mut Seat, gref: GrantRef, looked: u64, change: Change) -> Seen
-    requires seat { IsSeatOf words.now seat.old }
-    requires can { CanMake words.now.layout seat.old.view (Step.Exchange gref looked change) }
-    ensures seat { IsSameSeat seat.old seat.new }
-    ensures made { Made words.now.layout (Step.Exchange gref looked change) result seat.old.view seat.new.view }
-{
-    let result = match change {
-        Change::Publish(entry) => words.grant(seat, gref, looked, entry),
-        Change::Revoke => words.revoke(seat, gref, looked),
-        Change::Withdraw => words.withdraw(seat, gref, looked),
-        Change::Demote => words.demote(seat, gref, looked),
-        Change::Promote => words.promote(seat, gref, looked),
-    };
-    match result {
-        Ok(()) => Seen::Taken,
-        Err(found) => Seen::Missed(found),
-    }
-}
-
-// What a step that saw this did.
-#[inline(never)]
-fn tell_effect(step: &Step, seen: Seen, effect: &mut Effect)
-    ensures { effect.new ≡ effect_of step.now seen }
-{
-    match (step, seen) {
-        (Step::Pin { held }, Seen::Taken) => *effect = Effect::Pinned(*held),
-        (
-            Step::Unpin {
-                holder: Holder::Mapping(handle),
-                ..
-            },
-            _,
-        ) => *effect = Effect::Unpinned(*handle),
-        (Step::Exchange { gref, change, .. }, Seen::Taken) => {
-            *effect = Effect::Changed(*gref, *change);
-        }
-        (Step::StoreHeader { .. }, _) => *effect = Effect::Stored,
-        _ => *effect = Effect::Nothing,
-    }
-}
-
-// Drives a call from its beginning to its end.
-pub(crate) fn drive<P: Allows>(
-    words: &Words,
-    known: &Known<'_, P>,
-    seat: &mut Seat,
-    call: &mut Call,
-) -> Finished
-    requires seat { IsSeatOf words.now seat.old }
-    requires fresh { IsFreshCall (knows P.may known.now) call.old }
-    requires steps { IsStepAction (path (knows P.may known.now) call.old.caller call.old.request []) }
-    requires knows { Knows (knows P.may known.now) words.now.layout call.old.caller seat.old.view }
-    requires waits { WaitsForNobody call.old.request }
-    ensures seat { IsSameSeat seat.old seat.new }
-    ensures called { Called words.now.layout
-        (path (knows P.may known.now) call.old.caller call.old.request)
-        result.verdict seat.old.view seat.new.view }
-    ensures leaves { Leaves (knows P.may known.now) words.now.layout
-        call.old.caller call.old.request seat.old.view seat.new.view result.effect }
-    ensures answers { Answers result.effect result.verdict × IsAnswerTo call.old.request result.verdict }
-{
-    let mut effect = Effect::Nothing;
-    let mut action = call.next(known, Seen::Nothing);
-    'steps: loop {
-        match &action {
-            Action::Done(verdict) => {
-                return Finished {
-                    verdict: *verdict,
-                    effect,
-                };
-            }
-            Action::Step(step) => {
-                let seen = perform(words, seat, step);
-                tell_effect(step, seen, &mut effect);
-                action = call.next(known, seen);
-            }
-        }
-    }
-}
-
-// The steps of a map's leg on the words, each as the step that it is.
+// The steps of a leg on the words, each as the step that it is.
 #[inline(always)]
-fn look_at_header(words: &Words, seat: &mut Seat, dom: DomId) -> u64
+pub(crate) fn look_at_header(words: &Words, seat: &mut Seat, dom: DomId) -> u64
     requires seat { IsSeatOf words.now seat.old }
     requires can { CanMake words.now.layout seat.old.view (Step.LookHeader dom) }
     ensures seat { IsSameSeat seat.old seat.new }
@@ -316,8 +175,7 @@ pub(crate) fn drive_map<P: Allows>(
     ensures leaves { Leaves (knows P.may known.now) words.now.layout caller (asks.Map dom gref flags)
         seat.old.view seat.new.view (pin_effect result) }
 {
-    every_map_begins_with_its_header();
-    every_map_goes_on_by_its_leg();
+    every_call_goes_on_by_its_phase();
     let leg = map_leg(known, caller, dom, gref, flags);
     walk_leg(words, seat, &leg)
 }

@@ -1,9 +1,8 @@
 //! The monitor of a run: each domain is a value that moves into a thread.
 //!
 //! [`Monitor::new`] gives the monitor, which all threads share, and a [`Domain`] for each one
-//! configured. Each call makes the steps of its path in `gt_calls`, on the shared words of `gt_words`.
-//! Maps, copies, unmaps and calls of one access make theirs themselves; all others ask the call's machine
-//! for the next one. Those that access bytes, and no others, take the lock of a frame for it (`gt_access`).
+//! configured. Each call makes the steps of its path in `gt_calls` itself, on the shared words of
+//! `gt_words`. Those that access bytes, and no others, take the lock of a frame for it (`gt_access`).
 //!
 //! What holds: what a call adds to its domain's steps is, action by action, the path of that call, with
 //! the answer that the path gives (`specs/Walks.antt`). Between calls a domain has just the pins of its
@@ -16,6 +15,7 @@
 
 mod domain;
 mod driving;
+mod headers;
 mod laws;
 mod monitor;
 mod owning;

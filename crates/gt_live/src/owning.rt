@@ -1,124 +1,42 @@
 //! An owner's changes of its entries, each driven along its path.
-ghost use Rattle.std.specs.Prelude.{◌≡◌, None, Some, MatchResult, nat_lt};
-ghost use Rattle.gt_types.specs.Denial.{denial_of};
-ghost use Rattle.gt_calls.specs.Rules.{begun, cannot_stand, change_begun, grant_begun, is_already, knows, revoke_begun};
+ghost use Rattle.std.specs.Prelude.{◌≡◌, None, MatchResult};
+ghost use Rattle.gt_calls.specs.Rules.{begun, knows};
 ghost use Rattle.gt_calls.specs.Path.{idle_word, is_stopped, path};
 ghost use Rattle.gt_calls.specs.declared.request.Asked.TheVariants as asks;
 ghost use Rattle.gt_entry.specs.Words.{control_of};
 ghost use Rattle.gt_words.specs.Conditions.{IsSeatOf, IsSameSeat};
 ghost use Rattle.gt_live.specs.Domains.{verdict_of};
 ghost use Rattle.gt_live.specs.Driving.{CanMake, Knows, Leaves};
-ghost use Rattle.gt_live.specs.Owning.{ChangesOnce, IsInTurns, asks_change, change_effect};
+ghost use Rattle.gt_live.specs.Owning.{ChangesOnce, IsInTurns, IsRowOf, asks_change, change_effect};
 ghost use Rattle.gt_live.specs.Walks.{Called, Made};
 
 use crate::driving::look_at_control;
-use gt_calls::{Half, Known, MORE_TRIES, Own, Seen, Step, Verdict, entry_refusal, own_at};
-use gt_entry::{Change, Control, Entry, Header};
-use gt_types::{Allows, Denial, DomId, Facts, GrantRef, LAST_GENERATION, Rule};
+use gt_calls::{
+    Half, Known, MORE_TRIES, Own, Seen, Step, Verdict, entry_refusal,
+    every_call_goes_on_by_its_phase, is_stopped, judge_change, judge_grant, judge_revoke,
+};
+use gt_entry::{Change, Control, Entry};
+use gt_types::{Allows, Denial, DomId, GrantRef, Rule};
 use gt_words::{Seat, Words};
 
+// The verdict at the beginning of a change of the entry with this row, if one is given there.
 #[inline(always)]
-fn refused(rule: Rule) -> Option<Verdict>
-    ensures { result ≡ Some (Verdict.Refused (denial_of rule Facts.None)) }
-{
-    Some(Verdict::Refused(Denial::new(rule, Facts::None)))
-}
-
-#[inline(always)]
-fn cannot_stand(entry: Entry, version: u8) -> bool
-    ensures { result ≡ cannot_stand entry version }
-{
-    match entry {
-        Entry::Invalid => true,
-        Entry::Page { frame, .. } => version == 1 && frame > u64::from(u32::MAX),
-        Entry::Sub { .. } | Entry::Via { .. } => version == 1,
-    }
-}
-
-#[inline(always)]
-fn begin_grant(header: Header, own: Own, gref: GrantRef, entry: Entry) -> Option<Verdict>
-    ensures { result ≡ grant_begun header own.entry own.generation gref.0 entry }
-{
-    if gref.0 >= header.entries() {
-        refused(Rule::N9)
-    } else if !own.entry().is_invalid() {
-        refused(Rule::N20)
-    } else if cannot_stand(entry, header.version) {
-        refused(Rule::N21)
-    } else if own.generation() == LAST_GENERATION {
-        refused(Rule::N22)
-    } else {
-        None
-    }
-}
-
-#[inline(always)]
-fn begin_revoke(header: Header, own: Own, gref: GrantRef) -> Option<Verdict>
-    ensures { result ≡ revoke_begun header own.entry gref.0 }
-{
-    if gref.0 >= header.entries() {
-        refused(Rule::N9)
-    } else if own.entry().is_invalid() {
-        refused(Rule::N10)
-    } else {
-        None
-    }
-}
-
-#[inline(always)]
-fn is_already(change: Change, entry: Entry) -> bool
-    ensures { result ≡ is_already change entry }
-{
-    match change {
-        Change::Publish(_) | Change::Revoke | Change::Withdraw => false,
-        Change::Demote => entry.is_read_only(),
-        Change::Promote => !entry.is_read_only(),
-    }
-}
-
-#[inline(always)]
-fn begin_change(change: Change, header: Header, own: Own, gref: GrantRef) -> Option<Verdict>
-    ensures { result ≡ change_begun change header own.entry own.generation gref.0 }
-{
-    if gref.0 >= header.entries() {
-        refused(Rule::N9)
-    } else if own.entry().is_invalid() {
-        refused(Rule::N10)
-    } else if is_already(change, own.entry()) {
-        Some(Verdict::Granted)
-    } else if own.generation() == LAST_GENERATION {
-        refused(Rule::N22)
-    } else {
-        None
-    }
-}
-
-// The verdict at the beginning of a change, if one is given there.
-#[inline(always)]
-pub(crate) fn judge_change<P: Allows>(
+pub(crate) fn judge_own<P: Allows>(
     known: &Known<'_, P>,
+    own: Own,
     gref: GrantRef,
     change: Change,
 ) -> Option<Verdict>
+    requires row { IsRowOf (knows P.may known.now) gref own }
     ensures { (caller : DomId) → result ≡ begun (knows P.may known.now) caller (asks_change gref change) }
 {
-    let own = own_at(known.own, known.config.config().first_gen, gref);
     match change {
-        Change::Publish(entry) => begin_grant(known.header, own, gref, entry),
-        Change::Revoke => begin_revoke(known.header, own, gref),
-        Change::Withdraw => begin_revoke(known.header, own, gref),
-        Change::Demote => begin_change(Change::Demote, known.header, own, gref),
-        Change::Promote => begin_change(Change::Promote, known.header, own, gref),
+        Change::Publish(entry) => judge_grant(known.header, own, gref, entry),
+        Change::Revoke => judge_revoke(known.header, own, gref),
+        Change::Withdraw => judge_revoke(known.header, own, gref),
+        Change::Demote => judge_change(Change::Demote, known.header, own, gref),
+        Change::Promote => judge_change(Change::Promote, known.header, own, gref),
     }
-}
-
-// The owner's word of its entry, with no pins.
-#[inline(always)]
-fn idle_word<P: Allows>(known: &Known<'_, P>, gref: GrantRef) -> u64
-    ensures { result ≡ idle_word (knows P.may known.now) gref }
-{
-    let own = own_at(known.own, known.config.config().first_gen, gref);
-    Control::of_entry(own.entry(), own.generation(), 0, 0).pack()
 }
 
 // Makes an owner's exchange.
@@ -186,9 +104,11 @@ fn drive_revoke<P: Allows>(
     seat: &mut Seat,
     caller: DomId,
     gref: GrantRef,
+    looked: u64,
 ) -> Result<(), Denial>
     requires seat { IsSeatOf words.now seat.old }
     requires unanswered { begun (knows P.may known.now) caller (asks.Revoke gref) ≡ None }
+    requires looked { looked ≡ idle_word (knows P.may known.now) gref }
     requires knows { Knows (knows P.may known.now) words.now.layout caller seat.old.view }
     ensures seat { IsSameSeat seat.old seat.new }
     ensures called { Called words.now.layout (path (knows P.may known.now) caller (asks.Revoke gref))
@@ -196,7 +116,7 @@ fn drive_revoke<P: Allows>(
     ensures leaves { Leaves (knows P.may known.now) words.now.layout caller (asks.Revoke gref)
         seat.old.view seat.new.view (change_effect gref Change.Revoke result) }
 {
-    let looked = idle_word(known, gref);
+    every_call_goes_on_by_its_phase();
     change_once(words, seat, caller, gref, looked, Change::Revoke)
 }
 
@@ -208,10 +128,12 @@ fn drive_grant<P: Allows>(
     seat: &mut Seat,
     caller: DomId,
     gref: GrantRef,
+    looked: u64,
     entry: Entry,
 ) -> Result<(), Denial>
     requires seat { IsSeatOf words.now seat.old }
     requires unanswered { begun (knows P.may known.now) caller (asks.Grant gref entry) ≡ None }
+    requires looked { looked ≡ idle_word (knows P.may known.now) gref }
     requires knows { Knows (knows P.may known.now) words.now.layout caller seat.old.view }
     ensures seat { IsSameSeat seat.old seat.new }
     ensures called { Called words.now.layout (path (knows P.may known.now) caller (asks.Grant gref entry))
@@ -219,8 +141,8 @@ fn drive_grant<P: Allows>(
     ensures leaves { Leaves (knows P.may known.now) words.now.layout caller (asks.Grant gref entry)
         seat.old.view seat.new.view (change_effect gref (Change.Publish entry) result) }
 {
+    every_call_goes_on_by_its_phase();
     store_half(words, seat, gref, Half::First, entry.first_body());
-    let looked = idle_word(known, gref);
     match entry {
         Entry::Sub { .. } => {
             store_half(words, seat, gref, Half::Second, entry.second_body());
@@ -230,11 +152,12 @@ fn drive_grant<P: Allows>(
     }
 }
 
+// The pins of this word stop the change.
 #[inline(always)]
-fn is_stopped(change: Change, word: u64) -> bool
+fn stops(change: Change, word: u64) -> bool
     ensures { result ≡ is_stopped change (control_of word) }
 {
-    matches!(change, Change::Demote) && Control::unpack(word).writes > 0
+    is_stopped(change, Control::unpack(word))
 }
 
 // Drives a change in turns that no rule answered at its beginning to its end.
@@ -257,10 +180,11 @@ fn drive_turns<P: Allows>(
     ensures leaves { Leaves (knows P.may known.now) words.now.layout caller (asks_change gref change)
         seat.old.view seat.new.view (change_effect gref change result) }
 {
+    every_call_goes_on_by_its_phase();
     let mut more = MORE_TRIES;
     'turns: loop {
         let word = look_at_control(words, seat, caller, gref);
-        if is_stopped(change, word) {
+        if stops(change, word) {
             return Err(entry_refusal(caller, gref, Rule::N19, word));
         }
         let found = match try_change(words, seat, gref, word, change) {
@@ -274,7 +198,8 @@ fn drive_turns<P: Allows>(
     }
 }
 
-// Drives a change that no rule answered at its beginning to its end.
+// Drives a change that no rule answered at its beginning to its end. `looked` is the owner's word of the entry with no
+// pins.
 #[inline(always)]
 pub(crate) fn drive_change<P: Allows>(
     words: &Words,
@@ -282,10 +207,12 @@ pub(crate) fn drive_change<P: Allows>(
     seat: &mut Seat,
     caller: DomId,
     gref: GrantRef,
+    looked: u64,
     change: Change,
 ) -> Result<(), Denial>
     requires seat { IsSeatOf words.now seat.old }
     requires unanswered { begun (knows P.may known.now) caller (asks_change gref change) ≡ None }
+    requires looked { looked ≡ idle_word (knows P.may known.now) gref }
     requires knows { Knows (knows P.may known.now) words.now.layout caller seat.old.view }
     ensures seat { IsSameSeat seat.old seat.new }
     ensures called { Called words.now.layout (path (knows P.may known.now) caller (asks_change gref change))
@@ -294,8 +221,8 @@ pub(crate) fn drive_change<P: Allows>(
         seat.old.view seat.new.view (change_effect gref change result) }
 {
     match change {
-        Change::Publish(entry) => drive_grant(words, known, seat, caller, gref, entry),
-        Change::Revoke => drive_revoke(words, known, seat, caller, gref),
+        Change::Publish(entry) => drive_grant(words, known, seat, caller, gref, looked, entry),
+        Change::Revoke => drive_revoke(words, known, seat, caller, gref, looked),
         Change::Withdraw => drive_turns(words, known, seat, caller, gref, Change::Withdraw),
         Change::Demote => drive_turns(words, known, seat, caller, gref, Change::Demote),
         Change::Promote => drive_turns(words, known, seat, caller, gref, Change::Promote),

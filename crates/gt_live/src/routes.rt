@@ -18,8 +18,7 @@ use crate::domain::refusal_of;
 use crate::driving::{pin_of, walk_leg};
 use gt_calls::{
     CopyArgs, Held, Holder, Known, Leg, Pins, Route, Seen, Step, end_leg,
-    every_copy_begins_at_its_source, every_copy_goes_on_by_its_phase, judge_via, resolve,
-    second_leg,
+    every_call_goes_on_by_its_phase, judge_via, resolve, second_leg,
 };
 use gt_entry::Entry;
 use gt_types::{Allows, Denial, Dir, DomId, GrantRef};
@@ -235,8 +234,7 @@ pub(crate) fn drive_copy<P: Allows>(
     ensures stops { StopsSo (knows P.may known.now) words.now.layout
         caller copy.now (filled result pins.new) seat.old.view seat.new.view }
 {
-    every_copy_begins_at_its_source();
-    every_copy_goes_on_by_its_phase();
+    every_call_goes_on_by_its_phase();
     walk(words, known, seat, caller, copy, pins)
 }
 

@@ -8,17 +8,15 @@ pub walk-requires-clause-can : goal.walk-requires-clause-can
 walk-requires-clause-can g c =
     let known = knows g.P.Allows.may c.args.known.now in let k = c.args.words.now.layout in
     let caller = c.args.caller in let copy = c.args.copy.now in let v = c.args.seat.now.view in
-    let law = c.every_copy_goes_on_by_its_phase.ensures known caller copy in
-    let begins = c.every_copy_begins_at_its_source.ensures known caller copy in
+    let law = c.every_call_goes_on_by_its_phase.ensures known in
     may-run known k caller copy law v c.requires.knows (at_source known caller copy)
-    (stands-first known k caller copy law v c.requires.knows begins c.requires.unanswered)
+    (stands-first known k caller copy law v c.requires.knows c.requires.unanswered)
 
 pub returns-clause-stops : goal.returns-clause-stops
 returns-clause-stops g c =
     let known = knows g.P.Allows.may c.args.known.now in let k = c.args.words.now.layout in
     let caller = c.args.caller in let copy = c.args.copy.now in let v = c.args.seat.now.view in
-    let law = c.every_copy_goes_on_by_its_phase.ensures known caller copy in
-    let begins = c.every_copy_begins_at_its_source.ensures known caller copy in let w = c.walk.new.seat.view in
+    let law = c.every_call_goes_on_by_its_phase.ensures known in let w = c.walk.new.seat.view in
     stops known k caller copy law v c.requires.knows (filled c.walk.result c.walk.new.pins) w
     (stands-then known k caller copy law v c.requires.knows (at_source known caller copy) (after_copy copy (filled c.walk.result c.walk.new.pins))
-    w (stands-first known k caller copy law v c.requires.knows begins c.requires.unanswered) c.walk.ensures.goes)
+    w (stands-first known k caller copy law v c.requires.knows c.requires.unanswered) c.walk.ensures.goes)

@@ -6,6 +6,8 @@ use Rattle.gt_calls.specs.declared.held.Held.{Held}
 use Rattle.gt_calls.specs.declared.known.Own.{Own}
 use Rattle.gt_live.specs.Owning.{asks_change}
 use Rattle.gt_live.specs.Rows.{row_changed}
+use Rattle.gt_live.specs.Domains.{knowledge}
+use Rattle.gt_live.proofs.AtOnce.{idle-by}
 use Rattle.gt_live.proofs.DomainKept.{changed, looked}
 use Rattle.gt_live.proofs.Making.{still_seat}
 use Rattle.gt_live.proofs.domain.Domain.change_own.Goals as goal
@@ -16,8 +18,8 @@ returns-in-Ok-clause-stays g c =
     let f = c.drive_change.new.self in let kept = c.drive_change.ensures.kept in
     let q = c.args.gref.0 in let ch = c.args.change in
     let own = with_items_is f.own c.change_row.new.own (c.change_row.auto.own ∙ c.deref_mut.ensures.len)
-        ∙ c.change_row.ensures
-        ∙ ap (λ (os : List Own). row_changed os q ch) (c.deref_mut.ensures.value ∙ ap (λ v. v.items) kept.own) in (
+    ∙ c.change_row.ensures
+    ∙ ap (λ (os : List Own). row_changed os q ch) (c.deref_mut.ensures.value ∙ ap (λ v. v.items) kept.own) in (
       changed m.words m.config may d (record f { own = with_items f.own c.change_row.new.own })
           (asks_change c.args.gref ch) q ch c.requires.mine kept.seat
           (ap (λ (z : HandleMap Held). z.slots) kept.mappings) own c.in-Ok.ensures.leaves,
@@ -33,3 +35,8 @@ returns-in-Err-clause-stays g c =
           c.in-Err.ensures.leaves,
       kept.seat,
     )
+
+pub drive_change-requires-clause-looked : goal.drive_change-requires-clause-looked
+drive_change-requires-clause-looked g c =
+    let m = c.args.monitor.now in let k = knowledge m.config (g.P.Allows.may m.rights) c.args.self.now in
+    idle-by k c.args.gref c.args.own c.idle_word.result c.requires.row c.idle_word.ensures

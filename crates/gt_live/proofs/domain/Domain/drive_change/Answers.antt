@@ -1,10 +1,10 @@
-use Rattle.std.proofs.Common.{◌≡◌, sym, subst, None, refl}
+use Rattle.std.proofs.Common.{◌≡◌, ◌∙◌, ap, sym, subst, None, refl}
 use Rattle.gt_types.specs.declared.DomId.{DomId}
-use Rattle.gt_calls.specs.Path.{path}
+use Rattle.gt_calls.specs.Path.{idle_word, path}
 use Rattle.gt_calls.specs.Rules.{CallerKnowledge, begun}
-use Rattle.gt_live.specs.Driving.{Knows, Leaves}
+use Rattle.gt_live.specs.Driving.{Knows}
 use Rattle.gt_live.specs.Domains.{knowledge, verdict_of}
-use Rattle.gt_live.specs.Owning.{asks_change, change_effect}
+use Rattle.gt_live.specs.Owning.{asks_change}
 use Rattle.gt_live.specs.Walks.{Called}
 use Rattle.gt_live.proofs.Knowing.{knows-own}
 use Rattle.gt_live.proofs.domain.Domain.drive_change.Goals as goal
@@ -33,3 +33,8 @@ returns-clause-called g c =
     let end = c.drive_change.new.seat.view in let answer = verdict_of c.drive_change.result in
     subst (λ (x : DomId). Called m.words.layout (path (knowledge m.config may d) x request) answer d.seat.view end) c.dom-caller.ensures
     (subst (λ (k : CallerKnowledge). Called m.words.layout (path k c.dom-caller.result request) answer d.seat.view end) same c.drive_change.ensures.called)
+
+pub drive_change-requires-clause-looked : goal.drive_change-requires-clause-looked
+drive_change-requires-clause-looked g c =
+    let d = c.args.self.now in let same = c.known_with-known.ensures.known d c.deref.ensures.value refl refl in
+    c.requires.looked ∙ ap (λ (k : CallerKnowledge). idle_word k c.args.gref) (sym same)

@@ -22,7 +22,7 @@ use Rattle.gt_live.specs.Domains.{knowledge}
 use Rattle.gt_live.proofs.Accessing.{mapped-way, none-left, refused-called, refuses}
 use Rattle.gt_live.proofs.DomainKept.{some-pins, unmapped}
 use Rattle.gt_live.proofs.Making.{same_seat-self, still_seat}
-use Rattle.gt_live.proofs.Maps.{one-step}
+use Rattle.gt_live.proofs.OneStep.{one-step}
 use Rattle.gt_live.proofs.AnsweredAtOnce.{mapping-refused}
 use Rattle.gt_live.proofs.domain.Domain.give_up.Goals as goal
 

@@ -8,7 +8,7 @@ use Rattle.gt_handles.specs.Handles.{HandleMap}
 use Rattle.gt_live.specs.Domains.{knowledge}
 use Rattle.std.specs.Prelude.{IfOk}
 use Rattle.gt_calls.specs.declared.call.Phase.TheVariants.{Accessing}
-use Rattle.gt_calls.specs.CopyCalls.{copy_call}
+use Rattle.gt_live.specs.Copies.{copy_call}
 use Rattle.gt_frames.specs.Receipts.{Copying}
 use Rattle.gt_access.specs.Accesses.{copying_at}
 use Rattle.gt_live.specs.Accesses.{IsCopiedBy}

@@ -1,0 +1,103 @@
+//! Calls of one step on a header: another version, a larger table, and the questions of a table.
+ghost use Rattle.std.specs.Prelude.{◌≡◌, ◌<◌, None};
+ghost use Rattle.gt_calls.specs.Path.{path, told_to};
+ghost use Rattle.gt_calls.specs.Rules.{begun, knows, query_begun};
+ghost use Rattle.gt_calls.specs.declared.call.Question.{Question};
+ghost use Rattle.gt_calls.specs.declared.request.Asked.TheVariants as asks;
+ghost use Rattle.gt_words.specs.Conditions.{IsSeatOf, IsSameSeat};
+ghost use Rattle.gt_live.specs.Driving.{CanMake, IsSame, Knows};
+ghost use Rattle.gt_live.specs.Questions.{asks_question};
+ghost use Rattle.gt_live.specs.Walks.{Called, Made};
+
+use crate::driving::look_at_header;
+use gt_calls::{Known, Seen, Step, Value, Verdict, every_call_goes_on_by_its_phase, resolve};
+use gt_entry::Header;
+use gt_types::{Allows, DomId};
+use gt_words::{Seat, Words};
+
+// The header with these numbers.
+#[inline(always)]
+fn header_with(version: u32, frames: u32) -> Header
+    requires { (version < 256) × (frames < 256) }
+    ensures { (result.version ≡ version) × (result.frames ≡ frames) }
+{
+    Header {
+        version: version as u8,
+        frames: frames as u8,
+    }
+}
+
+// Stores the header of the seat's own table.
+#[inline(always)]
+fn store_header(words: &Words, seat: &mut Seat, version: u32, frames: u32)
+    requires seat { IsSeatOf words.now seat.old }
+    requires can { CanMake words.now.layout seat.old.view (Step.StoreHeader version frames) }
+    ensures seat { IsSameSeat seat.old seat.new }
+    ensures made { Made words.now.layout (Step.StoreHeader version frames) Seen.Nothing seat.old.view seat.new.view }
+{
+    words.store_header(seat, header_with(version, frames));
+}
+
+// Drives a change of version that no rule answered at its beginning to its end, which is Ok.
+#[inline(always)]
+pub(crate) fn drive_version<P: Allows>(
+    words: &Words,
+    known: &Known<'_, P>,
+    seat: &mut Seat,
+    caller: DomId,
+    version: u32,
+)
+    requires seat { IsSeatOf words.now seat.old }
+    requires unanswered { begun (knows P.may known.now) caller (asks.SetVersion version) ≡ None }
+    requires knows { Knows (knows P.may known.now) words.now.layout caller seat.old.view }
+    ensures seat { IsSameSeat seat.old seat.new }
+    ensures called { Called words.now.layout (path (knows P.may known.now) caller (asks.SetVersion version))
+        Verdict.Granted seat.old.view seat.new.view }
+    ensures same { IsSame seat.old.view seat.new.view }
+{
+    every_call_goes_on_by_its_phase();
+    store_header(words, seat, version, u32::from(known.header.frames));
+}
+
+// Drives a setup that no rule answered at its beginning to its end, which tells the number of frames.
+#[inline(always)]
+pub(crate) fn drive_setup<P: Allows>(
+    words: &Words,
+    known: &Known<'_, P>,
+    seat: &mut Seat,
+    caller: DomId,
+    frames: u32,
+)
+    requires seat { IsSeatOf words.now seat.old }
+    requires unanswered { begun (knows P.may known.now) caller (asks.SetupTable frames) ≡ None }
+    requires knows { Knows (knows P.may known.now) words.now.layout caller seat.old.view }
+    ensures seat { IsSameSeat seat.old seat.new }
+    ensures called { Called words.now.layout (path (knows P.may known.now) caller (asks.SetupTable frames))
+        (Verdict.Given (Value.Frames frames)) seat.old.view seat.new.view }
+    ensures same { IsSame seat.old.view seat.new.view }
+{
+    every_call_goes_on_by_its_phase();
+    store_header(words, seat, u32::from(known.header.version), frames);
+}
+
+// Drives a question that no rule answered at its beginning to its end: the word of the header, which answers it.
+#[inline(always)]
+pub(crate) fn drive_query<P: Allows>(
+    words: &Words,
+    known: &Known<'_, P>,
+    seat: &mut Seat,
+    caller: DomId,
+    dom: DomId,
+) -> u64
+    requires seat { IsSeatOf words.now seat.old }
+    requires unanswered { query_begun (knows P.may known.now) caller dom ≡ None }
+    requires knows { Knows (knows P.may known.now) words.now.layout caller seat.old.view }
+    ensures seat { IsSameSeat seat.old seat.new }
+    ensures called { (question : Question) →
+        Called words.now.layout (path (knows P.may known.now) caller (asks_question dom question))
+        (told_to question result) seat.old.view seat.new.view }
+    ensures same { IsSame seat.old.view seat.new.view }
+{
+    every_call_goes_on_by_its_phase();
+    look_at_header(words, seat, resolve(caller, dom))
+}
