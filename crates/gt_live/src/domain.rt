@@ -19,6 +19,7 @@ ghost use Rattle.gt_live.specs.Effects.{Answers};
 ghost use Rattle.gt_audit.specs.Telling.{Tells};
 
 mod bytes;
+mod closing;
 mod copies;
 
 use crate::driving::{Effect, Finished, drive, drive_map, pin_of};
