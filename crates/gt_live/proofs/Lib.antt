@@ -31,3 +31,4 @@ pub mod Phases
 pub mod GivingBack
 pub mod Reaching
 mod Numbers
+pub mod Closing

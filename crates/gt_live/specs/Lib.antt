@@ -9,6 +9,7 @@ pub mod Driving
 pub mod Underway
 pub mod Legs
 pub mod Phases
+pub mod Closing
 pub mod Copies
 pub mod Rows
 pub mod Owning

@@ -19,6 +19,7 @@ ghost use Rattle.gt_live.specs.Driving.{Leaves};
 ghost use Rattle.gt_audit.specs.Telling.{Tells};
 
 mod bytes;
+mod closing;
 mod copies;
 
 use crate::driving::{drive_map, pin_of};

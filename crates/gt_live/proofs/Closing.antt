@@ -1,0 +1,218 @@
+-- A domain that closes its table.
+use Rattle.std.proofs.Common.{◌≡◌, ℕ, ◌+◌, ◌<◌, ◌∙◌, Bool, true, false, refl, sym, ap, subst, List, [], ◌∷◌, ◌++◌}
+use Rattle.std.proofs.Common.{length, get_or, Option, Some, None, inl, inr, ◌⊎◌, arith, cond, add-zero, zero-add}
+use Rattle.std.proofs.lemmas.List.Sums.{sum_by-append}
+use lib.ListN.{get_or-append}
+use Rattle.std.specs.List.{count_by}
+use Rattle.std.specs.Prelude.{slice_get, slice_index_or, HoldsAt, Result, Ok, Err, OnOk, OnErr, is_some}
+use Rattle.std.proofs.lemmas.Bool.{cases_eq}
+use Rattle.gt_types.specs.declared.DomId.{DomId}
+use Rattle.gt_types.specs.declared.GrantRef.{GrantRef}
+use Rattle.gt_entry.specs.declared.change.Change.TheVariants.{Withdraw}
+use Rattle.gt_entry.specs.declared.entry.Entry.{Entry}
+use Rattle.gt_entry.specs.declared.entry.Entry.TheVariants.{Invalid, Page, Sub, Via}
+use Rattle.gt_handles.specs.Handles.{HandleMap, IsEmpty, under}
+use Rattle.gt_handles.specs.declared.handles.Slot.{Slot}
+use Rattle.gt_words.specs.Conditions.{IsWordOf}
+use Rattle.gt_words.specs.History.{Moment}
+use Rattle.gt_words.specs.Rule.{Layout}
+use Rattle.gt_words.specs.declared.view.View.{View}
+use Rattle.gt_calls.specs.Path.{Continuation}
+use Rattle.gt_calls.specs.Rules.{entry_in, row_entry}
+use Rattle.gt_calls.specs.declared.action.Seen.TheVariants.{Word}
+use Rattle.gt_calls.specs.declared.action.Step.TheVariants.{LookControl}
+use Rattle.gt_calls.specs.declared.action.Verdict.{Verdict}
+use Rattle.gt_calls.specs.declared.action.Verdict.TheVariants.{Granted, Given, Mapped, Refused}
+use Rattle.gt_calls.specs.declared.held.Held.{Held}
+use Rattle.gt_calls.specs.declared.known.Own.{Own}
+use Rattle.gt_calls.specs.declared.request.Asked.TheVariants as asks
+use Rattle.gt_live.specs.Closing.{ClosesRow, GoesOn, IsMissed, IsShut, StaysQuiet, is_in_use, is_used}
+use Rattle.gt_live.specs.Domains.{AllowRelation, IsUnsettled, done_by}
+use Rattle.gt_live.specs.Ending.{IsAtOnce}
+use Rattle.gt_live.specs.Mappings.{KeepsMappings}
+use Rattle.gt_live.specs.Rows.{row_changed}
+use Rattle.gt_live.specs.Walks.{Called, Made, view_after}
+use Rattle.gt_live.specs.declared.domain.Domain.{Domain}
+use Rattle.gt_live.specs.declared.monitor.Monitor.{Monitor}
+use Rattle.gt_live.proofs.Making.{look-same, made-gains, same_seat-then, same_seat-self}
+use Rattle.gt_live.proofs.RowsKept.{row-here, row-there}
+
+view-append : (xs ys : List Moment) (v : View) → view_after (xs ++ ys) v ≡ view_after xs (view_after ys v)
+view-append [] ys v = refl
+view-append (x ∷ xs) ys v = ap (λ (u : View). view_after (x ∷ []) u) (view-append xs ys v)
+
+pub goes-self : (v : View) → GoesOn v v
+goes-self v = ([], refl)
+
+pub goes-then : (u v w : View) → GoesOn u v → GoesOn v w → GoesOn u w
+goes-then u v w a b = (b.0 ++ a.0, b.1 ∙ ap (λ (x : View). view_after b.0 x) a.1 ∙ sym (view-append b.0 a.0 u))
+
+pub quiet-self : (d : Domain) → StaysQuiet d d
+quiet-self d =
+    record {
+      seat = same_seat-self d.seat;
+      pinned = (record { slots = refl; given = refl }, λ t r. refl);
+      trail = refl;
+      visits = refl;
+      goes_on = goes-self d.seat.view;
+    }
+
+pub quiet-then : (d e f : Domain) → StaysQuiet d e → StaysQuiet e f → StaysQuiet d f
+quiet-then d e f a b =
+    record {
+      seat = same_seat-then d.seat e.seat f.seat a.seat b.seat;
+      pinned = (
+        record { slots = b.pinned.0.slots ∙ a.pinned.0.slots; given = b.pinned.0.given ∙ a.pinned.0.given },
+        λ t r. b.pinned.1 t r ∙ a.pinned.1 t r,
+      );
+      trail = b.trail ∙ a.trail;
+      visits = b.visits ∙ a.visits;
+      goes_on = goes-then d.seat.view e.seat.view f.seat.view a.goes_on b.goes_on;
+    }
+
+-- a missed withdrawal is one of a longer time too
+pub missed-within : {P : Type 0} (may : P → AllowRelation) (m : Monitor P) (r : ℕ) (u v w x : View) → GoesOn u v → GoesOn w x
+    → IsMissed may m r v w → IsMissed may m r u x
+missed-within may m r u v w x a b h =
+    record {
+      before = h.before;
+      after = h.after;
+      denial = h.denial;
+      refused = h.refused;
+      since = goes-then u v h.before.seat.view a h.since;
+      until = goes-then h.after.seat.view w x h.until b;
+    }
+
+pub shut-within : {P : Type 0} (may : P → AllowRelation) (m : Monitor P) (c d : Domain) (r : ℕ) (e f : Domain) → GoesOn c.seat.view d.seat.view
+    → GoesOn e.seat.view f.seat.view → entry_in f.own.items r ≡ entry_in e.own.items r → IsShut may m d r e → IsShut may m c r f
+shut-within may m c d r e f a b same (inl none) = inl (same ∙ none)
+shut-within may m c d r e f a b same (inr missed) =
+    inr (missed-within may m r c.seat.view d.seat.view e.seat.view f.seat.view a b missed)
+
+-- a row that was withdrawn is Invalid
+pub row-shut : (own new : List Own) (r : ℕ) → r < length own → new ≡ row_changed own r Withdraw → entry_in new r ≡ Invalid
+row-shut own new r lt e =
+    let x = row-there own r lt in
+    ap (λ (os : List Own). entry_in os r) e ∙ ap (λ (o : Option Own). row_entry o) (row-here own r x.0 Withdraw x.1)
+
+-- the word of a valid entry says that it is in use
+pub valid-used : (e : Entry) (generation word : ℕ) → IsWordOf (record { entry = e; generation = generation }) word → (e ≡ Invalid) ⊎ (is_in_use word ≡ true)
+valid-used Invalid g word is = inl refl
+valid-used (Page to ro frame) g word is = inr (ap is_used is.control)
+valid-used (Sub to ro frame off len) g word is = inr (ap is_used is.control)
+valid-used (Via to ro dom gref) g word is = inr (ap is_used is.control)
+
+-- what is answered to a withdrawal at its beginning is a refusal
+pub once-refused : (gref : GrantRef) (v : Verdict) (P : Type 0) → IsAtOnce (asks.Withdraw gref) v → OnOk (done_by v) P
+once-refused gref (Refused denial) P is = tt
+once-refused gref Granted P is = absurd is
+once-refused gref (Given value) P is = absurd is
+once-refused gref (Mapped p) P is = absurd is
+
+-- a fact that is there is there after any refusal
+pub after-refusal : {X E : Type 0} (r : Result X E) (P : Type 0) → P → OnErr r P
+after-refusal (Ok x) P p = tt
+after-refusal (Err e) P p = p
+
+-- a call's steps are some steps more
+pub called-goes : {k : Layout} {way : Continuation} {verdict : Verdict} {v w : View} → Called k way verdict v w → GoesOn v w
+called-goes c = (c.steps, c.view)
+
+-- a look that kept all but the view
+pub look-quiet : (k : Layout) (d e : Domain) (r word : ℕ) → IsUnsettled d e → Made k (LookControl d.seat.dom (record { 0 = r })) (Word word) d.seat.view e.seat.view
+    → StaysQuiet d e
+look-quiet k d e r word kept made =
+    let gains = made-gains k (LookControl d.seat.dom (record { 0 = r })) (Word word) d.seat.view e.seat.view made in
+    record {
+      seat = kept.seat;
+      pinned = (
+        record {
+          slots = ap (λ (z : HandleMap Held). z.slots) kept.mappings;
+          given = ap (λ (z : HandleMap Held). z.given) kept.mappings;
+        },
+        (look-same k (LookControl d.seat.dom (record { 0 = r })) (Word word) d.seat.view e.seat.view made tt).pins,
+      );
+      trail = kept.trail;
+      visits = kept.visits;
+      goes_on = (gains.step ∷ [], gains.view);
+    }
+
+-- the entries are empty still, if the mappings are as they were
+pub empty-still : (old new : HandleMap Held) → KeepsMappings old new → IsEmpty old → IsEmpty new
+empty-still old new kept none =
+    record {
+      count = ap (λ (xs : List (Option (Slot Held))). count_by is_some xs) kept.slots ∙ none.count;
+      none = λ h. ap (λ (xs : List (Option (Slot Held))). under h.serial (slice_index_or xs h.key None)) kept.slots ∙ none.none h;
+    }
+
+-- a row closed before is closed after a row beside it was
+pub closes-later : {P : Type 0} (may : P → AllowRelation) (m : Monitor P) (d e f : Domain) (r word : ℕ) → GoesOn e.seat.view f.seat.view
+    → slice_get f.own.items r ≡ slice_get e.own.items r → ClosesRow may m d r word e → ClosesRow may m d r word f
+closes-later may m d e f r word on same c =
+    let entry : entry_in f.own.items r ≡ entry_in e.own.items r = ap row_entry same in
+    record {
+      shut = shut-within may m d d r e f (goes-self d.seat.view) on entry c.shut;
+      found = record {
+        before = c.found.before;
+        after = c.found.after;
+        look = c.found.look;
+        since = c.found.since;
+        until = goes-then c.found.after e.seat.view f.seat.view c.found.until on;
+      };
+      counted = elim c.counted [ inl none ↦ inl (entry ∙ none) | inr used ↦ inr used ];
+    }
+
+-- a row closed after a time is closed in a longer one
+pub closes-sooner : {P : Type 0} (may : P → AllowRelation) (m : Monitor P) (c d e : Domain) (r word : ℕ) → GoesOn c.seat.view d.seat.view
+    → c.seat.dom ≡ d.seat.dom → ClosesRow may m d r word e → ClosesRow may m c r word e
+closes-sooner may m c d e r word on dom x =
+    record {
+      shut = shut-within may m c d r e e on (goes-self e.seat.view) refl x.shut;
+      found = record {
+        before = x.found.before;
+        after = x.found.after;
+        look = subst (λ (q : DomId). Made m.words.layout (LookControl q (record { 0 = r })) (Word word) x.found.before x.found.after) (sym dom) x.found.look;
+        since = goes-then c.seat.view d.seat.view x.found.before on x.found.since;
+        until = x.found.until;
+      };
+      counted = x.counted;
+    }
+
+-- one more word at the end
+last-word : (xs : List ℕ) (x d : ℕ) → get_or (xs ++ x ∷ []) (length xs) d ≡ x
+last-word [] x d = refl
+last-word (y ∷ xs) x d = last-word xs x d
+
+pub count-more : (p : ℕ → Bool) (xs : List ℕ) (x : ℕ) → count_by p (xs ++ x ∷ []) ≡ count_by p xs + cond (p x) 1 0
+count-more p xs x =
+    sum_by-append (λ (y : ℕ). cond (p y) 1 0) xs (x ∷ []) ∙ ap (λ (n : ℕ). count_by p xs + n) (zero-add (cond (p x) 1 0))
+
+-- one more of which the test holds, or not
+pub count-yes : (p : ℕ → Bool) (xs : List ℕ) (x n : ℕ) → n ≡ count_by p xs → p x ≡ true → n + 1 ≡ count_by p (xs ++ x ∷ [])
+count-yes p xs x n e is = ap (λ (k : ℕ). k + 1) e ∙ sym (count-more p xs x ∙ ap (λ (b : Bool). count_by p xs + cond b 1 0) is)
+
+pub count-no : (p : ℕ → Bool) (xs : List ℕ) (x n : ℕ) → n ≡ count_by p xs → p x ≡ false → n ≡ count_by p (xs ++ x ∷ [])
+count-no p xs x n e is =
+    e ∙ sym (count-more p xs x ∙ ap (λ (b : Bool). count_by p xs + cond b 1 0) is ∙ add-zero (count_by p xs))
+
+-- the rows that were closed so far, and one more
+pub rows-more : {P : Type 0} (may : P → AllowRelation) (m : Monitor P) (d e f : Domain) (words : List ℕ) (at word : ℕ) → length words ≡ at
+    → StaysQuiet d e → StaysQuiet e f
+    → ((q : ℕ) → (at ≡ q → ⊥) → slice_get f.own.items q ≡ slice_get e.own.items q)
+    → ((r : ℕ) → r < at → HoldsAt (λ w. ClosesRow may m d r w e) words r) → ClosesRow may m e at word f
+    → (r : ℕ) → r < at + 1 → HoldsAt (λ w. ClosesRow may m d r w f) (words ++ word ∷ []) r
+rows-more may m d e f words at word len first then others rows new r lt default =
+    elim (cases_eq r at) [
+      | inl same ↦
+          let here : get_or (words ++ word ∷ []) r default ≡ word =
+          ap (λ (n : ℕ). get_or (words ++ word ∷ []) n default) (same ∙ sym len) ∙ last-word words word default in
+          subst (λ (w : ℕ). ClosesRow may m d r w f) (sym here)
+          (subst (λ (n : ℕ). ClosesRow may m d n word f) (sym same)
+          (closes-sooner may m d e f at word first.goes_on (sym first.seat.dom) new))
+      | inr ne ↦
+          let low : r < at = omega (arith, lt, ne) in
+          let here : get_or (words ++ word ∷ []) r default ≡ get_or words r default =
+          get_or-append words (word ∷ []) default r (omega (arith, low, len)) in
+          subst (λ (w : ℕ). ClosesRow may m d r w f) (sym here)
+          (closes-later may m d e f r (get_or words r default) then.goes_on (others r (λ e. ne (sym e))) (rows r low default))
+    ]

@@ -1,0 +1,38 @@
+use Rattle.std.proofs.Common.{◌≡◌, ◌∙◌, ap, inl, inr, refl, subst, sym, List, ℕ}
+use Rattle.std.specs.Prelude.{slice_get}
+use Rattle.gt_types.specs.declared.DomId.{DomId}
+use Rattle.gt_words.specs.Conditions.{IsWordOf}
+use Rattle.gt_words.specs.declared.view.EntryRecord.{EntryRecord}
+use Rattle.gt_calls.specs.Rules.{entry_in, own_generation}
+use Rattle.gt_calls.specs.declared.known.Own.{Own}
+use Rattle.gt_calls.specs.declared.action.Seen.TheVariants.{Word}
+use Rattle.gt_calls.specs.declared.action.Step.TheVariants.{LookControl}
+use Rattle.gt_live.specs.Walks.{Made}
+use Rattle.gt_live.proofs.Closing.{goes-self, goes-then, quiet-then, shut-within, valid-used}
+use Rattle.gt_live.proofs.domain.Domain.close_row.Goals as goal
+
+pub returns : goal.returns
+returns g c =
+    let m = c.args.monitor.now in let may = g.P.Allows.may m.rights in
+    let d = c.args.self.now in let e = c.withdraw_often.new.self in let f = c.look.new.self in
+    let a = c.withdraw_often.ensures in let b = c.look.ensures in let r = c.args.gref.0 in
+    let own : f.own.items ≡ e.own.items = ap (λ v. v.items) b.kept.own in
+    let same : entry_in f.own.items r ≡ entry_in e.own.items r = ap (λ (os : List Own). entry_in os r) own in
+    let row = b.mine.rows r c.requires.entry in
+    record {
+      mine = b.mine;
+      quiet = quiet-then d e f a.quiet b.quiet;
+      closed = record {
+        shut = shut-within g.P.Allows.may m d d r e f (goes-self d.seat.view) b.quiet.goes_on same a.shut;
+        found = record {
+          before = e.seat.view;
+          after = f.seat.view;
+          look = subst (λ (q : DomId). Made m.words.layout (LookControl q c.args.gref) (Word c.look.result) e.seat.view f.seat.view) a.quiet.seat.dom b.made;
+          since = a.quiet.goes_on;
+          until = goes-self f.seat.view;
+        };
+        counted = valid-used (entry_in f.own.items r) (own_generation m.config.first_gen f.own.items r) c.look.result
+            (subst (λ (x : EntryRecord). IsWordOf x c.look.result) row b.own);
+      };
+      others = λ q ne. ap (λ (os : List Own). slice_get os q) own ∙ a.others q ne;
+    }

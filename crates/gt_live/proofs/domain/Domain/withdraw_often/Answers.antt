@@ -1,0 +1,51 @@
+use Rattle.std.proofs.Common.{◌≡◌, ◌<◌, ◌∙◌, ap, arith, inl, inr, refl, subst, sym, length, List, ℕ}
+use Rattle.std.specs.Prelude.{slice_get}
+use Rattle.gt_entry.specs.declared.change.Change.TheVariants.{Withdraw}
+use Rattle.gt_calls.specs.declared.known.Own.{Own}
+use Rattle.gt_live.proofs.Closing.{called-goes, goes-self, goes-then, quiet-self, quiet-then, row-shut}
+use Rattle.gt_live.proofs.RowsKept.{row-other}
+use Rattle.gt_live.proofs.domain.Domain.withdraw_often.Goals as goal
+
+pub asked-init : goal.asked-init
+asked-init g c = record { mine = c.requires.mine; quiet = quiet-self c.args.self.now; same = refl; missed = λ some. absurd (omega (arith, some)) }
+
+pub asked-preserved : goal.asked-preserved
+asked-preserved g c =
+    let inv = c.asked.invariant in let d = c.args.self.now in let e = c.asked.self in let f = c.withdraw_row.new.self in
+    let w = c.withdraw_row.ensures in
+    record {
+      mine = w.mine;
+      quiet = quiet-then d e f inv.quiet w.quiet;
+      same = c.in-Err.ensures.same ∙ inv.same;
+      missed = λ some. record {
+        before = e;
+        after = f;
+        denial = _;
+        refused = c.in-Err.ensures.answered;
+        since = inv.quiet.goes_on;
+        until = goes-self f.seat.view;
+      };
+    }
+
+pub returns-in-Ok : goal.returns-in-Ok
+returns-in-Ok g c =
+    let inv = c.asked.invariant in let d = c.args.self.now in let e = c.asked.self in let f = c.withdraw_row.new.self in
+    let w = c.withdraw_row.ensures in let r = c.args.gref.0 in
+    let rows = inv.mine.all_rows in
+    record {
+      mine = w.mine;
+      quiet = quiet-then d e f inv.quiet w.quiet;
+      shut = inl (row-shut e.own.items f.own.items r (omega (arith, rows, c.requires.entry)) c.in-Ok.ensures.gone);
+      others = λ q ne. ap (λ (os : List Own). slice_get os q) c.in-Ok.ensures.gone ∙ row-other e.own.items r q Withdraw ne
+          ∙ ap (λ (os : List Own). slice_get os q) inv.same;
+    }
+
+pub returns : goal.returns
+returns g c =
+    let inv = c.asked.invariant in
+    record {
+      mine = inv.mine;
+      quiet = inv.quiet;
+      shut = inr (inv.missed (omega arith));
+      others = λ q ne. ap (λ (os : List Own). slice_get os q) inv.same;
+    }

@@ -1,0 +1,166 @@
+//! How a domain closes its table before it leaves, and what one look at an entry of its own finds.
+ghost use Rattle.std.specs.Prelude.{◌≡◌, true};
+ghost use Rattle.gt_entry.specs.declared.entry.Entry.TheVariants.{Invalid};
+ghost use Rattle.gt_calls.specs.Rules.{entry_in};
+ghost use Rattle.gt_live.specs.Closing.{is_in_use};
+
+use super::{Domain, change_row, done};
+use crate::monitor::Monitor;
+use gt_calls::Own;
+use gt_entry::{Change, Control, Entry, Kind};
+use gt_types::{Allows, Denial, GrantRef};
+
+// How often the withdrawal of an entry is asked. Each time makes up to four tries.
+const MOST_WITHDRAWALS: u32 = 16;
+
+// Whether a control word is of an entry in use.
+fn is_in_use(word: u64) -> bool
+    ensures { result ≡ is_in_use word }
+{
+    let control = Control::unpack(word);
+    !matches!(control.kind, Kind::Invalid) || control.reads > 0 || control.writes > 0
+}
+
+// Whether an owner's row of an entry says that it is Invalid.
+fn is_shut(own: &[Own], gref: GrantRef) -> bool
+    ensures { result ≡ true → entry_in own.now gref.0 ≡ Invalid }
+{
+    match own.get(gref.0 as usize).copied() {
+        Some(row) => matches!(row.entry(), Entry::Invalid),
+        None => true,
+    }
+}
+
+impl Domain {
+    ghost use Rattle.std.specs.Prelude.{◌≡◌, ℕ, ◌<◌, OnOk, OnErr, slice_get};
+    ghost use Rattle.gt_calls.specs.declared.request.Request.TheVariants as Request;
+    ghost use Rattle.gt_entry.specs.declared.change.Change.TheVariants.{Withdraw};
+    ghost use Rattle.gt_types.specs.declared.limits.TheConstants.{TABLE_ENTRIES};
+    ghost use Rattle.gt_live.specs.Domains.{Answered, BelongsTo, StaysIn, verdict_of};
+    ghost use Rattle.gt_live.specs.Closing.{Closes, ClosesRow, IsShut, LooksAtOwn, Resets, StaysQuiet};
+    ghost use Rattle.gt_live.specs.Rows.{row_changed};
+    ghost use Rattle.gt_live.specs.Domains.{IsUnsettled};
+    ghost use Rattle.gt_live.specs.Walks.{Made};
+    ghost use Rattle.gt_words.specs.Conditions.{IsWordOf};
+    ghost use Rattle.gt_words.specs.Views.{last_of};
+    ghost use Rattle.gt_calls.specs.declared.action.Seen.TheVariants.{Word};
+    ghost use Rattle.gt_calls.specs.declared.action.Step.TheVariants.{LookControl};
+
+    // Withdraws an entry of its own, in at most four tries.
+    fn withdraw_row<P: Allows>(
+        &mut self,
+        monitor: &Monitor<P>,
+        gref: GrantRef,
+    ) -> Result<(), Denial>
+        requires mine { BelongsTo P.may monitor.now self.old }
+        ensures mine { BelongsTo P.may monitor.now self.new }
+        ensures quiet { StaysQuiet self.old self.new }
+        ensures answered { Answered P.may monitor.now self.old (Request.Withdraw gref) (verdict_of result) self.new }
+        ensures gone { OnOk result (self.new.own.items ≡ row_changed self.old.own.items gref.0 Withdraw) }
+        ensures same { OnErr result (self.new.own.items ≡ self.old.own.items) }
+    {
+        if let Some(verdict) = self.judge_change(monitor, gref, Change::Withdraw) {
+            return done(verdict);
+        }
+        match self.drive_change(monitor, gref, Change::Withdraw) {
+            Ok(()) => {
+                change_row(&mut self.own, gref, Change::Withdraw);
+                Ok(())
+            }
+            Err(denial) => Err(denial),
+        }
+    }
+
+    // Withdraws an entry of its own if it is valid, and asks again if its tries were missed.
+    fn withdraw_often<P: Allows>(&mut self, monitor: &Monitor<P>, gref: GrantRef)
+        requires mine { BelongsTo P.may monitor.now self.old }
+        requires entry { gref.0 < TABLE_ENTRIES }
+        ensures mine { BelongsTo P.may monitor.now self.new }
+        ensures quiet { StaysQuiet self.old self.new }
+        ensures shut { IsShut P.may monitor.now self.old gref.0 self.new }
+        ensures others { (q : ℕ) → (gref.0 ≡ q → ⊥)
+            → slice_get self.new.own.items q ≡ slice_get self.old.own.items q }
+    {
+        if is_shut(&self.own, gref) {
+            return;
+        }
+        'asked: for _ in 0..MOST_WITHDRAWALS {
+            match self.withdraw_row(monitor, gref) {
+                Ok(()) => return,
+                Err(_) => {}
+            }
+        }
+    }
+
+    // A look at an entry of its own.
+    fn look<P: Allows>(&mut self, monitor: &Monitor<P>, gref: GrantRef) -> u64
+        requires mine { BelongsTo P.may monitor.now self.old }
+        requires entry { gref.0 < TABLE_ENTRIES }
+        ensures mine { BelongsTo P.may monitor.now self.new }
+        ensures kept { IsUnsettled self.old self.new }
+        ensures quiet { StaysQuiet self.old self.new }
+        ensures made { Made monitor.now.words.layout (LookControl self.old.seat.dom gref) (Word result)
+            self.old.seat.view self.new.seat.view }
+        ensures own { IsWordOf (last_of gref.0 self.new.seat.view) result }
+    {
+        let dom = self.seat.dom();
+        monitor.words.load_control(&mut self.seat, dom, gref)
+    }
+
+    // Closes an entry of its own, and answers the word that a look then finds.
+    fn close_row<P: Allows>(&mut self, monitor: &Monitor<P>, gref: GrantRef) -> u64
+        requires mine { BelongsTo P.may monitor.now self.old }
+        requires entry { gref.0 < TABLE_ENTRIES }
+        ensures mine { BelongsTo P.may monitor.now self.new }
+        ensures quiet { StaysQuiet self.old self.new }
+        ensures closed { ClosesRow P.may monitor.now self.old gref.0 result self.new }
+        ensures others { (q : ℕ) → (gref.0 ≡ q → ⊥)
+            → slice_get self.new.own.items q ≡ slice_get self.old.own.items q }
+    {
+        self.withdraw_often(monitor, gref);
+        self.look(monitor, gref)
+    }
+
+    /// Withdraws each valid entry of its own, and answers how many entries are still in use. An entry is in use if
+    /// it has pins, or if it is still valid: each of the 64 tries to withdraw it was missed, since others took and gave
+    /// back pins meanwhile. No entry that was withdrawn gets another pin; its pins go when their holders unmap, and
+    /// [`Domain::status`] shows them. Takes no memory and doesn't wait. The domain's own mappings and pins stay.
+    pub fn close<P: Allows>(&mut self, monitor: &Monitor<P>) -> usize
+        requires mine { BelongsTo P.may monitor.now self.old }
+        ensures mine { BelongsTo P.may monitor.now self.new }
+        ensures quiet { StaysQuiet self.old self.new }
+        ensures closes { Closes P.may monitor.now self.old result self.new }
+    {
+        let mut left = 0;
+        'entries: for at in 0..self.own.len() {
+            if is_in_use(self.close_row(monitor, GrantRef(at as u32))) {
+                left += 1;
+            }
+        }
+        left
+    }
+
+    /// Gives up each of its mappings, and then closes its table as [`Domain::close`] does: for the next guest in its
+    /// place. Its records stay, and so do its table's version and size and the generation of each entry.
+    pub fn reset<P: Allows>(&mut self, monitor: &Monitor<P>) -> usize
+        requires mine { BelongsTo P.may monitor.now self.old }
+        ensures mine { BelongsTo P.may monitor.now self.new }
+        ensures resets { Resets P.may monitor.now self.old result self.new }
+    {
+        self.release(monitor);
+        self.close(monitor)
+    }
+
+    /// One look at an entry of its own: its kind, its generation, and its pins of each kind, the domain's own among
+    /// them. None if its table has no such entry. An entry that was withdrawn shows the pins that are left.
+    pub fn status<P: Allows>(&mut self, monitor: &Monitor<P>, gref: GrantRef) -> Option<Control>
+        requires mine { BelongsTo P.may monitor.now self.old }
+        ensures stays { StaysIn P.may monitor.now self.old self.new }
+        ensures looks { LooksAtOwn monitor.now.words.layout self.old gref result self.new }
+    {
+        if gref.0 >= self.seat.header().entries() {
+            return None;
+        }
+        Some(Control::unpack(self.look(monitor, gref)))
+    }
+}
