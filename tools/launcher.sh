@@ -1,7 +1,7 @@
 #!/usr/bin/env bash
-# Tries the launcher ./gthost: what it answers before the program is built, how it builds, and how a build ends that
-# can't go on. It is no part of the gate. A command of its own takes the place of rt, so that a build takes a second;
-# with the word `kit` the real rt runs the first example unproved, in a minute or two.
+# Tries the launcher ./gthost: what it answers before the program is built, what it runs then, how it builds, and how a
+# build ends that can't go on. It is no part of the gate. A command of its own takes the place of rt, so that a build
+# takes a second; with the word `kit` the real rt runs the first example, not proved, and all command lines of the tour.
 #
 # usage: tools/launcher.sh [kit]
 set -euo pipefail
@@ -13,9 +13,12 @@ tried=0 failed=0
 
 # A copy of what the launcher reads, and of what it installs.
 checkout="$work/checkout"
-mkdir -p "$checkout/crates/gthost/src" "$checkout/crates/gt_explore" "$checkout/crates/cases_program" "$work/bin" "$work/other"
-cp -r "$top/gthost" "$top/HANDLES" "$top/crates.txt" "$top/gthost.1" "$top/contrib" "$checkout/"
-cp "$top/crates/cases_program/stdout" "$checkout/crates/cases_program/"
+mkdir -p "$checkout/crates/gthost/src" "$checkout"/crates/{gt_explore,gt_run,gt_advising,gthost_play,cases_program} \
+  "$checkout/tools" "$checkout/docs" "$work/bin" "$work/other"
+cp -r "$top/gthost" "$top/HANDLES" "$top/crates.txt" "$top/gthost.1" "$top/contrib" "$top/examples" "$checkout/"
+cp "$top"/tools/*.awk "$checkout/tools/"
+cp "$top/docs/GATE.md" "$checkout/docs/"
+cp -r "$top"/crates/cases_program/{args,stdin,stdout,data} "$checkout/crates/cases_program/"
 cp "$top/crates/gthost/src/main.rt" "$checkout/crates/gthost/src/"
 out="$checkout/crates/gthost/out"
 script="$work/other/some.gt"
@@ -27,9 +30,20 @@ cat >"$work/bin/rt" <<'STUB'
 case "$1" in
   version) echo "$KIT" ;;
   try)
-    while [ "$1" != -- ]; do shift; done
+    crate="$2" data=()
+    while [ "$1" != -- ]; do
+      if [ "$1" = --data ]; then data+=("$2"); fi
+      shift
+    done
     shift
-    echo "tried $*"
+    case "$STUB" in slow_try) sleep 6 ;; esac
+    if [ "$crate" = cases_program ]; then
+      if [ "$STUB" = other ]; then echo "other"; else cat "$STORED"; fi
+      exit 0
+    fi
+    echo "tried $crate $*"
+    for file in "${data[@]}"; do echo "with $file"; done
+    if [ "$STUB" = reads ]; then cat; fi
     echo "gthost: line 4: config" >&2
     echo "run=ended status=1 runners=1 races=unchecked proved=no" >&2
     exit 1
@@ -48,14 +62,15 @@ case "$1" in
     chmod 755 out/gthost
     ;;
   lib)
-    mkdir -p out/incremental && : >out/incremental/kept
-    echo "$PWD" >>"$WORK/libs"
+    mkdir -p out/incremental out/rlib && : >out/incremental/kept
+    echo stamp >out/rlib/stamp
+    echo "$PWD ${*:2}" >>"$WORK/libs"
     if [ "$STUB" = slow ]; then sleep 300 & echo "$$ $!" >>"$WORK/children"; wait; fi
     ;;
 esac
 STUB
 chmod 755 "$work/bin/rt"
-export WORK="$work" STUB=good KIT
+export WORK="$work" STUB=good KIT STORED="$top/crates/cases_program/stdout"
 KIT="$(sed -n 's/^for \(rattle-kit-.*\)/\1/p' "$top/crates/cases_program/stdout" | head -n 1)"
 path="$PATH"
 PATH="$work/bin:$path"
@@ -83,7 +98,7 @@ same() { cmp -s "$work/$2" "$3" || wrong "$1: another text"; }
 unbuilt() { [ ! -e "$out" ] || wrong "$1: something was built"; }
 builds() { [ "$(wc -l <"$work/builds")" -eq "$2" ] || wrong "$1: other than $2 builds"; }
 is_alive() { for child in $(cat "$work/children"); do if kill -0 "$child" 2>/dev/null; then return 0; fi; done; return 1; }
-anew() { chmod -R u+w "$checkout"; rm -rf "$out" "$checkout/crates/gt_explore/out" "$work/builds" "$work/libs" "$work/failed"; : >"$work/builds"; STUB=good; }
+anew() { chmod -R u+w "$checkout"; rm -rf "$checkout"/crates/*/out "$work/builds" "$work/libs" "$work/failed"; : >"$work/builds"; STUB=good; }
 
 stored() { LINE="\$ gthost $1" awk '$0 == ENVIRON["LINE"] { f = 1; next } f && /^status / { exit } f' "$top/crates/cases_program/stdout" >"$work/stored"; }
 
@@ -101,66 +116,111 @@ stored --help; try -h 0 -h; same -h out "$work/stored"
 stored --version; try -V 0 -V; same -V out "$work/stored"
 stored 'play -h'; try 'play --help' 0 play --help; same 'play --help' out "$work/stored"
 stored 'rules N27'
-for name in N27 N0 N019 N+19 n19 19 'N1 N2' ''; do
+for name in N27 N0 N019 N+19 ''; do
   try "rules $name" 2 rules "$name"
   same "rules $name" err "$work/stored"
 done
-try 'no words' 2; has 'no words' err 'not built yet.*--unproved'; lines 'no words' 1
+
+# Each command line that the gate tries and that is wrong is answered as the gate has it. So is a FILE that is missing.
+export TEXT="$work/text"
+while read -r _ words; do
+  LINE="\$ gthost${words:+ $words}" awk '$0 == ENVIRON["LINE"] { f = 1; next } f && /^status / { print $2; exit } f { print > ENVIRON["TEXT"] }' \
+    "$top/crates/cases_program/stdout" >"$work/status"
+  wanted="$(cat "$work/status")"
+  # shellcheck disable=SC2086
+  if [ "$wanted" -eq 2 ] || [[ $words == *missing* ]]; then
+    try "$words" "$wanted" $words
+    same "$words" err "$work/text"
+    [ ! -s "$work/out" ] || wrong "$words: a text on the standard output"
+  fi
+done < <(grep '^gthost' "$top/crates/cases_program/args")
+try 'a folder as FILE' 1 play -v "$work"; has 'a folder as FILE' err 'Is a directory \(os error 21\)'; lines 'a folder as FILE' 2
+try 'a file below a file' 1 play -v "$script/x"; has 'a file below a file' err 'Not a directory \(os error 20\)'
+try 'no UTF-8' 2 play $'\xff'; has 'no UTF-8' err 'a word of the command line is no UTF-8'; lines 'no UTF-8' 1
+try 'build of a word' 2 build now; lines 'build of a word' 1
 try 'install of two' 2 install a b; lines 'install of two' 1
 try 'install of a flag' 2 install --help; lines 'install of a flag' 1
-try 'no words unproved' 2 --unproved; lines 'no words unproved' 1
 unbuilt 'before the program is built'
 
 # No kit: there is a line for it, and nothing is made.
 mkdir "$work/plain"
-for tool in bash env dirname readlink find sort xargs sha256sum sed awk stat grep timeout cat; do ln -s "$(command -v "$tool")" "$work/plain/$tool"; done
-as=(env "PATH=$work/plain"); try 'no kit' 1 play; has 'no kit' err 'rt.*not on the PATH'; lines 'no kit' 1; as=(env)
+for tool in bash env dirname basename readlink find sort xargs sha256sum sed awk stat grep timeout cat tr iconv; do ln -s "$(command -v "$tool")" "$work/plain/$tool"; done
+as=(env "PATH=$work/plain"); try 'no kit' 1 play "$script"; has 'no kit' err 'rt.*not on the PATH'; lines 'no kit' 1; as=(env)
 unbuilt 'no kit'
 
-# The first run, and later ones.
-try 'a first run' 3 play "$script" --audit
-has 'a first run' out "^the program: play $script --audit$"
-has 'a first run' err 'the first run\): .* four cores.*log: .*/build-[0-9]+\.log; .*--unproved'
-lines 'a first run' 2
-try 'a second run' 3 play x; lines 'a second run' 0
+# Before the build each run is compiled, and said not to be proved: `play` and `policy` by a program of their own.
+first() { has "$1" err 'not built yet: this run is compiled in about [0-9]+ s, and not proved; ./gthost build .* 36 crates, about [0-9]+ min$'; }
+cd "$work/other"
+try 'a first run' 1 play some.gt
+has 'a first run' out '^tried gthost_play play some.gt$'; has 'a first run' out "^with some.gt=$script$"
+first 'a first run'; has 'a first run' err '^gthost: line 4: config$'; lines 'a first run' 2
+try 'with records' 1 play "$script" --audit; has 'with records' out "^tried gthost_play play --audit $script$"
+try 'a policy' 1 policy ./some.gt; has 'a policy' out '^tried gthost_play policy ./some.gt$'
+try 'another option' 1 play -v some.gt; has 'another option' out '^tried gthost play -v some.gt$'; first 'another option'
+try 'another command' 1 check some.gt; has 'another command' out '^tried gthost check some.gt$'
+mkdir below; cd below
+try 'a file above' 1 why - - copy ../some.gt; has 'a file above' out "^tried gthost why - - copy $work/other/below/../some.gt$"
+cd ..; STUB=reads
+try 'a pipe' 1 play <(cat some.gt); has 'a pipe' out '^tried gthost_play play$'; has 'a pipe' out '^do 1 revoke 0$'
+STUB=slow_try
+try 'a run that takes long' 1 play some.gt; has 'a run that takes long' err '^gthost: compiling, 5 s$'; lines 'a run that takes long' 3
+STUB=good
+try 'the tour' 0 tour; has 'the tour' out "^$(wc -l <"$top/crates/cases_program/args") command lines, all as recorded$"; lines 'the tour' 1
+STUB=other; try 'another tour' 1 tour; has 'another tour' err 'not all as recorded'
+STUB=good
+unbuilt 'runs that are not proved'
+
+# The build, and later runs.
+try 'a build' 0 build
+has 'a build' err 'proving and building the program \(not built yet\): 0 of 36 crates, about [0-9]+ min on idle processors; log: .*/build-[0-9]+\.log'
+lines 'a build' 2
+try 'a built program' 3 play x; has 'a built program' out '^the program: play x$'; lines 'a built program' 0
+try 'a second build' 0 build; has 'a second build' err '^gthost: built: '; lines 'a second build' 1
 as=(env "PATH=$work/plain"); try 'a run without a kit' 3 play x; lines 'a run without a kit' 0; as=(env)
 [ "$(sed -n 2p "$out/built")" = "$KIT" ] || wrong 'the stamp has no kit'
 touch "$work/bin/rt"; try 'the same kit in another file' 3 play x; lines 'the same kit in another file' 0
 builds 'later runs' 1
 echo '// more' >>"$checkout/crates/gthost/src/main.rt"
-try 'a changed source' 3 play x; has 'a changed source' err 'the sources have changed'
+try 'a changed source' 1 play some.gt; has 'a changed source' err 'the sources have changed since the build: this run'
+try 'a build after it' 0 build; has 'a build after it' err 'the sources have changed since the build\): 0 of 36'
 touch -d yesterday "$work/bin/rt"; KIT="another-kit-14 logic 0"
-try 'another kit' 3 play x; has 'another kit' err 'another kit, another-kit-14 logic 0'; has 'another kit' err 'this checkout is for rattle-kit'
+try 'another kit' 0 build; has 'another kit' err 'the kit is another'; has 'another kit' err 'this checkout is for rattle-kit'
 KIT="$(sed -n 's/^for //p' "$work/stored" "$top/crates/cases_program/stdout" | head -n 1)"
-rm "$out/gthost"; touch "$work/bin/rt"; try 'a program that is gone' 3 play x
+rm "$out/gthost"; touch "$work/bin/rt"; try 'a program that is gone' 0 build
 builds 'each of them' 4
 
-# A first build is two runs, if there are processors and memory for it; what the second one kept is moved.
-if [ "$(nproc)" -ge 4 ] && awk '/^MemAvailable:/ { exit $2 < 8000000 }' /proc/meminfo; then
-  both=2
-  anew; STUB=brief; try 'a build in two runs' 3 play
-  [ "$(cat "$work/libs")" = "$out/beside/crates/gt_explore" ] || wrong 'no second run'
-  [ -e "$checkout/crates/gt_explore/out/incremental/kept" ] || wrong 'nothing is kept of the second run'
-  [ ! -e "$out/beside" ] || wrong 'a copy is left'
-  rm "$work/libs"; echo '// more' >>"$checkout/crates/gthost/src/main.rt"
-  try 'a later build' 3 play; [ ! -e "$work/libs" ] || wrong 'a later build in two runs'
+# A first build is several runs, if there are processors and memory for it; what the others kept is moved.
+processors="$(nproc)" memory="$(awk '/^MemAvailable:/ { print int($2 / 1000000) }' /proc/meminfo)" runs=1
+if [ "$processors" -ge 4 ] && [ "$memory" -ge 8 ]; then runs=2; fi
+if [ "$processors" -ge 4 ] && [ "$memory" -ge 12 ]; then runs=4; fi
+anew; STUB=brief; try 'a build in lanes' 0 build
+if [ "$runs" -eq 1 ]; then
+  [ ! -e "$work/libs" ] || wrong 'a build in lanes'
+  echo "not tried: a build in lanes (four processors and 8 GB are wanted)"
 else
-  both=1
-  echo "not tried: a build in two runs (four processors and 8 GB are wanted)"
+  grep -qx "$out/beside/gt_explore/crates/gt_explore " "$work/libs" || wrong 'no run for gt_explore'
+  [ -e "$checkout/crates/gt_explore/out/incremental/kept" ] || wrong 'nothing is kept of the other runs'
+  [ ! -e "$out/beside" ] || wrong 'a copy is left'
 fi
+if [ "$runs" -eq 4 ]; then
+  grep -qx "$out/beside/gt_run/crates/gt_run --jobs 1" "$work/libs" || wrong 'no run for gt_run'
+  grep -qx "$out/beside/gt_advising/crates/gt_advising --jobs 1" "$work/libs" || wrong 'no run for gt_advising'
+fi
+rm -f "$work/libs"; echo '// more' >>"$checkout/crates/gthost/src/main.rt"
+try 'a later build' 0 build; [ ! -e "$work/libs" ] || wrong 'a later build in lanes'
 
 # Builds that do not end well.
-anew; STUB=fails; try 'an open goal' 1 play; has 'an open goal' err 'a goal is open'; has 'an open goal' err 'not built; log: '
+anew; STUB=fails; try 'an open goal' 1 build; has 'an open goal' err 'a goal is open'; has 'an open goal' err 'not built; log: '
 [ ! -e "$out/built" ] || wrong 'an open goal has a stamp'
-STUB=full; try 'a full disk' 1 play; has 'a full disk' err 'the disk is full.*log: '; lines 'a full disk' 2
-STUB=good; try 'once it is mended' 3 play x
+STUB=full; try 'a full disk' 1 build; has 'a full disk' err 'the disk is full.*log: '; lines 'a full disk' 2
+STUB=good; try 'once it is mended' 0 build; try 'the program then' 3 play x
 
 # Signals: the build ends with its children, the status is the signal's, and the next run builds.
 for signal in INT TERM HUP; do
   anew; STUB=slow; tried=$((tried + 1)); rm -f "$work/children"
-  env --default-signal="$signal" "$checkout/gthost" play >"$work/out" 2>"$work/err" </dev/null &
+  env --default-signal="$signal" "$checkout/gthost" build >"$work/out" 2>"$work/err" </dev/null &
   launcher=$! status=0
-  until [ -e "$work/children" ] && [ "$(wc -l <"$work/children")" -eq "$both" ]; do sleep 0.1; done
+  until [ -e "$work/children" ] && [ "$(wc -l <"$work/children")" -eq "$runs" ]; do sleep 0.1; done
   kill -s "$signal" "$launcher"
   wait "$launcher" || status=$?
   [ "$status" -eq $((128 + $(kill -l "$signal"))) ] || wrong "$signal: status $status"
@@ -168,39 +228,40 @@ for signal in INT TERM HUP; do
   for _ in $(seq 30); do is_alive || break; sleep 0.1; done
   if is_alive; then wrong "$signal: a child goes on"; fi
   [ ! -e "$out/built" ] || wrong "$signal: a stamp"
-  STUB=good; try "after $signal" 3 play x
+  STUB=good; try "after $signal" 0 build
 done
 
 # A reader of the messages that has ended doesn't end the build.
 anew; STUB=brief; status=0; tried=$((tried + 1))
-{ "$checkout/gthost" play x 2>&1 >"$work/out" </dev/null || echo $? >"$work/status"; } | sleep 0.1
+rm -f "$work/status"
+{ "$checkout/gthost" build 2>&1 >"$work/out" </dev/null || echo $? >"$work/status"; } | sleep 0.1
 : >"$work/err"
-[ "$(cat "$work/status")" -eq 3 ] || wrong 'a closed standard error'
+[ ! -e "$work/status" ] || wrong 'a closed standard error'
 
-# Two first runs at once: one builds, and the other waits for it, or builds where the first failed, with a log each.
+# Two builds at once: one builds, and the other waits for it, or builds where the first failed, with a log each.
 for kind in brief fails_once; do
   anew; STUB=$kind; tried=$((tried + 2)); one=0 two=0
-  "$checkout/gthost" play one >"$work/one" 2>"$work/one.err" </dev/null &
+  "$checkout/gthost" build >"$work/one" 2>"$work/one.err" </dev/null &
   first=$!
   sleep 0.7
-  "$checkout/gthost" play two >"$work/out" 2>"$work/err" </dev/null &
+  "$checkout/gthost" build >"$work/out" 2>"$work/err" </dev/null &
   second=$!
   wait "$first" || one=$?
   wait "$second" || two=$?
   has 'the second of two' err 'another run builds the program; waiting'
-  has 'the second of two' out 'the program: play two'
-  [ "$two" -eq 3 ] || wrong "the second of two: status $two"
-  case "$kind:$one" in brief:3) builds 'two at once' 1 ;; fails_once:1) builds 'the second after a failure' 2 ;; *) wrong "the first of two: status $one" ;; esac
+  has 'the second of two' err '^gthost: built: '
+  [ "$two" -eq 0 ] || wrong "the second of two: status $two"
+  case "$kind:$one" in brief:0) builds 'two at once' 1 ;; fails_once:1) builds 'the second after a failure' 2 ;; *) wrong "the first of two: status $one" ;; esac
 done
 [ "$(find "$out" -name 'build-*.log' | wc -l)" -eq 2 ] || wrong 'two builds have not a log each'
 
 # A checkout that can't be written, for a user who is not root.
 anew; chmod -R a-w "$checkout"
 if [ "$(id -u)" -eq 0 ]; then as=(setpriv --reuid=65534 --regid=65534 --clear-groups); fi
-try 'a read-only checkout' 1 play; has 'a read-only checkout' err 'cannot write to .*/out \(Permission denied\)'; lines 'a read-only checkout' 1
+try 'a read-only checkout' 1 build; has 'a read-only checkout' err 'cannot write to .*/out \(Permission denied\)'; lines 'a read-only checkout' 1
 stored --help; try 'help in it' 0 --help; same 'help in it' out "$work/stored"
 as=(env); anew
-try 'a build' 3 play; chmod -R a-w "$checkout"
+try 'a build before it' 0 build; chmod -R a-w "$checkout"
 if [ "$(id -u)" -eq 0 ]; then as=(setpriv --reuid=65534 --regid=65534 --clear-groups); fi
 try 'a built checkout, read-only' 3 play x; lines 'a built checkout, read-only' 0
 as=(env)
@@ -210,7 +271,7 @@ anew
 if unshare -m true 2>/dev/null; then
   cat >"$work/in_full" <<'FULL'
 mount -t tmpfs -o size=64k none "$1/crates/gthost/out" && head -c 70000 /dev/zero >"$1/crates/gthost/out/zeros" 2>/dev/null
-exec "$1/gthost" play
+exec "$1/gthost" build
 FULL
   mkdir "$out"; tried=$((tried + 1)); status=0
   unshare -m bash "$work/in_full" "$checkout" >"$work/out" 2>"$work/err" </dev/null || status=$?
@@ -220,18 +281,12 @@ else
   echo "not tried: a disk without room (no leave to mount one)"
 fi
 
-# Unproved runs: said so, the words handed on with the file's whole path, and the status.
-anew; cd "$work/other"
-try 'an unproved run' 1 --unproved play some.gt --audit
-has 'an unproved run' out "^tried play $script --audit$"
-printf 'gthost: running unproved, in about a minute: this run is not proved\ngthost: line 4: config\n' >"$work/wanted"
-same 'an unproved run' err "$work/wanted"
-unbuilt 'an unproved run'
+anew
 
 # Installing.
-try 'an installation' 0 install "$work/prefix"; has 'an installation' err "installed $work/prefix/bin/gthost"
+try 'an installation' 0 install "$work/prefix"; has 'an installation' err 'proving and building'; has 'an installation' err "installed $work/prefix/bin/gthost"
 for file in bin/gthost share/man/man1/gthost.1 share/bash-completion/completions/gthost share/zsh/site-functions/_gthost \
-  share/fish/vendor_completions.d/gthost.fish; do
+  share/fish/vendor_completions.d/gthost.fish share/gthost/examples/first.gt; do
   [ -s "$work/prefix/$file" ] || wrong "an installation: no $file"
 done
 cmp -s "$out/gthost" "$work/prefix/bin/gthost" || wrong 'an installation: another program'
@@ -239,11 +294,13 @@ try 'a second installation' 0 install "$work/prefix"; lines 'a second installati
 try 'no folder to install below' 1 install "$work/out"; has 'no folder to install below' err 'cannot write .*Not a directory'; lines 'no folder to install below' 1
 
 if [ "${1-}" = kit ]; then
-  PATH="$path" tried=$((tried + 1)) status=0
-  "$top/gthost" --unproved play "$top/examples/first.gt" >"$work/out" 2>"$work/err" </dev/null || status=$?
-  [ "$status" -eq 0 ] || wrong "an unproved run of the kit: status $status"
-  stored 'play first.gt'; same 'an unproved run of the kit' out "$work/stored"
-  lines 'an unproved run of the kit' 1
+  PATH="$path" tried=$((tried + 2)) status=0
+  "$top/gthost" play "$top/examples/first.gt" >"$work/out" 2>"$work/err" </dev/null || status=$?
+  [ "$status" -eq 0 ] || wrong "a run of the kit: status $status"
+  stored 'play first.gt'; same 'a run of the kit' out "$work/stored"
+  status=0
+  "$top/gthost" tour >"$work/out" 2>"$work/err" </dev/null || status=$?
+  [ "$status" -eq 0 ] || wrong "a tour of the kit: status $status"
 fi
 
 echo "$tried runs of the launcher, $failed wrong"

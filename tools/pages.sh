@@ -1,6 +1,6 @@
 #!/usr/bin/env bash
-# Writes the man page gthost.1 and the shell completions of contrib/completions from the texts of --help, as the gate
-# compares them (crates/cases_program/stdout).
+# Writes the man page gthost.1 and the shell completions of contrib/completions from the texts of --help and the names of
+# the rules, as the gate compares them (crates/cases_program/stdout), and from the words of the launcher ./gthost.
 # usage: tools/pages.sh            writes the files
 #        tools/pages.sh --check    says whether they are as they would be written
 set -euo pipefail
@@ -33,7 +33,33 @@ list() {
     awk 'NR % 2 { print ".TP"; print ".B " $0; next } { print }'
 }
 
+# The names of the rules, and the permissions that the help of `why` lists.
+rules() { stored rules | awk '{ print $1 }' | tr '\n' ' ' | sed 's/ $//'; }
+permissions() { stored "why -h" | sed -n 's/^ *<PERMISSION> *One of //p' | tr -d ','; }
+
+# The words of the launcher, with what they are.
+launcher_words() { sed -n 's|^#.*\./gthost \([a-z][a-z]*\)\( [][A-Z]*\)\{0,1\}   *\(.*\)$|\1\x1f\3|p' gthost; }
+launcher_names() { launcher_words | cut -d $'\x1f' -f 1 | tr '\n' ' ' | sed 's/ $//'; }
+
 usage_of() { stored "$1 -h" | sed -n 's/^Usage: gthost //p'; }
+
+# What a script is, by the one that the program is tried with.
+scripts() {
+  printf '.SH SCRIPTS\n'
+  cat <<'END' | roff
+A script is a text of statements, one on a line; # begins a comment. First comes the policy: lines
+`triple SOURCE TARGET PERMISSION`, or a block from `policy` to `end` with types, attributes and allow statements.
+Then come the domains, each with its security context, its frames, the frames of its grant table and the table's
+version: `domain ID USER:ROLE:TYPE FRAMES TABLEFRAMES VERSION`. Then come the calls, `do ID CALL`, in their order.
+A script for run has lines `tell` and `await` too, by which domains wait for each other, and one for play `begin`,
+`tick` and `show`, which make the steps of a call one by one.
+END
+  printf '.PP\nIn this script domain 1 grants its frame 5 to domain 2, which maps it, reads two bytes and unmaps it:\n.PP\n.nf\n'
+  roff <crates/gthost/data/first.gt
+  printf '.fi\n.PP\nIt prints the number of each line, the domain and the answer:\n.PP\n.nf\n'
+  roff <crates/gthost/stdout
+  printf '.fi\n'
+}
 
 man() {
   local command version
@@ -47,6 +73,7 @@ man() {
   done
   printf '.SH DESCRIPTION\n'
   stored --help | after | sed -n '/^The exit status/q;p' | roff
+  scripts
   printf '.SH COMMANDS\n'
   for command in $(commands); do
     printf '.SS gthost %s\n' "$(usage_of "$command" | roff)"
@@ -58,8 +85,9 @@ man() {
   stored --help | section Options | list
   printf '.SH EXIT STATUS\n'
   stored --help | after | sed -n '/^The exit status/,/^Try:/{/^Try:/d;p}' | roff
-  printf '.SH FILES\n'
+  printf '.SH LIMITS\n'
   stored --version | sed '1,2d' | { printf '.nf\n'; roff; printf '.fi\n'; }
+  printf '.SH FILES\n.I share/gthost/examples\nbelow the folder of the installation: scripts, policies and a dump to try.\n'
   printf '.SH EXAMPLES\n.nf\n'
   stored --help | sed -n '/^Try:/,$p' | sed -e 's/^Try: *//' -e 's/^ *//' | roff
   printf '.fi\n.SH SEE ALSO\n'
@@ -72,7 +100,11 @@ flags() {
   stored "$1 -h" | section Options | sed -n 's/^\(-[a-zA-Z], \)\{0,1\}--\([a-z]*\)\( <[^>]*>\)\{0,1\}  *\(.*\)$/\2\x1f\3\x1f\4/p'
 }
 
-# The values of an option whose help names them, as `text|json`.
+# The flags of a command, in one line.
+all_flags() { flags "$1" | cut -d $'\x1f' -f 1 | sed 's/^/--/' | tr '\n' ' ' | sed 's/ $//'; }
+
+# The values of an option: those that its help names, as `text|json`, and of --find the rules.
+values_of() { if [ "$1" = find ]; then rules; else values "$2"; fi; }
 values() { printf '%s' "$1" | sed -n 's/^ <\(.*|.*\)>$/\1/p' | tr '|' ' '; }
 
 bash_completion() {
@@ -80,30 +112,49 @@ bash_completion() {
   cat <<'END'
 # Completion of gthost for bash. Made by tools/pages.sh from the texts of --help.
 _gthost() {
-  local word="${COMP_WORDS[COMP_CWORD]}" before="${COMP_WORDS[COMP_CWORD - 1]}" words=""
+  local word="${COMP_WORDS[COMP_CWORD]}" before="${COMP_WORDS[COMP_CWORD - 1]}" words="" count=0 i
+  # `=` is a word by itself.
+  if [ "$word" = = ]; then
+    word=""
+  elif [ "$before" = = ]; then
+    before="${COMP_WORDS[COMP_CWORD - 2]}"
+  fi
   if [ "$COMP_CWORD" -eq 1 ]; then
 END
   printf '    words="%s --help --version"\n' "$(commands | tr '\n' ' ' | sed 's/ $//')"
+  printf '    if [[ $1 == */* && -e ${1%%/*}/crates.txt ]]; then words="$words %s"; fi\n' "$(launcher_names)"
   cat <<'END'
     mapfile -t COMPREPLY < <(compgen -W "$words" -- "$word")
     return
   fi
   case "${COMP_WORDS[1]} $before" in
+    -*) return ;;
 END
   for command in $(commands); do
     flags "$command" | while IFS=$'\x1f' read -r flag value what; do
       [ -n "$value" ] || continue
-      printf '    "%s --%s") mapfile -t COMPREPLY < <(compgen -W "%s" -- "$word"); return ;;\n' "$command" "$flag" "$(values "$value")"
+      printf '    "%s --%s") mapfile -t COMPREPLY < <(compgen -W "%s" -- "$word"); return ;;\n' "$command" "$flag" "$(values_of "$flag" "$value")"
     done
   done
   printf '  esac\n  case "${COMP_WORDS[1]}" in\n'
   for command in $(commands); do
-    printf '    %s) words="%s" ;;\n' "$command" "$(flags "$command" | cut -d $'\x1f' -f 1 | sed 's/^/--/' | tr '\n' ' ' | sed 's/ $//')"
+    printf '    %s) words="%s" ;;\n' "$command" "$(all_flags "$command")"
   done
+  printf '    %s) words="" ;;\n' "$(launcher_names | sed 's/ / | /g')"
   cat <<'END'
   esac
   case "$word" in
-    -*) mapfile -t COMPREPLY < <(compgen -W "$words" -- "$word") ;;
+    -*) mapfile -t COMPREPLY < <(compgen -W "$words" -- "$word"); return ;;
+  esac
+  for ((i = 2; i < COMP_CWORD; i++)); do
+    case "${COMP_WORDS[i]}" in -?*) ;; *) count=$((count + 1)) ;; esac
+  done
+  case "${COMP_WORDS[1]} $count" in
+END
+  printf '    "rules 0") mapfile -t COMPREPLY < <(compgen -W "%s" -- "$word") ;;\n' "$(rules)"
+  printf '    "why 2") mapfile -t COMPREPLY < <(compgen -W "%s" -- "$word") ;;\n' "$(permissions)"
+  cat <<'END'
+    rules* | build* | tour* | "why 0" | "why 1") ;;
     *) mapfile -t COMPREPLY < <(compgen -f -- "$word") ;;
   esac
 }
@@ -112,7 +163,7 @@ END
 }
 
 # A text inside single quotes of zsh, where `[`, `]` and `:` are of the language.
-zsh_text() { printf '%s' "$1" | sed -e "s/'/'\\\\''/g" -e 's/[]:\\[]/\\&/g'; }
+zsh_text() { printf '%s' "$1" | sed -e 's/[]:\\[]/\\&/g' -e "s/'/'\\\\''/g"; }
 
 zsh_completion() {
   local command what flag value
@@ -121,20 +172,29 @@ zsh_completion() {
   stored --help | section Commands | while read -r command what; do
     printf "    '%s:%s'\n" "$command" "$(zsh_text "$what")"
   done
-  printf '  )\n  if (( CURRENT == 2 )); then\n'
+  printf "  )\n  if [[ \$words[1] == */* && -e \${words[1]:h}/crates.txt ]]; then\n    commands+=(\n"
+  launcher_words | while IFS=$'\x1f' read -r command what; do
+    printf "      '%s:%s'\n" "$command" "$(zsh_text "$what")"
+  done
+  printf '    )\n  fi\n  if (( CURRENT == 2 )); then\n'
   printf "    _describe command commands\n    _arguments '(- *)--help[Print help]' '(- *)--version[Print version]'\n    return\n  fi\n"
   printf '  local command=${words[2]}\n  shift words\n  (( CURRENT-- ))\n  case $command in\n'
   for command in $(commands); do
     printf '    %s) _arguments' "$command"
     flags "$command" | while IFS=$'\x1f' read -r flag value what; do
       if [ -n "$value" ]; then
-        printf " '--%s=[%s]:value:(%s)'" "$flag" "$(zsh_text "$what")" "$(values "$value")"
+        printf " '--%s=[%s]:value:(%s)'" "$flag" "$(zsh_text "$what")" "$(values_of "$flag" "$value")"
       else
         printf " '--%s[%s]'" "$flag" "$(zsh_text "$what")"
       fi
     done
-    printf " '*:file:_files' ;;\n"
+    case "$command" in
+      rules) printf " '1:rule:(%s)' ;;\n" "$(rules)" ;;
+      why) printf " '1:source: ' '2:target: ' '3:permission:(%s)' '4:file:_files' ;;\n" "$(permissions)" ;;
+      *) printf " '*:file:_files' ;;\n" ;;
+    esac
   done
+  printf '    install | library) _arguments "1:folder:_files -/" ;;\n'
   printf '  esac\n}\n_gthost "$@"\n'
 }
 
@@ -151,8 +211,14 @@ fish_completion() {
   for command in $(commands); do
     flags "$command" | while IFS=$'\x1f' read -r flag value what; do
       printf "complete -c gthost -n '__fish_seen_subcommand_from %s' -l %s%s -d '%s'\n" "$command" "$flag" \
-        "${value:+ -x -a $quote$(values "$value")$quote}" "$(fish_text "$what")"
+        "${value:+ -x -a $quote$(values_of "$flag" "$value")$quote}" "$(fish_text "$what")"
     done
+  done
+  printf "complete -c gthost -n '__fish_seen_subcommand_from rules' -f -a '%s'\n" "$(rules)"
+  printf "complete -c gthost -n '__fish_seen_subcommand_from why' -a '%s'\n" "$(permissions)"
+  launcher_words | while IFS=$'\x1f' read -r command what; do
+    printf "complete -c gthost -n '__fish_use_subcommand; and string match -q \"*/*\" -- (commandline -opc)[1]; and test -e (dirname (commandline -opc)[1])/crates.txt' -f -a %s -d '%s'\n" \
+      "$command" "$(fish_text "$what")"
   done
 }
 

@@ -1,15 +1,23 @@
 # Completion of gthost for bash. Made by tools/pages.sh from the texts of --help.
 _gthost() {
-  local word="${COMP_WORDS[COMP_CWORD]}" before="${COMP_WORDS[COMP_CWORD - 1]}" words=""
+  local word="${COMP_WORDS[COMP_CWORD]}" before="${COMP_WORDS[COMP_CWORD - 1]}" words="" count=0 i
+  # `=` is a word by itself.
+  if [ "$word" = = ]; then
+    word=""
+  elif [ "$before" = = ]; then
+    before="${COMP_WORDS[COMP_CWORD - 2]}"
+  fi
   if [ "$COMP_CWORD" -eq 1 ]; then
     words="play run explore policy rules check why entries --help --version"
+    if [[ $1 == */* && -e ${1%/*}/crates.txt ]]; then words="$words build tour install library"; fi
     mapfile -t COMPREPLY < <(compgen -W "$words" -- "$word")
     return
   fi
   case "${COMP_WORDS[1]} $before" in
+    -*) return ;;
     "play --format") mapfile -t COMPREPLY < <(compgen -W "text json" -- "$word"); return ;;
     "run --format") mapfile -t COMPREPLY < <(compgen -W "text json" -- "$word"); return ;;
-    "explore --find") mapfile -t COMPREPLY < <(compgen -W "" -- "$word"); return ;;
+    "explore --find") mapfile -t COMPREPLY < <(compgen -W "N1 N2 N3 N4 N5 N6 N7 N8 N9 N10 N11 N12 N13 N14 N15 N16 N17 N18 N19 N20 N21 N22 N23 N24 N25 N26" -- "$word"); return ;;
     "explore --witness") mapfile -t COMPREPLY < <(compgen -W "" -- "$word"); return ;;
     "explore --states") mapfile -t COMPREPLY < <(compgen -W "" -- "$word"); return ;;
     "policy --format") mapfile -t COMPREPLY < <(compgen -W "text json" -- "$word"); return ;;
@@ -27,9 +35,18 @@ _gthost() {
     check) words="--script --format --help" ;;
     why) words="--help" ;;
     entries) words="--hex --all --version --script --format --help" ;;
+    build | tour | install | library) words="" ;;
   esac
   case "$word" in
-    -*) mapfile -t COMPREPLY < <(compgen -W "$words" -- "$word") ;;
+    -*) mapfile -t COMPREPLY < <(compgen -W "$words" -- "$word"); return ;;
+  esac
+  for ((i = 2; i < COMP_CWORD; i++)); do
+    case "${COMP_WORDS[i]}" in -?*) ;; *) count=$((count + 1)) ;; esac
+  done
+  case "${COMP_WORDS[1]} $count" in
+    "rules 0") mapfile -t COMPREPLY < <(compgen -W "N1 N2 N3 N4 N5 N6 N7 N8 N9 N10 N11 N12 N13 N14 N15 N16 N17 N18 N19 N20 N21 N22 N23 N24 N25 N26" -- "$word") ;;
+    "why 2") mapfile -t COMPREPLY < <(compgen -W "map_read map_write unmap transfer setup copy query" -- "$word") ;;
+    rules* | build* | tour* | "why 0" | "why 1") ;;
     *) mapfile -t COMPREPLY < <(compgen -f -- "$word") ;;
   esac
 }

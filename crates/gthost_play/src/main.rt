@@ -1,0 +1,144 @@
+//! The commands `play` and `policy` of the program `gthost`, alone: `play [--audit] [FILE]` and `policy [FILE]`, with
+//! the same text, the same line for a fault and the same exit status. They need fewer crates than the whole program, so
+//! they are compiled sooner: the launcher runs them, unproved, until the program is built.
+#![tactic(auto)]
+
+use gt_host::{PlayFault, play};
+use gt_listing::{ListingFault, policy};
+use std::fmt;
+use std::fs::File;
+use std::io::{self, ErrorKind, Read};
+use std::process::ExitCode;
+use std::rt::Runtime;
+
+#[derive(Clone, Copy)]
+enum Command {
+    Play { audit: bool },
+    Policy,
+}
+
+/// Why a command did not end well. It prints as one line, without its end.
+#[derive(Drop)]
+enum Failure {
+    Play(PlayFault),
+    List(ListingFault),
+    /// The file can't be opened.
+    File,
+    Memory,
+    /// The words are of no command.
+    Words,
+}
+
+impl fmt::Display for Failure {
+    fn fmt<W: fmt::Write>(&self, f: &mut fmt::Formatter<W>) -> fmt::Result {
+        match self {
+            Failure::Play(fault) => write!(f, "gthost: {fault}"),
+            Failure::List(fault) => write!(f, "gthost: {fault}"),
+            Failure::File => f.write_str("gthost: read"),
+            Failure::Memory => f.write_str("gthost: memory"),
+            Failure::Words => f.write_str(
+                "usage: gthost_play play [--audit] [FILE] | policy [FILE]",
+            ),
+        }
+    }
+}
+
+impl Failure {
+    // A file that was not opened.
+    fn unopened(error: &io::Error) -> Failure {
+        if error.kind() == ErrorKind::OutOfMemory {
+            Failure::Memory
+        } else {
+            Failure::File
+        }
+    }
+
+    fn exit_status(&self) -> u8 {
+        match self {
+            Failure::Words => 2,
+            _ => 1,
+        }
+    }
+}
+
+// The command that the words name, and its FILE.
+fn command_of(words: &[String]) -> Option<(Command, Option<&str>)> {
+    match words {
+        [_, name] if name.as_str() == "play" => Some((Command::Play { audit: false }, None)),
+        [_, name] if name.as_str() == "policy" => Some((Command::Policy, None)),
+        [_, name, word] if name.as_str() == "policy" => {
+            Some((Command::Policy, Some(word.as_str())))
+        }
+        [_, name, word] if name.as_str() == "play" && word.as_str() == "--audit" => {
+            Some((Command::Play { audit: true }, None))
+        }
+        [_, name, word] if name.as_str() == "play" => {
+            Some((Command::Play { audit: false }, Some(word.as_str())))
+        }
+        [_, name, word, file] if name.as_str() == "play" && word.as_str() == "--audit" => {
+            Some((Command::Play { audit: true }, Some(file.as_str())))
+        }
+        _ => None,
+    }
+}
+
+// Does this with the text of a reader.
+fn perform<R: Runtime + AllocGlobal, I: Read>(
+    rt: &R,
+    command: Command,
+    reader: &mut I,
+) -> Result<(), Failure> {
+    match command {
+        Command::Play { audit } => match play(rt.alloc(), reader, &mut io::writer(rt), audit) {
+            Ok(()) => Ok(()),
+            Err(fault) => Err(Failure::Play(fault)),
+        },
+        Command::Policy => match policy(rt.alloc(), reader, &mut io::writer(rt)) {
+            Ok(()) => Ok(()),
+            Err(fault) => Err(Failure::List(fault)),
+        },
+    }
+}
+
+// Does what the words ask for.
+fn obey<R: Runtime + AllocGlobal>(rt: &R, words: &[String]) -> Result<(), Failure> {
+    let Some((command, name)) = command_of(words) else {
+        return Err(Failure::Words);
+    };
+    let Some(name) = name else {
+        return perform(rt, command, &mut rt.reader());
+    };
+    match File::open(rt, name) {
+        Ok(mut file) => perform(rt, command, &mut file),
+        Err(error) => Err(Failure::unopened(&error)),
+    }
+}
+
+// The words of the command line, the program's name first.
+fn words_of<R: Runtime + AllocGlobal>(rt: &R) -> Result<Vec<String>, Failure> {
+    match std::env::args(rt) {
+        Ok(words) => match words.collect(rt.alloc()) {
+            Ok(words) => Ok(words),
+            Err(_) => Err(Failure::Memory),
+        },
+        Err(error) if error.kind() == ErrorKind::OutOfMemory => Err(Failure::Memory),
+        Err(_) => Err(Failure::Words),
+    }
+}
+
+// Does what the words of the command line ask for.
+fn run<R: Runtime + AllocGlobal>(rt: &R) -> Result<(), Failure> {
+    let words = words_of(rt)?;
+    obey(rt, words.as_slice())
+}
+
+fn main(rt: HostRuntime) -> ExitCode {
+    match run(&rt) {
+        Ok(()) => ExitCode::SUCCESS,
+        Err(failure) => {
+            let status = failure.exit_status();
+            let _ = rt.eprintln(failure);
+            ExitCode::from(status)
+        }
+    }
+}

@@ -1,0 +1,330 @@
+# What the words of a command line come to before the program is built: the launcher ./gthost asks here. The commands,
+# their options and their texts are read from the outputs that the gate compares, so help and the messages for wrong
+# words are the program's, byte for byte; the program takes them from the parser of command lines that it is built with.
+#
+# usage: awk -f tools/words.awk -- crates/cases_program/stdout WORD..
+#
+# Exit status 0: a command. Its name, `file` or `input`, the place of its FILE among the words, the FILE, and its options
+# follow, a line each. 3: a text for the standard output. 4: a text for the standard error; the program's exit status is
+# then 2.
+
+# Reads the text of each command line that is stored.
+function read_stored(file,    line, key) {
+  while ((getline line < file) > 0) {
+    if (line ~ /^\$ gthost/) {
+      key = substr(line, 3)
+      text[key] = ""
+    } else if (line ~ /^\$ /) {
+      key = ""
+    } else if (line ~ /^status [0-9]+$/) {
+      key = ""
+    } else if (key != "") {
+      text[key] = text[key] line "\n"
+    }
+  }
+  close(file)
+}
+
+# The commands, in the order of the help.
+function read_commands(    lines, n, i, on, parts) {
+  n = split(text["gthost --help"], lines, "\n")
+  for (i = 1; i <= n; i++) {
+    if (lines[i] == "Commands:") on = 1
+    else if (lines[i] == "") on = 0
+    else if (on && lines[i] ~ /^  [a-z]/) {
+      split(lines[i], parts, " ")
+      commands[++command_count] = parts[1]
+      is_command[parts[1]] = 1
+    }
+  }
+}
+
+# The options and words of a command, from its usage and the options of its help. Each has its text, as `--format
+# <text|json>`, and `takes` says which take a value.
+function read_options(command,    lines, n, i, on, parts, id, usage) {
+  option_count = word_count = 0
+  split("", is_option); split("", takes); split("", shown); split("", is_needed); split("", word_at)
+  n = split(command == "" ? text["gthost --help"] : text["gthost " command " -h"], lines, "\n")
+  for (i = 1; i <= n; i++) {
+    if (lines[i] ~ /^Usage: /) usage = substr(lines[i], 8)
+    if (lines[i] == "Options:") on = 1
+    else if (lines[i] == "") on = 0
+    else if (on && match(lines[i], /^ *(-[a-zA-Z], )?--[a-z]+/)) {
+      id = substr(lines[i], RSTART, RLENGTH)
+      sub(/^.*--/, "", id)
+      options[++option_count] = id
+      is_option[id] = 1
+      shown[id] = "--" id
+      if (match(lines[i], "--" id " <[^>]*>")) {
+        takes[id] = 1
+        shown[id] = substr(lines[i], RSTART, RLENGTH)
+      }
+    }
+  }
+  plain = usage
+  has_options = usage ~ /\[OPTIONS\]/
+  sub(/\[OPTIONS\] /, "", usage)
+  for (i = 1; i <= option_count; i++) {
+    id = options[i]
+    if (index(usage, shown[id])) {
+      is_needed[id] = 1
+      usage = substr(usage, 1, index(usage, shown[id]) - 1) substr(usage, index(usage, shown[id]) + length(shown[id]) + 1)
+    }
+  }
+  n = split(usage, parts, " ")
+  for (i = command == "" ? 4 : 3; i <= n; i++) {
+    id = substr(parts[i], 2, length(parts[i]) - 2)
+    word_at[++word_count] = id
+    shown[id] = "<" id ">"
+    if (parts[i] ~ /^</) is_needed[id] = 1
+  }
+  head = command == "" ? "gthost" : "gthost " command
+  tail = command == "" ? "<COMMAND>" : ""
+}
+
+# The similarity of two words, by Jaro.
+function jaro(a, b,    n, m, range, i, j, low, high, matches, moved, taken, first, second) {
+  n = length(a); m = length(b)
+  if (a == b) return 1
+  if (!n || !m) return 0
+  range = int((n > m ? n : m) / 2) - 1
+  if (range < 0) range = 0
+  for (i = 1; i <= n; i++) {
+    low = i - range; if (low < 1) low = 1
+    high = i + range; if (high > m) high = m
+    for (j = low; j <= high; j++) {
+      if (!(j in taken) && substr(a, i, 1) == substr(b, j, 1)) {
+        taken[j] = 1
+        first[++matches] = substr(a, i, 1)
+        break
+      }
+    }
+  }
+  if (!matches) return 0
+  for (j = 1; j <= m; j++) if (j in taken) second[++i_second] = substr(b, j, 1)
+  for (i = 1; i <= matches; i++) if (first[i] != second[i_second - matches + i]) moved++
+  moved = int(moved / 2)
+  return (matches / n + matches / m + (matches - moved) / matches) / 3
+}
+
+# The option closest to a word, if one is close.
+function closest_option(word,    i, best, score, high) {
+  high = 0.7
+  for (i = 1; i <= option_count; i++) {
+    score = jaro(word, options[i])
+    if (score > 0.7 && score >= high) { high = score; best = options[i] }
+  }
+  return best
+}
+
+function finish(status, out) { printf "%s", out; exit status }
+function show(out) { finish(3, out) }
+
+# A message with a usage line, and one without.
+function refuse(message, usage) { finish(4, "error: " message "\n\nUsage: " usage "\n\nFor more information, try '--help'.\n") }
+function refuse_value(message) { finish(4, "error: " message "\n\nFor more information, try '--help'.\n") }
+
+# The usage line for the options and words that were used, and those that are needed.
+function usage_of(    i, id, out, done) {
+  if (!used_count) return plain
+  out = head
+  for (i = 1; i <= option_count; i++) {
+    id = options[i]
+    if (id in is_needed) { out = out " " shown[id]; done[id] = 1 }
+  }
+  for (i = 1; i <= used_count; i++) {
+    id = used[i]
+    if ((id in is_option) && !(id in done)) { out = out " " shown[id]; done[id] = 1 }
+  }
+  for (i = 1; i <= word_count; i++) {
+    id = word_at[i]
+    out = out " " ((id in is_used) || (id in is_needed) ? "<" id ">" : "[" id "]")
+  }
+  return out (tail == "" ? "" : " " tail)
+}
+
+function note_used(id) { if (!(id in is_used)) { is_used[id] = 1; used[++used_count] = id } }
+
+# Takes what waits: an option with its value, or without one, or a word. With `quiet` a fault is left for later.
+function settle(quiet,    id) {
+  if (waiting == "") return
+  id = waiting
+  waiting = ""
+  if ((id in is_option) && !has_value) {
+    if (quiet) return
+    refuse_value("a value is required for '" shown[id] "' but none was supplied")
+  }
+  if (id in given) {
+    if (quiet) return
+    refuse("the argument '" shown[id] "' cannot be used multiple times", plain)
+  }
+  given[id] = value
+  note_used(id)
+}
+
+# An option that no command has, with a hint.
+function unknown_option(name, i, words, n,    best, command, j, k, tip, hint) {
+  settle(1)
+  best = closest_option(name)
+  if (best != "") {
+    note_used(best)
+    hint = "\n\n  tip: a similar argument exists: '--" best "'"
+  } else if (word_count) {
+    hint = "\n\n  tip: to pass '--" name "' as a value, use '-- --" name "'"
+  }
+  message = "unexpected argument '--" name "' found"
+  usage = usage_of()
+  if (best == "" && head == "gthost") {
+    for (j = i + 1; j <= n && hint == ""; j++) {
+      if (words[j] in is_command) {
+        read_options(words[j])
+        best = closest_option(name)
+        if (best != "") hint = "\n\n  tip: '" words[j] " --" best "' exists"
+      }
+    }
+  }
+  refuse(message hint, usage)
+}
+
+# The words at the top, up to a command.
+function walk_top(words, n,    i, word, marked, name, j, similar, count, order, score, k, list) {
+  read_options("")
+  for (i = 1; i <= n; i++) {
+    word = words[i]
+    if (!marked && (word in is_command)) return i
+    if (!marked && word == "--") { marked = 1; continue }
+    if (!marked && word ~ /^--./) {
+      name = substr(word, 3)
+      if (index(name, "=")) name = substr(name, 1, index(name, "=") - 1)
+      if (!(name in is_option)) unknown_option(name, i, words, n)
+      if (index(word, "=")) {
+        note_used(name)
+        refuse("unexpected value '" substr(word, index(word, "=") + 1) "' for '--" name "' found; no more were expected", usage_of())
+      }
+      show(text["gthost --" name])
+    }
+    if (!marked && word ~ /^-[^-]/) {
+      if (word ~ /^-h/) show(text["gthost --help"])
+      if (word ~ /^-V/) show(text["gthost --version"])
+      refuse("unexpected argument '" substr(word, 1, 2) "' found", plain)
+    }
+    if (marked && (word in is_command))
+      refuse("unexpected argument '" word "' found\n\n  tip: subcommand '" word "' exists; to use it, remove the '--' before it", plain)
+    for (j = 1; j <= command_count; j++) {
+      score = jaro(word, commands[j])
+      if (score <= 0.7) continue
+      for (k = ++count; k > 1 && order[k - 1] > score; k--) { order[k] = order[k - 1]; similar[k] = similar[k - 1] }
+      order[k] = score
+      similar[k] = commands[j]
+    }
+    for (k = 1; k <= count; k++) list = list (k > 1 ? ", " : "") "'" similar[k] "'"
+    if (count) list = "\n\n  tip: " (count == 1 ? "a similar subcommand exists: " : "some similar subcommands exist: ") list
+    refuse("unrecognized subcommand '" word "'" list, plain)
+  }
+  finish(4, text["gthost"])
+}
+
+# The words of a command.
+function walk_command(words, n, i,    word, marked, next_word, name, attached, has_attached, j, missing) {
+  read_options(words[i])
+  used_count = 0
+  split("", used); split("", is_used)
+  next_word = 1
+  for (i++; i <= n; i++) {
+    word = words[i]
+    if (!marked && word == "--") { marked = 1; continue }
+    if (!marked && word ~ /^--./) {
+      name = substr(word, 3)
+      has_attached = index(name, "=") > 0
+      if (has_attached) { attached = substr(name, index(name, "=") + 1); name = substr(name, 1, index(name, "=") - 1) }
+      if (!(name in is_option)) unknown_option(name, i, words, n)
+      if (has_attached && !(name in takes)) {
+        note_used(name)
+        refuse("unexpected value '" attached "' for '--" name "' found; no more were expected", usage_of())
+      }
+      settle(0)
+      if (name == "help") show(text[head " -h"])
+      waiting = name
+      has_value = !(name in takes) || has_attached
+      value = has_attached ? attached : "true"
+      if (has_value) settle(0)
+      continue
+    }
+    if (!marked && word ~ /^-[^-]/) {
+      if (word ~ /^-h/) { settle(0); show(text[head " -h"]) }
+      settle(1)
+      refuse("unexpected argument '" substr(word, 1, 2) "' found" \
+        (word_count ? "\n\n  tip: to pass '" substr(word, 1, 2) "' as a value, use '-- " substr(word, 1, 2) "'" : ""), plain)
+    }
+    if (!marked && waiting != "" && !has_value) { value = word; has_value = 1; continue }
+    if (next_word > word_count) {
+      settle(1)
+      refuse("unexpected argument '" word "' found", plain)
+    }
+    settle(0)
+    waiting = word_at[next_word++]
+    place[waiting] = i
+    value = word
+    has_value = 1
+  }
+  settle(0)
+  for (j = 1; j <= option_count; j++) if ((options[j] in is_needed) && !(options[j] in given)) missing = missing "\n  " shown[options[j]]
+  for (j = 1; j <= word_count; j++) if ((word_at[j] in is_needed) && !(word_at[j] in given)) missing = missing "\n  " shown[word_at[j]]
+  if (missing != "") {
+    used_count += 0
+    if (!used_count) { used_count = 1; used[1] = "" }
+    refuse("the following required arguments were not provided:" missing, usage_of())
+  }
+}
+
+# Whether the text is a number of up to this value; 0 where there is no bound but 64 bits.
+function is_number(word, most) {
+  if (word !~ /^\+?[0-9]+$/) return 0
+  sub(/^\+/, "", word)
+  sub(/^0+/, "", word)
+  if (most) return length(word) < 10 && word + 0 <= most
+  return length(word) < 20 || (length(word) == 20 && word <= "18446744073709551615")
+}
+
+# The values that a command takes.
+function check_values(command) {
+  if (command == "entries") {
+    if ((given["version"] != "1" && given["version"] != "2") || (("script" in given) && !is_number(given["script"], 65535)) || !is_format())
+      refuse("the value of --version is 1 or 2, that of --script a number below 65536, and that of --format text or json", "gthost <COMMAND>")
+  } else if (command == "explore") {
+    if ((("witness" in given) && !is_number(given["witness"], 0)) || (("states" in given) && !is_number(given["states"], 0)) || (("find" in given) && ("witness" in given)))
+      refuse("the values of --witness and --states are numbers, and --find is not given with --witness", "gthost <COMMAND>")
+  } else if (!is_format()) {
+    refuse("the value of --format is text or json", "gthost <COMMAND>")
+  }
+}
+
+function is_format() { return !("format" in given) || given["format"] == "text" || given["format"] == "json" }
+
+# The line of a rule, or of all.
+function show_rules(    lines, n, i) {
+  if (!("RULE" in given)) show(text["gthost rules"])
+  n = split(text["gthost rules"], lines, "\n")
+  for (i = 1; i <= n; i++) if (given["RULE"] != "" && index(lines[i], given["RULE"] " ") == 1 && given["RULE"] ~ /^N[0-9]+$/) show(lines[i] "\n")
+  finish(4, text["gthost rules N27"])
+}
+
+BEGIN {
+  read_stored(ARGV[1])
+  read_commands()
+  for (i = 2; i < ARGC; i++) {
+    words[++n] = ARGV[i]
+    if (words[n] == "--") marked = 1
+    if (!marked && words[n] == "-v") words[n] = "--verbose"
+  }
+  at = walk_top(words, n)
+  walk_command(words, n, at)
+  check_values(words[at])
+  if (words[at] == "rules") show_rules()
+  print words[at]
+  print ("FILE" in given) ? "file" : "input"
+  print place["FILE"]
+  print given["FILE"]
+  for (i = 1; i <= option_count; i++) if (options[i] in given) print options[i]
+  exit 0
+}
