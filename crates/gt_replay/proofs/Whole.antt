@@ -49,11 +49,11 @@ use Rattle.gt_replay.proofs.Places.{get_cases, get_set}
 pub history_did : (hs : List Happening) (e : Event) (x : Element) → history_in (hs ++ did e x ∷ []) ≡ grown (history_in hs) x
 history_did hs e x = ap (history_after []) (trace_more hs e x) ∙ history_one [] (trace_in hs) x
 
-history_quiet : (hs : List Happening) (x : Happening) → IsQuiet x → history_in (hs ++ x ∷ []) ≡ history_in hs
+pub history_quiet : (hs : List Happening) (x : Happening) → IsQuiet x → history_in (hs ++ x ∷ []) ≡ history_in hs
 history_quiet hs x quiet = ap (history_after []) (trace_same hs x quiet)
 
 -- a flag was raised before, or is raised now
-raised_or : (hs : List Happening) (x : Happening) (flag : ℕ) → IsRaisedBefore (length (hs ++ x ∷ [])) flag (hs ++ x ∷ []) → IsRaisedBefore (length hs) flag hs ⊎ ((d : DomId) × (x ≡ raised d flag))
+pub raised_or : (hs : List Happening) (x : Happening) (flag : ℕ) → IsRaisedBefore (length (hs ++ x ∷ [])) flag (hs ++ x ∷ []) → IsRaisedBefore (length hs) flag hs ⊎ ((d : DomId) × (x ≡ raised d flag))
 raised_or hs x flag (at, d, lt, is) = elim (get_cases hs x (raised d flag) at is) [
   | inl (less, here) ↦ inl (at, d, less, here)
   | inr (last, same) ↦ inr (d, same)

@@ -10,6 +10,7 @@ use Rattle.gt_ways.specs.Exploring.{Gathered}
 use Rattle.gt_ways.specs.declared.exploring.End.{End}
 use Rattle.gt_ways.specs.declared.exploring.Explorer.{Explorer}
 use Rattle.gt_ways.specs.declared.exploring.Node.{Node}
+use Rattle.gt_ways.specs.declared.exploring.Onward.{Onward}
 use Rattle.gt_ways.specs.declared.exploring.Visit.{Visit}
 use Rattle.gt_replay.specs.declared.replay.Turn.{Turn}
 use Rattle.gt_ways.specs.declared.suffixes.Line.{Line}
@@ -76,20 +77,20 @@ less_or (suc at) (suc i) lt = by (less_or at i (omega (arith, lt)))
 abbrev with_suffixes : {W : Type 0} → Explorer W → Suffixes → Explorer W
 with_suffixes ex t = record ex { suffixes = t }
 
-abbrev noted_of : Turn → ℕ → ℕ → End → End
-noted_of turn node list e = record { list = list; onward = Some (record { turn = turn; node = node; list = e.list }) }
+abbrev noted_of : ℕ → Option Onward → End
+noted_of list onward = record { list = list; onward = onward }
 
 -- the next list was gathered
 pub gathers_more : {W : Type 0} (ways : Ways W) (old : Explorer W) (v : Visit) (turn : Turn) (node : ℕ) (line : Option Line) (done : Node) (ex : Explorer W) (w : Visit) (i : ℕ) (e : End)
-    (t : Suffixes) (list : ℕ) (u : Visit)
+    (t : Suffixes) (list : ℕ) (onward : Option Onward) (u : Visit)
     → slice_get old.nodes.items node ≡ Some done → HasItsLine ex.suffixes line → IsGathering ways old v turn line done ex w i → slice_get done.ends.items i ≡ Some e → GrowsInto ex.suffixes t → (HasListAt ex.suffixes e.list → HasListAt t list)
     → (AreWhole ex.suffixes → HasListAt ex.suffixes e.list → IsLonger t line e.list list)
-    → Notes w (record { list = list; onward = Some (record { turn = turn; node = node; list = e.list }) }) u
+    → Notes w (record { list = list; onward = onward }) u
     → IsGathering ways old v turn line done (record ex { suffixes = t }) u (i + 1)
-gathers_more ways old v turn node line done ex w i e t list u is line_on gathers there grows lists longers notes = record {
+gathers_more ways old v turn node line done ex w i e t list onward u is line_on gathers there grows lists longers notes = record {
   holds = holds;
   grew = grew;
-  visit = visit_noted ways (with_suffixes ex t) w (noted_of turn node list e) u notes has now;
+  visit = visit_noted ways (with_suffixes ex t) w (noted_of list onward) u notes has now;
   next = notes.next ∙ gathers.next;
   turns = notes.turns ∙ gathers.turns;
   state = notes.state ∙ gathers.state;
@@ -135,7 +136,7 @@ gathers_more ways old v turn node line done ex w i e t list u is line_on gathers
         by (inl less) =
             let f = gathers.found at d less so in (
               f.0,
-              end_more w (noted_of turn node list e) u f.0 notes.ends f.1,
+              end_more w (noted_of list onward) u f.0 notes.ends f.1,
               list_grown ex.suffixes t f.0 grows f.2,
               longer_on ex.suffixes t line d.list f.0 gathers.holds.whole grows line_on (it.lists at d so) f.2 f.3,
             )

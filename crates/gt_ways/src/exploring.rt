@@ -25,12 +25,12 @@ pub struct Found {
     pub states: usize,
 }
 
-/// The first turn towards an end. It leads to a state that is done, which goes on to this list.
+/// The first turn towards an end. It leads to a state that is done, and goes on to the end of that state at this index.
 #[derive(Clone, Copy)]
 pub struct Onward {
     pub turn: Turn,
     pub node: usize,
-    pub list: usize,
+    pub end: usize,
 }
 
 /// A list of answers that a state leads to, by its number. There is no way on from a state in which all domains are at
@@ -200,14 +200,16 @@ impl<W: Drop> Explorer<W> {
             return Ok(());
         };
         let suffixes = &mut self.suffixes;
+        let mut at = 0_usize;
         'ends: for end in done.ends.as_slice() {
             let list = suffixes.longer(end.list, line)?;
             let onward = Onward {
                 turn,
                 node,
-                list: end.list,
+                end: at,
             };
             visit.note(list, Some(onward))?;
+            at = at.saturating_add(1);
         }
         Ok(())
     }
@@ -302,27 +304,22 @@ impl<W: Drop> Explorer<W> {
         Err(SearchFault::States)
     }
 
-    // The way on from a state that is done to a list of answers.
-    fn onward(&self, node: usize, list: usize) -> Option<Onward> {
+    // The way on from a state that is done to the end at this index.
+    fn onward(&self, node: usize, end: usize) -> Option<Onward> {
         let done = self.nodes.get(node)?;
-        for end in done.ends.as_slice() {
-            if end.list == list {
-                return end.onward;
-            }
-        }
-        None
+        done.ends.get(end)?.onward
     }
 
-    // The turns that lead from a state that is done to a list of answers.
-    fn turns(&self, node: usize, list: usize) -> Result<Vec<Turn>, AllocError> {
+    // The turns that lead from a state that is done to the end at this index.
+    fn turns(&self, node: usize, end: usize) -> Result<Vec<Turn>, AllocError> {
         let mut turns = Vec::new(self.alloc);
-        let mut next = self.onward(node, list);
+        let mut next = self.onward(node, end);
         for _ in 0..self.nodes.len() {
             let Some(onward) = next else {
                 return Ok(turns);
             };
             turns.push(onward.turn)?;
-            next = self.onward(onward.node, onward.list);
+            next = self.onward(onward.node, onward.end);
         }
         Ok(turns)
     }
@@ -351,7 +348,7 @@ impl<W: Drop> Explorer<W> {
         let mut orders = Vec::new(self.alloc);
         let domains = space.domains();
         'ends: for end in done.ends.as_slice() {
-            let turns = self.turns(first, end.list)?;
+            let turns = self.turns(first, orders.len())?;
             let text = self.suffixes.text(end.list, domains)?;
             orders.push(Order { turns, text })?;
         }

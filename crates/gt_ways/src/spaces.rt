@@ -36,7 +36,7 @@ pub trait Space {
     /// Bytes that states which are the same have in common.
     fn key(&self, state: &Self::State) -> Result<Vec<u8>, AllocError>;
 
-    /// The turns that are to be tried: enough of them for each text.
+    /// The turns to try. They have to be enough to find each text.
     fn turns(&self, state: &Self::State) -> Result<Vec<Turn>, SearchFault>
         ensures { IfOk result (λ turns. HasEnoughTurns (ways self.now) state.now turns.items) };
 

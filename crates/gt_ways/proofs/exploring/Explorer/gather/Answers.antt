@@ -18,7 +18,7 @@ ends-preserved g c = record {
   line = line_grown _ _ c.args.line c.in_ok-list.ensures.grows c.ends.invariant.line;
   gathers = λ n holds visit leads there same.
       gathers_more (g.S.Space.ways c.args._space.now) c.args.self.now c.args.visit.now c.args.turn c.args.node c.args.line n (record c.args.self.now { suffixes = c.ends.suffixes }) c.ends.visit c.ends.end-index
-      (get_or c.as_slice-end-items.result.now c.ends.end-index (record { list = 0; onward = None })) c.longer.new.self c.in_ok-list.list c.note.new.self there c.ends.invariant.line
+      (get_or c.as_slice-end-items.result.now c.ends.end-index (record { list = 0; onward = None })) c.longer.new.self c.in_ok-list.list _ c.note.new.self there c.ends.invariant.line
       (c.ends.invariant.gathers n holds visit leads there same)
       (ap (λ (l : List End). slice_get l c.ends.end-index) same ∙ slice_get-get_or c.as_slice-end-items.result.now c.ends.end-index (record { list = 0; onward = None }) c.ends-test.true)
       c.in_ok-list.ensures.grows c.in_ok-list.ensures.there c.in_ok-list.ensures.longer c.in_ok-note.ensures;
