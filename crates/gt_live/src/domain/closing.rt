@@ -59,10 +59,11 @@ impl Domain {
         ensures gone { OnOk result (self.new.own.items ≡ row_changed self.old.own.items gref.0 Withdraw) }
         ensures same { OnErr result (self.new.own.items ≡ self.old.own.items) }
     {
-        if let Some(verdict) = self.judge_change(monitor, gref, Change::Withdraw) {
+        let own = self.own_entry(monitor, gref);
+        if let Some(verdict) = self.judge_own(monitor, own, gref, Change::Withdraw) {
             return done(verdict);
         }
-        match self.drive_change(monitor, gref, Change::Withdraw) {
+        match self.drive_change(monitor, gref, own.idle_word(), Change::Withdraw) {
             Ok(()) => {
                 change_row(&mut self.own, gref, Change::Withdraw);
                 Ok(())

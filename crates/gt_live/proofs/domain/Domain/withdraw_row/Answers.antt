@@ -17,14 +17,14 @@ use Rattle.gt_live.proofs.AnsweredAtOnce.{answered-once}
 use Rattle.gt_live.proofs.Closing.{after-refusal, called-goes, once-refused, quiet-self}
 use Rattle.gt_live.proofs.DomainKept.{changed, looked}
 use Rattle.gt_live.proofs.Making.{still_seat}
-use Rattle.gt_live.proofs.OwnChanges.{begun-called}
+use Rattle.gt_live.proofs.AtOnce.{begun-called, idle-by}
 use Rattle.gt_live.proofs.domain.Domain.withdraw_row.Goals as goal
 
 pub returns-in-Some : goal.returns-in-Some
 returns-in-Some g c =
     let m = c.args.monitor.now in let d = c.args.self.now in let k = knowledge m.config (g.P.Allows.may m.rights) d in
     let way = path k d.seat.dom (asks.Withdraw c.args.gref) in
-    let begun = sym c.judge_change.ensures ∙ c.in-Some.is in
+    let begun = sym c.judge_own.ensures ∙ c.in-Some.is in
     let once = answered-once k d.seat.dom (requests.Withdraw c.args.gref) c.in-Some.verdict tt begun in
     record {
       mine = c.requires.mine;
@@ -96,3 +96,8 @@ returns-in-Err-clause-quiet g c =
 
 pub returns-in-Err-clause-same : goal.returns-in-Err-clause-same
 returns-in-Err-clause-same g c = ap (λ v. v.items) c.drive_change.ensures.kept.own
+
+pub drive_change-requires-clause-looked : goal.drive_change-requires-clause-looked
+drive_change-requires-clause-looked g c =
+    let m = c.args.monitor.now in let k = knowledge m.config (g.P.Allows.may m.rights) c.args.self.now in
+    idle-by k c.args.gref c.own_entry-own.result c.idle_word.result c.own_entry-own.ensures c.idle_word.ensures
