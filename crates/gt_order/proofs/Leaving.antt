@@ -27,7 +27,7 @@ use Rattle.gt_calls.specs.declared.request.Holder.TheVariants.{Mapping as ByMapp
 use Rattle.gt_calls.specs.declared.request.Request.TheVariants as requests
 use Rattle.gt_live.proofs.DomainKept.{unmapped}
 use Rattle.gt_live.proofs.Making.{still_seat}
-use Rattle.gt_live.proofs.Maps.{one-step}
+use Rattle.gt_live.proofs.OneStep.{one-step}
 use Rattle.gt_live.specs.Domains.{AllowRelation, IsDomainOf, Released, knowledge}
 use Rattle.gt_live.specs.declared.domain.Domain.{Domain}
 use Rattle.gt_order.specs.Leaving.{AreUnmaps, LeavingIsUnmapping, MayUnmapAll}
