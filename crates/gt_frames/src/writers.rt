@@ -1,5 +1,6 @@
 //! The last writer of each byte of a frame, and the right by which it wrote.
-ghost use Rattle.std.specs.Prelude.{◌≡◌, ◌+◌, ◌<◌, ◌≤◌, ℕ, IfSome, None, false, true, length, replicate, slice_index_or};
+ghost use Rattle.std.specs.Prelude.{◌≡◌, ◌+◌, ◌<◌, ◌≤◌, ℕ, IfSome, None, false, true, length, replicate};
+ghost use Rattle.std.specs.Prelude.{slice_index_or};
 ghost use Rattle.gt_frames.specs.Bytes.{overlay};
 ghost use Rattle.gt_frames.specs.Writers.{IsUsed, LiesIn, count_used, numbers_of};
 

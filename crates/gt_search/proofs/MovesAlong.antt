@@ -58,7 +58,8 @@ use Rattle.gt_world.proofs.Fitting.{beginnings-change-nothing}
 use Rattle.gt_search.proofs.HandlesAnswered.{after-dom, back-answered, back-dom, but-answered, left-answered}
 use Rattle.gt_search.proofs.HandlesAnswered.{line-answered}
 use Rattle.gt_search.proofs.MappingFound.{get-at}
-use Rattle.gt_search.proofs.StateComesOn.{comes-event, comes-quiet, domain-at, of-run, raised-here, raised-or, raised-still, table-at, task-below}
+use Rattle.gt_replay.proofs.Whole.{raised_or}
+use Rattle.gt_search.proofs.StateComesOn.{comes-event, comes-quiet, domain-at, of-run, raised-here, raised-still, table-at, task-below}
 use Rattle.gt_search.proofs.StateComesOn.{task-own}
 
 -- lists
@@ -143,7 +144,7 @@ PassMeets scene place flag old new led =
 
 -- what a domain has open
 
-none-open : (s : Setting) (h : History) (tasks : List Task) (k : Course) (next : ℕ) (opened : Opened) (c : Option Underway) (o : Option Open) → o ≡ None → ShowsOpen s h tasks k next opened c o → (opened ≡ resting) × (c ≡ None)
+pub none-open : (s : Setting) (h : History) (tasks : List Task) (k : Course) (next : ℕ) (opened : Opened) (c : Option Underway) (o : Option Open) → o ≡ None → ShowsOpen s h tasks k next opened c o → (opened ≡ resting) × (c ≡ None)
 none-open s h tasks k next resting None o none show = (refl, refl)
 none-open s h tasks k next resting (Some c) None none show = absurd show
 none-open s h tasks k next opened c (Some o) none show = absurd (none-some o (sym none))
@@ -280,7 +281,7 @@ module _ (c : RunContents) (scene : Scene) (hs : List Happening) (ks : List Cour
               (subst (λ (z : Course). ShowsCalls s h tasks z moved.2.actor) (sym deed.1) moved.2.shows)
               (subst (WasAnsweredAll h) (sym deed.1) (left-answered h k left known)) moved.2.ground
               (ap (λ (l : List Bool). length l) moved.1 ∙ length-set old.told.items flag true)
-              (λ f before. ap (λ (l : List Bool). slice_get l f) moved.1 ∙ elim (raised-or hs x f before) [
+              (λ f before. ap (λ (l : List Bool). slice_get l f) moved.1 ∙ elim (raised_or hs x f before) [
                 | inl was ↦ set-keeps old.told.items flag f (shows.told f was)
                 | inr (d, same) ↦ subst (λ (n : ℕ). slice_get (set old.told.items flag true) n ≡ Some true) (one-flag k.dom d flag f (sym deed.0 ∙ same)) (set-there old.told.items flag fits)
               ])
@@ -306,7 +307,7 @@ module _ (c : RunContents) (scene : Scene) (hs : List Happening) (ks : List Cour
               (subst (λ (z : Course). ShowsCalls s h tasks z moved.2.actor) (sym deed.1) moved.2.shows)
               (subst (WasAnsweredAll h) (sym deed.1) (left-answered h k left known)) moved.2.ground
               (ap (λ w. length w.items) moved.1)
-              (λ f was. ap (λ w. slice_get w.items f) moved.1 ∙ elim (raised-or hs x f was) [
+              (λ f was. ap (λ w. slice_get w.items f) moved.1 ∙ elim (raised_or hs x f was) [
                 | inl earlier ↦ shows.told f earlier
                 | inr (d, same) ↦ absurd (no-flag k.dom d flag f (sym deed.0 ∙ same))
               ])

@@ -14,7 +14,7 @@ use Rattle.gt_types.specs.declared.DomId.{DomId}
 use Rattle.gt_types.specs.declared.config.DomainConfig.{DomainConfig}
 use Rattle.gt_core.specs.Alike.{HappensKnown}
 use Rattle.gt_core.specs.History.{History, Setting}
-use Rattle.gt_core.specs.Legal.{IsRight, history_after}
+use Rattle.gt_core.specs.Legal.{IsRight}
 use Rattle.gt_core.specs.declared.trace.Element.TheVariants.{Item as Did}
 use Rattle.gt_core.specs.declared.trace.Event.{Event}
 use Rattle.gt_core.specs.declared.trace.Item.{Item}
@@ -24,10 +24,10 @@ use Rattle.gt_replay.specs.Abreast.{history_in}
 use Rattle.gt_replay.specs.Courses.{Course}
 use Rattle.gt_replay.specs.Orders.{Happening, IsRaisedBefore, did, raised}
 use Rattle.gt_replay.proofs.Alike.{held_grown, names_grown}
-use Rattle.gt_replay.proofs.Coming.{IsQuiet, apart_at, domain_known, less_or, map_set, mapped_back, trace_same}
-use Rattle.gt_replay.proofs.Places.{get_cases, get_end, get_left, get_set}
+use Rattle.gt_replay.proofs.Coming.{IsQuiet, apart_at, domain_known, less_or, map_set, mapped_back}
+use Rattle.gt_replay.proofs.Places.{get_end, get_left, get_set}
 use Rattle.std.proofs.lemmas.List.{length-append}
-use Rattle.gt_replay.proofs.Whole.{history_did}
+use Rattle.gt_replay.proofs.Whole.{history_did, history_quiet, raised_or}
 use Rattle.gt_script.specs.Lists.{Task}
 use Rattle.gt_script.specs.RunContents.{RunContents}
 use Rattle.gt_script.specs.RunScripts.{list_of}
@@ -45,16 +45,6 @@ use Rattle.gt_world.specs.declared.table.Table.{Table}
 use Rattle.gt_world.proofs.GoingAlike.{like-goes-on}
 
 -- what happened
-
-history-quiet : (hs : List Happening) (x : Happening) → IsQuiet x → history_in (hs ++ x ∷ []) ≡ history_in hs
-history-quiet hs x quiet = ap (history_after []) (trace_same hs x quiet)
-
--- a flag was raised before, or is raised now
-pub raised-or : (hs : List Happening) (x : Happening) (flag : ℕ) → IsRaisedBefore (length (hs ++ x ∷ [])) flag (hs ++ x ∷ []) → IsRaisedBefore (length hs) flag hs ⊎ ((d : DomId) × (x ≡ raised d flag))
-raised-or hs x flag (at, d, lt, is) = elim (get_cases hs x (raised d flag) at is) [
-  | inl (less, here) ↦ inl (at, d, less, here)
-  | inr (last, same) ↦ inr (d, same)
-]
 
 -- what was raised stays raised
 pub raised-still : (hs : List Happening) (x : Happening) (flag : ℕ) → IsRaisedBefore (length hs) flag hs → IsRaisedBefore (length (hs ++ x ∷ [])) flag (hs ++ x ∷ [])
@@ -205,7 +195,7 @@ module _ (c : RunContents) (scene : Scene) (hs : List Happening) (ks : List Cour
       tables pages
       (like-goes-on s h i shows.like (subst (λ (d : DomId). domain_of c.head.domains d ≢ None) (sym own) of-run) right known fits)
       (ap (λ w. length w.items) told ∙ shows.flags)
-      (λ flag before. ap (λ w. slice_get w.items flag) told ∙ elim (raised-or hs (did e (Did i)) flag before) [
+      (λ flag before. ap (λ w. slice_get w.items flag) told ∙ elim (raised_or hs (did e (Did i)) flag before) [
         | inl was ↦ shows.told flag was
         | inr (d, same) ↦ absurd (no-flag d flag same)
       ])
@@ -222,7 +212,7 @@ module _ (c : RunContents) (scene : Scene) (hs : List Happening) (ks : List Cour
       → ((flag : ℕ) → slice_get new.told.items flag ≡ Some true → IsRaisedBefore (length (hs ++ x ∷ [])) flag (hs ++ x ∷ []))
       → SceneShows c scene (hs ++ x ∷ []) (slice_set ks place j) new
   comes-quiet new x j b quiet becomes dom calls answered ground many told heard =
-      comes-so new x j b h becomes (history-quiet hs x quiet) dom calls answered (λ tasks u z other show. show) (λ u was. was)
+      comes-so new x j b h becomes (history_quiet hs x quiet) dom calls answered (λ tasks u z other show. show) (λ u was. was)
       (subst (λ g. TablesShow s h g.tables.items) (sym ground) shows.tables)
       (subst (λ g. PagesShow h g.pages.items) (sym ground) shows.pages)
       shows.like (many ∙ shows.flags) told heard

@@ -39,28 +39,27 @@ abbrev pub turns_from : Scene → ℕ → List Actor → List Turn
 turns_from s place [] = []
 turns_from s place (a ∷ more) = choices place (choices_at s place a) ++ turns_from s (suc place) more
 
--- what a line says disturbs nobody, if these flags were raised: a call begins, a flag is raised, or it waits for one
--- that was raised
+-- with these flags raised, the line disturbs no other domain: it begins a call, raises a flag, or awaits a raised one
 abbrev pub disturbs_none : List Bool → Deed → Bool
 disturbs_none told (Do call) = true
 disturbs_none told (Tell flag) = true
 disturbs_none told (Await flag) = get_or told flag false
 
--- so it is with this task, if there is one
+-- the same of a task, if there is one
 abbrev pub task_disturbs_none : List Bool → Option Task → Bool
 task_disturbs_none told None = false
 task_disturbs_none told (Some t) = disturbs_none told t.deed
 
--- the domain at this place has no call open, and what its next line says disturbs nobody
+-- the domain at this place has no open call, and its next line disturbs no other domain
 abbrev pub goes_at_once : Scene → List Bool → ℕ → Actor → Bool
 goes_at_once s told place a = not (is_some a.«open») && task_disturbs_none told (slice_get (tasks_at s place) a.next)
 
--- some domain goes on in this way, and that is the one turn
+-- the one turn is that of such a domain
 abbrev pub TakesAtOnce : Scene → World → List Turn → Type 0
 TakesAtOnce s w turns =
     (place : ℕ) × (a : Actor) × (slice_get w.actors.items place ≡ Some a)
     × (goes_at_once s w.told.items place a ≡ true) × (turns ≡ record { place = place; choice = 0 } ∷ [])
 
--- the turns that are to be tried: one of a domain that disturbs nobody, or else all
+-- the turns to try: that of a domain which disturbs no other, or else all
 abbrev pub AreToBeTried : Scene → World → List Turn → Type 0
 AreToBeTried s w turns = (turns ≡ turns_from s 0 w.actors.items) ⊎ TakesAtOnce s w turns

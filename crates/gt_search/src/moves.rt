@@ -83,7 +83,7 @@ fn is_told(told: &[bool], flag: usize) -> bool
     flag < told.len() && told[flag]
 }
 
-// Whether what a task says disturbs nobody: a call begins, a flag is raised, or it waits for one that was raised.
+// Whether a task disturbs no other domain when it is next: it begins a call, raises a flag, or awaits a raised one.
 fn disturbs_none(told: &[bool], task: &Task) -> bool
     ensures { result ≡ disturbs_none told.now task.now.deed }
 {
@@ -121,7 +121,8 @@ impl<'s, 'a> Scene<'s, 'a> {
     ghost use Rattle.gt_search.specs.Beginnings.{BeginsAlike, OpensSo};
     ghost use Rattle.gt_search.specs.Calls.{GoesAlong, KnowsTable, Rise, ShowsCalls, handles_at, known_in, no_mappings};
     ghost use Rattle.std.specs.Prelude.{IfSome};
-    ghost use Rattle.gt_search.specs.Ends.{AreDone, AreToBeTried, choices_at, goes_at_once, is_done, is_ended, tasks_at, turns_from};
+    ghost use Rattle.gt_search.specs.Ends.{AreDone, AreToBeTried, choices_at, goes_at_once, is_done, is_ended, tasks_at};
+    ghost use Rattle.gt_search.specs.Ends.{turns_from};
     ghost use Rattle.gt_core.specs.Legal.{IsItemOf, IsRight};
     ghost use Rattle.gt_core.specs.declared.trace.Event.TheVariants.{Tick};
     ghost use Rattle.gt_core.specs.declared.trace.Item.{Item};
@@ -539,7 +540,7 @@ impl<'s, 'a> Scene<'s, 'a> {
         }
     }
 
-    // The moves that the domains have.
+    // The moves of all domains.
     fn all_turns(&self, world: &World<'a>) -> Result<Vec<Turn>, AllocError>
         ensures { IfOk result (λ turns. turns.items ≡ turns_from self.now 0 world.now.actors.items) }
     {
@@ -550,7 +551,7 @@ impl<'s, 'a> Scene<'s, 'a> {
         Ok(turns)
     }
 
-    // Whether the domain at this place has no call open, and what its next line says disturbs nobody.
+    // Whether the domain at this place has no open call, and its next line disturbs no other domain.
     fn goes_at_once(&self, told: &[bool], place: usize, actor: &Actor<'a>) -> bool
         ensures { result ≡ goes_at_once self.now told.now place actor.now }
     {
@@ -563,7 +564,7 @@ impl<'s, 'a> Scene<'s, 'a> {
         }
     }
 
-    // The place of a domain that goes on so, if there is one.
+    // The place of the first such domain.
     fn at_once(&self, world: &World<'a>) -> Option<usize>
         ensures { IfSome result (λ place. (a : Actor) × (slice_get world.now.actors.items place ≡ Some a)
             × (goes_at_once self.now world.now.told.items place a ≡ true)) }
@@ -576,7 +577,7 @@ impl<'s, 'a> Scene<'s, 'a> {
         None
     }
 
-    /// The moves that are to be tried: of a domain that disturbs nobody, or else all.
+    /// The moves to try: that of a domain which disturbs no other, if there is one, or else all.
     pub fn turns(&self, world: &World<'a>) -> Result<Vec<Turn>, AllocError>
         ensures { IfOk result (λ turns. AreToBeTried self.now world.now turns.items) }
     {

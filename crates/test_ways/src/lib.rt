@@ -1,7 +1,8 @@
-//! A space of two counters, and a test that all its texts are found.
+//! Two spaces of two counters, and tests that all their texts are found.
 //!
-//! The counters are a [`Space`], which is proved: so a space can keep what `gt_ways` asks of it. The first one prints
-//! at each step how far the second one has come, so its text says in which order they counted.
+//! Both are a [`Space`], which is proved: so a space can keep what `gt_ways` asks of it. In one the first counter
+//! prints at each step how far the second one has come, so its text says in which order they counted. In the other the
+//! counters have nothing to do with each other, and one order is enough.
 #![tactic(auto)]
 
 mod apart;

@@ -10,6 +10,8 @@ returns-then-goes_at_once c =
     let xs = c.as_slice-actor-items.result.now in
     let same = c.as_slice-actor-items.ensures.value in
     let place = c.loop-place.place in
-    let a = c.actor-item.result in
-    (a, subst (λ (l : List Actor). slice_get l place ≡ Some a) same (slice_get-get_or xs place a c.loop-place-test.true ∙ ap Some (sym c.actor-item.is)),
-    ap (λ (told : List Bool). goes_at_once c.args.self.now told place a) (sym c.as_slice.ensures.value) ∙ sym c.goes_at_once.ensures ∙ c.if-goes_at_once.true)
+    let a = c.actor-item.result in (
+      a,
+      subst (λ (l : List Actor). slice_get l place ≡ Some a) same (slice_get-get_or xs place a c.loop-place-test.true ∙ ap Some (sym c.actor-item.is)),
+      ap (λ (told : List Bool). goes_at_once c.args.self.now told place a) (sym c.as_slice.ensures.value) ∙ sym c.goes_at_once.ensures ∙ c.if-goes_at_once.true,
+    )

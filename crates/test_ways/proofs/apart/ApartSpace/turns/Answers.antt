@@ -8,7 +8,7 @@ use Rattle.test_ways.proofs.apart.ApartSpace.turns.Goals as goal
 -- src/apart.rt:44:5
 pub returns : goal.returns
 returns c = elim c.if-state-self.branch [
-  then-state-self+in_ok-push w ↦ first-enough c.args.self.now c.args.state.now c.if-state-self.turns.items w.if-state-self.true
+  | then-state-self+in_ok-push w ↦ first-enough c.args.self.now c.args.state.now c.if-state-self.turns.items w.if-state-self.true
       (ap (λ v. v.items) w.turns-is ∙ w.in_ok-push.ensures.items ∙ ap (λ (l : List Turn). l ++ first_turn ∷ []) c.new-turns.ensures.items)
   | else-state-self+in_ok-push-2 w ↦ second-enough c.args.self.now c.args.state.now c.if-state-self.turns.items w.if-state-self.false
       (ap (λ v. v.items) w.turns-is ∙ w.in_ok-push-2.ensures.items ∙ ap (λ (l : List Turn). l ++ second_turn ∷ []) c.new-turns.ensures.items)
