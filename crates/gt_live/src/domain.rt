@@ -675,7 +675,8 @@ impl Domain {
         result
     }
 
-    /// Gives its table so many frames, at most 4, if it has fewer, and answers how many it then has.
+    /// Grows its table to `frames` frames, at most 16, and answers how many it then has. A table that has as many
+    /// already stays as it is.
     ///
     /// # Errors
     /// N5 or N23, and nothing changes.
