@@ -14,7 +14,7 @@ returns c =
     made c.of.result (SaysMapped (requests.Map (dom_of c.args.dom) (ref_at c.args.gref) c.args.flags) (hypercalls.Map (dom_of c.args.dom) (ref_at c.args.gref) c.args.flags) c.of.result) c.deref_mut.ensures.value c.in-Ok.ensures.ok.0 c.put.ensures.1 c.in-Ok.ensures.ok.2
     (record {
       result = c.map-told.result;
-      encodes = c.of.ensures ∙ ap encoded c.mapped.ensures;
+      encodes = c.of.ensures ∙ ap encoded (c.mapped.ensures ∙ ap (λ (q : DomId). outcome_mapped q c.args-run c.map-told.result) c.dom.ensures);
       stays = c.map-told.ensures.stays;
       holds = (c.map-told.ensures.answered, c.map-told.ensures.told);
     })
