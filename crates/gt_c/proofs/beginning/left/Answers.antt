@@ -5,5 +5,5 @@ returns c =
     record {
       remains = c.finish-remains.result;
       encodes = c.of.ensures;
-      leaves = record { settled = c.settle.new.guest; settles = c.settle.ensures.settled; leaves = c.finish-remains.ensures };
+      leaves = record { settled = c.settle.new.guest; settles = c.settle.ensures.settled; leaves = c.finish-remains.ensures.leaves };
     }
