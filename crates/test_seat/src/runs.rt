@@ -86,7 +86,11 @@ fn leaves(guest: Guest<AllowTable>) -> Option<u64> {
 // The number of the domain after the one at a place, by turns.
 fn next(place: u16, count: u16) -> u16 {
     let after = place.saturating_add(1);
-    if after < count { after.saturating_add(1) } else { 1 }
+    if after < count {
+        after.saturating_add(1)
+    } else {
+        1
+    }
 }
 
 // Each guest grants its page to the next one.
