@@ -14,9 +14,12 @@ hand_out-requires c =
 
 pub returns : goal.returns
 returns c =
-    inl (refl, record {
-      guests = c.in-Ok.guests.items;
-      begun = c.in-Ok.ensures.begun;
-      handed = handed-over (λ b. b.value) (here_of c.args.run) c.in-Ok-boxed.all.items c.in-Ok.guests.items _ c.hand_out.ensures
-          c.in-Ok-boxed.ensures;
-    })
+    inl (
+      refl,
+      record {
+        guests = c.in-Ok.guests.items;
+        begun = c.in-Ok.ensures.begun;
+        handed = handed-over (λ b. b.value) (here_of c.args.run) c.in-Ok-boxed.all.items c.in-Ok.guests.items _ c.hand_out.ensures
+            c.in-Ok-boxed.ensures;
+      },
+    )

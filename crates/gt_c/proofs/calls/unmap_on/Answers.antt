@@ -15,7 +15,7 @@ unmap-told-requires c = record { idle = idle-there c.deref_mut.ensures.value c.i
 pub returns : goal.returns
 returns c =
     made c.of.result (λ d e. SaysUnmapped (requests.Unmap (handle_named d c.args.name)) hypercalls.Unmap (handle_named d c.args.name) c.of.result d e) c.deref_mut.ensures.value c.in-Ok.ensures.ok.0 c.put.ensures.1 c.in-Ok.ensures.ok.2
-    (subst (λ (h : Name). SaysUnmapped (requests.Unmap h) hypercalls.Unmap h c.of.result c.deref_mut.result.now c.deref_mut.new.self)
+    (subst (λ (h : Name). SaysUnmapped (requests.Unmap h) hypercalls.Unmap h c.of.result c.deref_mut.result.now (record { guest = c.unmap-told.new.self; run = c.deref_mut.result.now.run }))
     (c.handle_named-handle.ensures ∙ ap (λ (x : Here). handle_named x c.args.name) (c.deref.ensures ∙ sym c.deref_mut.ensures.value))
     (record {
       result = c.unmap-told.result;

@@ -12,10 +12,10 @@ use Rattle.gt_c.proofs.telling.mapping_on.Goals as goal
 pub returns : goal.returns
 returns c =
     let found =
-        c.mapping-found.ensures
-        ∙ ap (λ (x : Here). value_of x.guest.domain.mappings c.handle_named-handle.result) c.deref-2.ensures
-        ∙ ap (λ (h : Name). value_of c.in-Ok.here.value.guest.domain.mappings h)
-        (c.handle_named-handle.ensures ∙ ap (λ (x : Here). handle_named x c.args.name) c.deref.ensures) in
+    c.mapping-found.ensures
+    ∙ ap (λ (x : Here). value_of x.guest.domain.mappings c.handle_named-handle.result) c.deref-2.ensures
+    ∙ ap (λ (h : Name). value_of c.in-Ok.here.value.guest.domain.mappings h)
+    (c.handle_named-handle.ensures ∙ ap (λ (x : Here). handle_named x c.args.name) c.deref.ensures) in
     made-telling c.of-answer.result (c.mapping_told-mapping.result ≡ no_mapping) (λ d e. SaysMapping (handle_named d c.args.name) c.mapping_told-mapping.result c.of-answer.result d e) refl c.in-Ok.ensures.ok.0 c.put.ensures.1 c.in-Ok.ensures.ok.2 (
       c.of-answer.ensures ∙ ap encoded (c.present.ensures ∙ ap (λ (o : Option Kept). outcome_present o) found),
       c.mapping_told-mapping.ensures ∙ ap (λ (o : Option Kept). mapping_told o) found,
