@@ -1,4 +1,4 @@
-use Rattle.std.proofs.Common.{◌≡◌, ◌∙◌, arith, inl, refl, sym, length}
+use Rattle.std.proofs.Common.{◌∙◌, arith, inl, refl, sym}
 use Rattle.gt_c.specs.Starting.{here_of}
 use Rattle.gt_c.proofs.Starting.{all-idle, handed-over, same-length}
 use Rattle.gt_c.proofs.beginning.gthost_start_at.Goals as goal
