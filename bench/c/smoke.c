@@ -169,8 +169,10 @@ static void types(void)
     HOLDS(type.fault.kind == GTHOST_FAULT_NONE && type.label == 1);
     type = type_of(POLICY, "c_t");
     HOLDS(type.fault.kind == GTHOST_FAULT_NO_TYPE && type.label == 0);
-    type = type_of("type a_t;\ntype", "a_t");
+    type = type_of("type a_t;\ntype ;", "a_t");
     HOLDS(type.fault.kind == GTHOST_FAULT_SYNTAX && type.fault.line == 2);
+    type = type_of("type a_t;\ntype", "a_t"); /* the fault is at the end of the text: one line more than it has */
+    HOLDS(type.fault.kind == GTHOST_FAULT_SYNTAX && type.fault.line == 3);
     HOLDS(!starts(two, 2, POLICY, domain, 2, &fault));
     HOLDS(fault.kind == GTHOST_FAULT_LABEL && fault.dom == 2 && !domain[0].is_live);
 }
