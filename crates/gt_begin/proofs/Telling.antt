@@ -1,5 +1,5 @@
 -- Why a run did not begin.
-use Rattle.std.proofs.Common.{◌≡◌, ◌∙◌, ℕ, ap, inl, inr, refl, subst, sym, length, List, Option, Some, None, position}
+use Rattle.std.proofs.Common.{◌≡◌, ◌∙◌, ℕ, ap, inl, inr, refl, subst, length, List, Option, Some, None}
 use Rattle.std.specs.Prelude.{Err, Ok}
 use Rattle.gt_types.specs.declared.config.Config.{Config}
 use Rattle.gt_types.specs.declared.config.StartFault.{StartFault}
