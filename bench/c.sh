@@ -3,12 +3,13 @@
 #
 #   header    gthost.h compiles as C99 and C++, and says what the exports say (tools/header.py); the proofs of the
 #             exports are those that tools/walks.py writes
-#   vmm       the program of crates/gt_c/README.md, linked as pkg-config says
+#   vmm       the program of crates/gt_c/README.md, linked as pkg-config says; the C of README.md, in a function
+#   rules     gthost_rule_text gives the lines of `gthost rules`
 #   smoke     each answer of a short run is as the rules give it; each call of a handle of no domain
 #   memory    which calls take memory, and each allocation of a start failing in turn
 #   blk       the split block driver of examples/blk, with its hostile back end (where Xen's headers are installed)
 #   threads   four threads on one monitor
-#   rust      the wrapper of contrib/rust and its tests (where there is a rustc)
+#   rust      the wrapper of contrib/rust, its tests, and the program of its README (where there is a rustc)
 #   lists     LISTS random lists of calls (10,000) get the answers and the audit of `gthost play`
 #
 # All C is compiled with -Wall -Wextra -Wpedantic -Werror by each of gcc and clang that there is. smoke, memory, blk,
@@ -58,12 +59,24 @@ headers() {
   "$1" -std=c11 "${warnings[@]}" -I"$library" -c "$work/header.c" -o "$work/header.o"
 }
 
+# The code of a language in a page.
+block() {
+  awk -v "first=^\`\`\`$1\$" '$0 ~ first { inside = 1; next } /^```$/ { inside = 0 } inside' "$2"
+}
+
 vmm() {
   local flags=("-I$library" "$archive")
   ! command -v pkg-config >/dev/null || read -ra flags <<<"$(PKG_CONFIG_PATH="$library" pkg-config --cflags --libs gthost)"
-  awk '/^```c$/ { inside = 1; next } /^```$/ { inside = 0 } inside' crates/gt_c/README.md >"$work/vmm.c"
+  block c crates/gt_c/README.md >"$work/vmm.c"
   "$1" -std=c99 "${warnings[@]}" "$work/vmm.c" "${flags[@]}" -o "$work/vmm"
   "$work/vmm"
+  # the lines of README.md stand in a program
+  {
+    printf '#include "gthost.h"\nvoid lines(struct gthost_domain *domain);\nvoid lines(struct gthost_domain *domain)\n{\n'
+    block c README.md
+    printf '(void)answer;\n}\n'
+  } >"$work/lines.c"
+  "$1" -std=c99 "${warnings[@]}" -I"$library" -c "$work/lines.c" -o "$work/lines.o"
 }
 
 programs=(smoke memory threads)
@@ -107,6 +120,9 @@ if command -v rustc >/dev/null; then
   rustc --edition 2021 -O -D warnings --crate-type rlib --crate-name gthost -L "native=$library" -o "$work/libgthost.rlib" contrib/rust/src/lib.rs
   rustc --edition 2021 -D warnings --test --extern "gthost=$work/libgthost.rlib" -L "native=$library" -o "$work/share" contrib/rust/tests/share.rs
   "$work/share" -q
+  block rust contrib/rust/README.md >"$work/readme.rs"
+  rustc --edition 2021 -D warnings --extern "gthost=$work/libgthost.rlib" -L "native=$library" -o "$work/readme" "$work/readme.rs"
+  "$work/readme"
 fi
 
 play="${PLAY:-}"
@@ -115,6 +131,20 @@ if [ -z "$play" ]; then
   ./gthost play examples/first.gt >/dev/null
   play=crates/gthost/out/gthost
 fi
+cat >"$work/rules.c" <<'C'
+#include "gthost.h"
+#include <stdio.h>
+int main(void)
+{
+    for (uint32_t rule = GTHOST_N1; rule <= GTHOST_N26; rule++) {
+        puts((const char *)gthost_rule_text(rule).bytes);
+    }
+    return 0;
+}
+C
+"$last" -std=c99 "${warnings[@]}" -I"$library" "$work/rules.c" "$archive" -o "$work/rules"
+"$work/rules" >"$work/said"
+"$play" rules | diff - "$work/said"
 build "$last" lists -O2
 python3 bench/lists.py "$play" "$work/lists" "$lists" "$seed"
 if has "$last" address,undefined; then

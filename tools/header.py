@@ -1,7 +1,7 @@
 #!/usr/bin/env python3
 """header.py: writes a C program that compiles only if include/gthost.h says what the Rattle side says.
 
-It reads the `#[repr(C)]` structs, the exports and the numbers of crates/gt_c, gt_seat and gt_types, and declares and
+It reads the `#[repr(C)]` structs, the exports and the numbers of gt_c and of the crates below it, and declares and
 asserts them again, by the layout rules of C with pointers of 8 bytes: each export with its types, the size of each struct and the offset of each
 field, and the number of each name. A declaration that differs from the header's is an error of the compiler. What the
 one side has and the other has not is an error here. The same is done for the structs and functions of contrib/rust.
@@ -17,28 +17,32 @@ STRUCTS = {
     "MapHandle": "gthost_handle", "Mapping": "gthost_mapping", "CopyEnd": "gthost_end", "CopySettings": "gthost_copy",
     "PlaceTold": "gthost_place", "PlacesTold": "gthost_places", "Record": "gthost_record",
     "MappingTold": "gthost_found_mapping", "RecordTold": "gthost_found_record", "BegunTold": "gthost_begun_copy",
-    "EntryBytes": "gthost_entry_bytes", "FaultText": "gthost_text",
+    "EntryBytes": "gthost_entry_bytes", "FaultText": "gthost_text", "RuleText": "gthost_rule_line",
+    "EntryStatus": "gthost_entry_status", "EntryTold": "gthost_found_entry", "TypeTold": "gthost_type",
 }
 OF_RUST = {
     "Domain": "gthost_domain", "Settings": "gthost_settings", "Fault": "gthost_fault", "Answer": "gthost_answer",
     "Handle": "gthost_handle", "Mapping": "gthost_mapping", "End": "gthost_end", "Copying": "gthost_copy",
     "Place": "gthost_place", "Places": "gthost_places", "Record": "gthost_record",
     "FoundMapping": "gthost_found_mapping", "FoundRecord": "gthost_found_record", "BegunCopy": "gthost_begun_copy",
-    "EntryBytes": "gthost_entry_bytes",
+    "EntryBytes": "gthost_entry_bytes", "Text": "gthost_text", "RuleLine": "gthost_rule_line",
+    "EntryStatus": "gthost_entry_status", "FoundEntry": "gthost_found_entry", "Type": "gthost_type",
 }
 SCALARS = {
     "u8": ("uint8_t", 1), "u16": ("uint16_t", 2), "u32": ("uint32_t", 4), "u64": ("uint64_t", 8), "i32": ("int32_t", 4),
     "bool": ("bool", 1), "usize": ("size_t", 8), "*mut u8": ("void *", 8), "*mut c_void": ("void *", 8),
 }
 EMPTY = {"Global"}  # the allocator: it takes no bytes
-KINDS = {"Mapped": "HANDLE"}  # a name of the header, where it is no other spelling of the Rattle side's word
+KINDS = {"Version": "TABLE_VERSION"}  # a name of the header, where it is no other spelling of the Rattle side's word
 ZEROS = {"GTHOST_OK", "GTHOST_NOTHING", "GTHOST_FAULT_NONE"}
 # Functions that the header has itself: each tests pointers, and makes the call of the export beside it.
 INLINE = {"gthost_start": "gthost_start_at"}
+# Functions that the header has itself, which call nothing.
+OWN = {"gthost_handle_of"}
 # The limits of gt_types that the header names.
 LIMITS = {
     "MAX_DOMAINS", "MAX_FRAMES", "FRAME_SIZE", "MAX_TABLE_FRAMES", "LAST_VERSION", "MAX_MAPPINGS", "MAX_PINS",
-    "LAST_GENERATION", "DOMID_SELF",
+    "LAST_GENERATION", "DOMID_SELF", "MOST_RESERVED",
 }
 # The numbers that Xen's public header has too, by its names.
 OF_XEN = {
@@ -49,8 +53,8 @@ OF_XEN = {
 
 def sources():
     texts = []
-    for crate in ("gt_c", "gt_seat", "gt_types"):
-        for path in sorted((TOP / "crates" / crate / "src").glob("**/*.rt")):
+    for crate in ("gt_c/src/**/*.rt", "gt_begin/src/*.rt", "gt_seat/src/*.rt", "gt_types/src/**/*.rt", "gt_audit/src/pieces.rt"):
+        for path in sorted((TOP / "crates").glob(crate)):
             texts.append(re.sub(r"//.*", "", path.read_text(encoding="utf-8")))
     return "\n".join(texts)
 
@@ -135,7 +139,7 @@ def declarations(found, names):
             if kind not in EMPTY:
                 told += c_type(kind, field, names)
         answered = SCALARS[result][0] if result in SCALARS else f"struct {names[result]}"
-        yield name, f"{answered} {name}({', '.join(told)});"
+        yield name, f"{answered} {name}({', '.join(told) or 'void'});"
 
 
 def exports(text):
@@ -154,6 +158,12 @@ def numbers(text):
     """Each number that the Rattle side has a word for, by its name in the header."""
     for word, number in re.findall(r"Outcome::(\w+)\(\w+\) => given\((\d+),", text):
         yield f"GTHOST_{KINDS.get(word, spelled(word))}", number
+    for number in re.findall(r"fn mapped\(name: Name\).*?kind: (\d+),", text, re.S):
+        yield "GTHOST_HANDLE", number
+    for number, word in enumerate(re.findall(r"^\s*(N\d+)(?: = 1)?,$", text, re.M), 1):
+        yield f"GTHOST_{word}", str(number)
+    for word, number in re.findall(r"Kind::(Invalid|Page|Sub|Via) => (\d+),", text):
+        yield f"GTHOST_ENTRY_{spelled(word)}", number
     for word, number in re.findall(r"Facts::(\w+)[^=]*=> Answer \{\s*kind: (\d+),", text):
         yield f"GTHOST_{spelled(word)}", number
     for word, number in re.findall(r"Field::(\w+) => (\d+),", text):
@@ -162,15 +172,15 @@ def numbers(text):
         yield f"GTHOST_{word}", number
     for word, number in re.findall(r"(?:PolicyFaultKind|ConfigFault)::(\w+)(?:\(\w+\))? => fault_at\((\d+),", text):
         yield f"GTHOST_FAULT_{spelled(word)}", number
-    for word, number in re.findall(r"const (MEMORY|HANDLES): Fault = Fault \{\s*kind: (\d+),", text):
+    for number in re.findall(r"fn label_fault.*?fault_at\((\d+),", text, re.S):
+        yield "GTHOST_FAULT_LABEL", number
+    for word, number in re.findall(r"const (MEMORY|HANDLES|TEXT|NO_TYPE): Fault = Fault \{\s*kind: (\d+),", text):
         yield f"GTHOST_FAULT_{word}", number
     for number in re.findall(r'(\d+) => "a pointer is null",', text):
         yield "GTHOST_FAULT_NULL_POINTER", number
     for word, number in re.findall(r"pub const (\w+): u(?:16|32|size) = (\w+);", text):
         if word in LIMITS:
             yield f"GTHOST_{word}", number.replace("_", "")
-    for number in re.findall(r"str::from_utf8\(policy\) else \{\s*return Err\(fault_at\((\d+),", text):
-        yield "GTHOST_FAULT_TEXT", number
     for word, number in re.findall(r"Hypercall::(\w+)[^=]*=> Record \{\s*call: (\d+),", text):
         yield f"GTHOST_CALL_{'UNMAP_NONE' if word == 'Unmap' and number == '3' else spelled(word)}", number
 
@@ -184,6 +194,17 @@ def asserted(pairs):
     return "\n".join(f'_Static_assert(({name}) == ({number}), "{name}");' for name, number in pairs)
 
 
+def compare_versions(header, text):
+    """The version of the header, of the library and of the program is one."""
+    said = re.search(r"#define GTHOST_VERSION 0x(\w+)", header).group(1)
+    made = re.search(r"const VERSION: u32 = 0x(\w+);", text).group(1).replace("_", "")
+    line = (TOP / "crates" / "gt_commands" / "src" / "line.rt").read_text(encoding="utf-8")
+    program = re.search(r'const VERSION: &str = "(\d+)\.(\d+)\.(\d+)', line).groups()
+    numbers = {int(said, 16), int(made, 16), sum(int(part) << shift for part, shift in zip(program, (16, 8, 0)))}
+    if len(numbers) > 1:
+        raise SystemExit(f"header: the versions of header, library and program differ: {sorted(numbers)}")
+
+
 def compare_names(what, declared, made):
     if declared != made:
         raise SystemExit(f"header: {what} that one side lacks: {' '.join(sorted(declared ^ made))}")
@@ -194,12 +215,13 @@ def main():
     header = re.sub(r"/\*.*?\*/", "", (TOP / "include" / "gthost.h").read_text(encoding="utf-8"), flags=re.S)
     made, said, of_status = exports(text), dict(numbers(text)), dict(statuses(text))
     rust_structs, rust_made = rust()
-    compare_names("exports", set(re.findall(r"\b(gthost_\w+)\(", header)), set(made) | set(INLINE))
+    compare_names("exports", set(re.findall(r"\b(gthost_\w+)\(", header)), set(made) | set(INLINE) | OWN)
     for name, export in INLINE.items():
         if not re.search(rf"static inline [^;{{}}]*\b{name}\([^;{{}}]*\)\s*\{{.*?return {export}\(", header, re.S):
             raise SystemExit(f"header: {name} is no function of the header that calls {export}")
     compare_names("structs", set(re.findall(r"^struct (\w+) \{", header, re.M)), set(STRUCTS.values()))
     compare_names("numbers", set(re.findall(r"\b(GTHOST_\w+) =", header)), set(said) | ZEROS | set(OF_XEN))
+    compare_versions(header, text)
     compare_order(header, made)
     compare_order(header, rust_made)
     print('#include "gthost.h"\n')

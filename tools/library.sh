@@ -18,11 +18,14 @@ kit=$(dirname "$(rt doc)")
 } | ar -M
 ranlib "$dir/libgthost.a"
 cp include/gthost.h "$dir/gthost.h"
+# the numbers of GTHOST_VERSION
+hex=$(sed -n 's/^#define GTHOST_VERSION 0x//p' include/gthost.h)
+version=$((16#$hex >> 16)).$((16#$hex >> 8 & 255)).$((16#$hex & 255))
 cat >"$dir/gthost.pc" <<PC
 prefix=$dir
 Name: gthost
 Description: grant tables of a hypervisor
-Version: 1
+Version: $version
 Cflags: -I\${prefix}
 Libs: -L\${prefix} -lgthost
 PC

@@ -16,9 +16,11 @@ STRUCTS = {
     "Answer": "Rattle.gt_seat.{}.answer.Answer", "BegunTold": "Rattle.gt_c.{}.copies.BegunTold",
     "CopySettings": "Rattle.gt_c.{}.copies.CopySettings", "EntryBytes": "Rattle.gt_c.{}.calls.EntryBytes",
     "MapHandle": "Rattle.gt_c.{}.calls.MapHandle", "MappingTold": "Rattle.gt_c.{}.telling.MappingTold",
-    "RecordTold": "Rattle.gt_c.{}.telling.RecordTold",
+    "RecordTold": "Rattle.gt_c.{}.telling.RecordTold", "EntryTold": "Rattle.gt_c.{}.telling.EntryTold",
 }
-RELATIONS = {"CopyEnds": "Telling", "Finishes": "Calling"}
+RELATIONS = {"CopyEnds": "Telling", "Finishes": "Calling", "ResetsGuest": "Calling"}
+# Where what is told of a null pointer is defined.
+NULLS = {"nowhere": "Pointing"}
 EXPORT = re.compile(r'pub unsafe extern "C" fn (\w+)\((.*?)\) -> (\w+)\n(.*?)\n\{\n(.*?)\n\}', re.S)
 
 
@@ -86,12 +88,9 @@ def proof(name, params, result, clauses, body, modules):
     passed = [Param(text) for text in params[2:]]
     callee = re.search(r"(\w+)\(\s*alloc", body).group(1)
     none = re.search(r"return (\w+)\(\)", body).group(1)
-    promise = re.search(r"PointsTo was is ([\w.]+) \((\w+)(.*?)\) ⌝", clauses, re.S)
-    told, relation, words = promise.group(1), promise.group(2), promise.group(3).split()
-    answer = told.replace("result", "r")
+    promise = re.search(r"PointsTo was is result (\w+) \((\w+)(.*?)\) ⌝", clauses, re.S)
+    null, relation, words = promise.group(1), promise.group(2), promise.group(3).split()
     asked = " ".join([relation, *["r" if word == "result" else word for word in words]])
-    if words[-1:] == ["result.answer"]:
-        asked = " ".join([relation, *words[:-1], "r"])
     kinds = {param.kind for param in passed if not param.width} | {result}
     values = nested(["global al", "rawptr_vals p", *[f"{param.values()} {param.name}" for param in passed]])
     args = nested(["al", "p", *[param.name for param in passed]])
@@ -122,6 +121,7 @@ use Rattle.std.proofs.alloc.Global.TheLaws as heap
 use Rattle.gt_c.specs.contracts.handle.Handle as H
 use Rattle.gt_c.specs.declared.handle.Handle.{{Handle}}
 use Rattle.gt_c.specs.Pointing.{{PointsTo, pointed_at}}
+use Rattle.gt_c.specs.{NULLS.get(null, "Telling")}.{{{null}}}
 use Rattle.gt_c.specs.{RELATIONS.get(relation, "Promises")}.{{{relation}}}
 use Rattle.gt_c.specs.contracts.{where}.{callee} as call
 use Rattle.gt_c.proofs.{where}.{callee}.Met as call_met
@@ -130,8 +130,6 @@ use Rattle.gt_c.proofs.{nowhere}.{none}.Met as none_met
 use Rattle.gt_c.specs.contracts.seam.{name} as f
 use Rattle.gt_c.proofs.seam.{name}.Statement.{{statement}}
 use Rattle.gt_c.proofs.seam.{name}.Code as code
-use Rattle.gt_seat.specs.Encoding.{{encoded}}
-use Rattle.gt_seat.specs.declared.answer.Outcome.TheVariants as outcomes
 
 abbrev stayed : Stays f.ended.signature.params f.ended.kept
 stayed = {nested(["stay_dropped _ yes"] * count)}
@@ -160,7 +158,7 @@ module _ {{M : Type 1}} {{𝓤 : Ura M}} (𝓛 : Logic 𝓤) (𝓜 : Model 𝓤 
   Runs p g = WpFn 𝓤 𝓛.H 𝓣.C 𝓣.Λ code.function ({machine}) (W.post (y p g))
 
   abbrev Holds : {result}.the_row.Denot → Option Handle → Option Handle → Type 0
-  Holds r was is = PointsTo was is {answer} ({asked})
+  Holds r was is = PointsTo was is r {null} ({asked})
 
   abbrev Ensured : Ptr → Option Handle → {result}.the_row.Denot → SProp 𝓤
   Ensured p g r = ex 𝓤 (λ (is : Option Handle). sep 𝓤 (sem 𝓛 (pointed_at H.the_row p is)) (fact 𝓤 (Holds r g is)))
@@ -186,7 +184,7 @@ module _ {{M : Type 1}} {{𝓤 : Ura M}} (𝓛 : Logic 𝓤) (𝓜 : Model 𝓤 
       first ! $ branches ! (get ! refl)
       (λ is. nothing ! $ nothing ! $ join ! $ nothing ! $ move ! (1 ∷ 0 ∷ []) $ use2 𝓛 (raw (N.pre z)) (id⊢ 𝓤 (N.pre z)) $
       calls_at ! (framed 𝓤 𝓛.H 𝓜 𝓣) N (none_met.met 𝓤 𝓛 𝓜 𝓡 (code.calls-gt_c::{nowhere}::{none} 𝓡.env wired)) z (no_more !) (λ v.
-      use1 𝓛 (later (some (λ (r : {result}.the_row.Denot). (‵ ftrue ⊛ ‵ ({result}.the_row.own_val r (v ∷ []))) ⊛ some (λ (ws : Unit {{0}}). ‵ (lasts none.ended tt tt ws) ⊛ raw (fact 𝓤 ({answer} ≡ encoded outcomes.NullPointer)))))) (id⊢ 𝓤 _) $
+      use1 𝓛 (later (some (λ (r : {result}.the_row.Denot). (‵ ftrue ⊛ ‵ ({result}.the_row.own_val r (v ∷ []))) ⊛ some (λ (ws : Unit {{0}}). ‵ (lasts none.ended tt tt ws) ⊛ raw (fact 𝓤 (r ≡ {null})))))) (id⊢ 𝓤 _) $
       await ! tt $ pick ! (λ r. split ! $ split ! $ drop ! $ peeks ! {result}.the_row (Is {result}.the_row) (shows 𝓛 {result}.the_row) r (v ∷ []) (λ its.
       lands_as ! refl refl ((loose_lawful {result}.the_type {result}_laws.the_loose 𝓛).typed r _ its).0 $
       returns_within ! (W.post (y null_ptr None)) refl (look_at ! 0 refl) $ free_all ! refl $

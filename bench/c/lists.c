@@ -126,7 +126,7 @@ static const char *said(const struct gthost_answer *answer, char *out)
     case GTHOST_FRAMES:
         snprintf(out + len, ANSWER - len, " frames=%" PRIu64, answer->value);
         break;
-    case GTHOST_VERSION:
+    case GTHOST_TABLE_VERSION:
         snprintf(out + len, ANSWER - len, " version=%" PRIu64, answer->value);
         break;
     case GTHOST_SIZE:
@@ -277,8 +277,7 @@ static void map(struct member *member, struct gthost_answer *answer)
     *answer = gthost_map(member->domain, dom(4), (uint32_t)number(5), flags(6));
     if (answer->rule == GTHOST_OK) {
         struct gthost_handle *to = handle(member, at(3), true);
-        to->serial = answer->value;
-        to->key = (size_t)answer->more;
+        *to = gthost_handle_of(*answer);
     }
 }
 
@@ -407,7 +406,7 @@ static void domain(void)
 static void start(void)
 {
     const struct gthost_fault fault =
-        gthost_start(settings, member_count, first_gen, (const uint8_t *)policy, policy_len, handles, member_count);
+        gthost_start(settings, member_count, first_gen, 0, (const uint8_t *)policy, policy_len, handles, member_count);
     if (fault.kind != GTHOST_FAULT_NONE) {
         printf("fault %u %u %u\n", fault.kind, fault.line, fault.dom);
         exit(1);

@@ -57,7 +57,7 @@ static int failures;
 static bool start(struct gthost_domain *domains, struct gthost_fault *fault)
 {
     const struct gthost_settings settings[] = {{1, 0, 8, 1, 2}, {2, 0, 8, 1, 2}};
-    *fault = gthost_start(settings, 2, 0, (const uint8_t *)POLICY, strlen(POLICY), domains, 2);
+    *fault = gthost_start(settings, 2, 0, 0, (const uint8_t *)POLICY, strlen(POLICY), domains, 2);
     return fault->kind == GTHOST_FAULT_NONE;
 }
 
@@ -85,7 +85,7 @@ static struct gthost_handle mapped(struct gthost_domain *domain, long memory)
     long before = taken;
     answer = gthost_map(domain, 1, 7, GTHOST_MAP_READ_ONLY);
     wants("map", GTHOST_OK, memory, before);
-    struct gthost_handle name = {answer.value, (size_t)answer.more};
+    struct gthost_handle name = gthost_handle_of(answer);
     return name;
 }
 

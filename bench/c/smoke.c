@@ -34,7 +34,7 @@ static void wants(int line, const struct gthost_answer *answer, uint32_t rule, i
 static bool starts(const struct gthost_settings *settings, size_t count, const char *policy,
                    struct gthost_domain *out, size_t out_count, struct gthost_fault *fault)
 {
-    *fault = gthost_start(settings, count, 0, (const uint8_t *)policy, policy ? strlen(policy) : 0, out, out_count);
+    *fault = gthost_start(settings, count, 0, 7, (const uint8_t *)policy, policy ? strlen(policy) : 0, out, out_count);
     return fault->kind == GTHOST_FAULT_NONE;
 }
 
@@ -86,8 +86,7 @@ static void shares(void)
     WANT(5, -8, GTHOST_POLICY);
     answer = gthost_map(&domain[1], 1, 7, GTHOST_MAP_WRITABLE);
     WANT(GTHOST_OK, 0, GTHOST_HANDLE);
-    name.serial = answer.value;
-    name.key = (size_t)answer.more;
+    name = gthost_handle_of(answer);
     answer = gthost_revoke(&domain[0], 7);
     WANT(19, -1, GTHOST_ENTRY);
     answer = gthost_unmap(&domain[1], name);
@@ -113,7 +112,7 @@ static void shares(void)
     WANT(GTHOST_OK, 0, GTHOST_SIZE);
     HOLDS(answer.value == 1 && answer.more == 16);
     answer = gthost_get_version(&domain[0], 2);
-    WANT(GTHOST_OK, 0, GTHOST_VERSION);
+    WANT(GTHOST_OK, 0, GTHOST_TABLE_VERSION);
     HOLDS(answer.value == 1);
     answer = gthost_setup_table(&domain[0], 3);
     WANT(GTHOST_OK, 0, GTHOST_FRAMES);
@@ -123,8 +122,8 @@ static void shares(void)
     answer = gthost_withdraw(&domain[0], 8);
     WANT(GTHOST_OK, 0, GTHOST_NOTHING);
     answer = gthost_finish(&domain[0]);
-    WANT(GTHOST_OK, 0, GTHOST_LOST);
-    HOLDS(answer.value == 0 && !domain[0].is_live);
+    WANT(GTHOST_OK, 0, GTHOST_LEFT);
+    HOLDS(answer.value == 0 && answer.more == 0 && !domain[0].is_live);
     answer = gthost_revoke(&domain[0], 8);
     WANT(GTHOST_NO_DOMAIN, 0, GTHOST_NOTHING);
     answer = gthost_finish(&domain[0]);
@@ -138,12 +137,105 @@ static void texts(void)
 {
     struct gthost_text text = gthost_fault_text(GTHOST_FAULT_SYNTAX);
     HOLDS(text.len == 6 && strcmp((const char *)text.bytes, "syntax") == 0);
-    for (uint32_t kind = 0; kind <= GTHOST_FAULT_NULL_POINTER; kind++) {
+    for (uint32_t kind = 0; kind <= GTHOST_FAULT_NO_TYPE; kind++) {
         text = gthost_fault_text(kind);
         HOLDS(text.len > 3 && text.len == strlen((const char *)text.bytes));
     }
     text = gthost_fault_text(99);
     HOLDS(strcmp((const char *)text.bytes, "no such fault") == 0);
+    for (uint32_t rule = GTHOST_N1; rule <= GTHOST_N26; rule++) {
+        struct gthost_rule_line line = gthost_rule_text(rule);
+        char name[8];
+        snprintf(name, sizeof name, "N%u ", rule);
+        HOLDS(strncmp((const char *)line.bytes, name, strlen(name)) == 0);
+        HOLDS(line.len > 40 && line.len == strlen((const char *)line.bytes));
+    }
+    HOLDS(strcmp((const char *)gthost_rule_text(GTHOST_BUSY).bytes, "the domain is in a copy") == 0);
+    HOLDS(strcmp((const char *)gthost_rule_text(27).bytes, "no such rule") == 0);
+    HOLDS(gthost_version() == GTHOST_VERSION);
+}
+
+static struct gthost_type type_of(const char *policy, const char *name)
+{
+    return gthost_type_of((const uint8_t *)policy, strlen(policy), (const uint8_t *)name, strlen(name));
+}
+
+static void types(void)
+{
+    struct gthost_settings two[] = {{1, 0, 8, 1, 1}, {2, 2, 8, 1, 1}};
+    struct gthost_domain domain[2] = {{0}};
+    struct gthost_fault fault;
+    struct gthost_type type = type_of(POLICY, "b_t");
+    HOLDS(type.fault.kind == GTHOST_FAULT_NONE && type.label == 1);
+    type = type_of(POLICY, "c_t");
+    HOLDS(type.fault.kind == GTHOST_FAULT_NO_TYPE && type.label == 0);
+    type = type_of("type a_t;\ntype ;", "a_t");
+    HOLDS(type.fault.kind == GTHOST_FAULT_SYNTAX && type.fault.line == 2);
+    type = type_of("type a_t;\ntype", "a_t"); /* the fault is at the end of the text: one line more than it has */
+    HOLDS(type.fault.kind == GTHOST_FAULT_SYNTAX && type.fault.line == 3);
+    HOLDS(!starts(two, 2, POLICY, domain, 2, &fault));
+    HOLDS(fault.kind == GTHOST_FAULT_LABEL && fault.dom == 2 && !domain[0].is_live);
+}
+
+/* A guest leaves, another one comes in its place, and names are those of their domain and run alone. */
+static void leaves(void)
+{
+    struct gthost_settings two[] = {{1, 0, 8, 1, 1}, {2, 1, 8, 1, 1}};
+    struct gthost_domain domain[2] = {{0}}, other[2] = {{0}};
+    struct gthost_found_entry found;
+    struct gthost_fault fault;
+    struct gthost_answer answer;
+    struct gthost_handle name, foreign;
+    HOLDS(starts(two, 2, POLICY, domain, 2, &fault));
+    fault = gthost_start(two, 2, 0, 8, (const uint8_t *)POLICY, strlen(POLICY), other, 2);
+    HOLDS(fault.kind == GTHOST_FAULT_NONE);
+    answer = gthost_grant_page(&domain[0], 7, 2, 5, 1);
+    answer = gthost_grant_page(&domain[0], 8, 2, 6, 0);
+    answer = gthost_grant_page(&other[0], 7, 2, 5, 0);
+    foreign = gthost_handle_of(gthost_map(&other[1], 1, 7, GTHOST_MAP_READ_ONLY));
+    name = gthost_handle_of(gthost_map(&domain[1], 1, 7, GTHOST_MAP_READ_ONLY));
+    HOLDS(foreign.serial == name.serial && foreign.key == name.key && foreign.dom == name.dom && name.run == 7);
+    answer = gthost_unmap(&domain[1], foreign);
+    WANT(GTHOST_N6, -4, GTHOST_NOTHING);
+    answer = gthost_mapping(&domain[1], foreign).answer;
+    WANT(GTHOST_ABSENT, 0, GTHOST_NOTHING);
+    foreign = name;
+    foreign.dom = 1;
+    answer = gthost_unmap(&domain[1], foreign);
+    WANT(GTHOST_N6, -4, GTHOST_NOTHING);
+    found = gthost_entry(&domain[0], 7);
+    answer = found.answer;
+    WANT(GTHOST_OK, 0, GTHOST_NOTHING);
+    HOLDS(found.entry.kind == GTHOST_ENTRY_PAGE && found.entry.generation == 1 && found.entry.reads == 1);
+    HOLDS(found.entry.writes == 0 && found.entry.to == 2 && found.entry.read_only == 1);
+    answer = gthost_entry(&domain[0], 512).answer;
+    WANT(GTHOST_ABSENT, 0, GTHOST_NOTHING);
+    answer = gthost_reset(&domain[0]);
+    WANT(GTHOST_OK, 0, GTHOST_LEFT);
+    HOLDS(answer.more == 1);
+    answer = gthost_map(&domain[1], 1, 8, GTHOST_MAP_READ_ONLY);
+    WANT(GTHOST_N10, -1, GTHOST_ENTRY);
+    found = gthost_entry(&domain[0], 7);
+    HOLDS(found.entry.kind == GTHOST_ENTRY_INVALID && found.entry.reads == 1);
+    answer = gthost_unmap(&domain[1], name);
+    WANT(GTHOST_OK, 0, GTHOST_NOTHING);
+    HOLDS(gthost_entry(&domain[0], 7).entry.reads == 0);
+    answer = gthost_grant_page(&domain[0], 7, 2, 5, 0);
+    WANT(GTHOST_OK, 0, GTHOST_NOTHING);
+    answer = gthost_take_records(&domain[1]);
+    WANT(GTHOST_OK, 0, GTHOST_TAKEN);
+    HOLDS(answer.value == 5 && answer.more == 0);
+    HOLDS(gthost_record(&domain[1], 0).answer.rule == GTHOST_ABSENT);
+    answer = gthost_reserve_records(&domain[1], SIZE_MAX);
+    WANT(GTHOST_NO_MEMORY, 0, GTHOST_NOTHING);
+    name = gthost_handle_of(gthost_map(&domain[1], 1, 7, GTHOST_MAP_WRITABLE));
+    answer = gthost_finish(&domain[0]);
+    WANT(GTHOST_OK, 0, GTHOST_LEFT);
+    HOLDS(answer.more == 1);
+    answer = gthost_map(&domain[1], 1, 7, GTHOST_MAP_WRITABLE);
+    WANT(GTHOST_N10, -1, GTHOST_ENTRY);
+    HOLDS(gthost_finish(&domain[1]).more == 0);
+    HOLDS(gthost_finish(&other[0]).more == 1 && gthost_finish(&other[1]).more == 0);
 }
 
 static void copies(void)
@@ -156,7 +248,7 @@ static void copies(void)
     struct gthost_found_record told;
     struct gthost_fault fault;
     struct gthost_answer answer;
-    struct gthost_handle name = {0, 0};
+    struct gthost_handle name = {0, 0, 0, 0};
     HOLDS(starts(two, COUNT(two), POLICY, domain, COUNT(domain), &fault));
     begun = gthost_copy_begin(&domain[1], copy);
     answer = begun.answer;
@@ -201,8 +293,7 @@ static void copies(void)
     HOLDS(found.mapping.frame == 0);
     answer = gthost_grant_page(&domain[0], 7, 2, 6, 0);
     answer = gthost_map(&domain[1], 1, 7, GTHOST_MAP_WRITABLE);
-    name.serial = answer.value;
-    name.key = (size_t)answer.more;
+    name = gthost_handle_of(answer);
     found = gthost_mapping(&domain[1], name);
     answer = found.answer;
     WANT(GTHOST_OK, 0, GTHOST_NOTHING);
@@ -229,7 +320,7 @@ static void copies(void)
 /* Each call of a null pointer. */
 static void nulls(void)
 {
-    const struct gthost_handle name = {0, 0};
+    const struct gthost_handle name = {0, 0, 0, 0};
     const struct gthost_copy copy = {{0, 0, 0}, {0, 0, 0}, 0, 0};
     const struct gthost_entry_bytes entry = {8, {0}};
     const struct gthost_answer answers[] = {
@@ -243,7 +334,8 @@ static void nulls(void)
         gthost_mapping(NULL, name).answer,     gthost_record(NULL, 0).answer,
         gthost_keep_at_most(NULL, 0),          gthost_reserve_records(NULL, 0),
         gthost_copy_begin(NULL, copy).answer,  gthost_copy_end(NULL),
-        gthost_finish(NULL),
+        gthost_entry(NULL, 0).answer,          gthost_take_records(NULL),
+        gthost_reset(NULL),                    gthost_finish(NULL),
     };
     for (size_t i = 0; i < COUNT(answers); i++) {
         struct gthost_answer answer = answers[i];
@@ -255,6 +347,8 @@ int main(void)
 {
     faults();
     texts();
+    types();
+    leaves();
     nulls();
     shares();
     copies();

@@ -38,7 +38,7 @@ static void *work(void *arg)
     while (done < worker->rounds) {
         const struct gthost_answer mapped = gthost_map(&worker->domain, OWNER, worker->gref, GTHOST_MAP_READ_ONLY);
         if (mapped.rule == GTHOST_OK) {
-            const struct gthost_handle name = {mapped.value, (size_t)mapped.more};
+            const struct gthost_handle name = gthost_handle_of(mapped);
             done += gthost_unmap(&worker->domain, name).rule == GTHOST_OK;
         }
     }
@@ -64,7 +64,7 @@ int main(int argc, char **argv)
         const struct gthost_settings one = {(uint16_t)(i + 1), 0, 8, 16, 1};
         settings[i] = one;
     }
-    fault = gthost_start(settings, DOMAINS, 0, (const uint8_t *)POLICY, strlen(POLICY), domains, DOMAINS);
+    fault = gthost_start(settings, DOMAINS, 0, 0, (const uint8_t *)POLICY, strlen(POLICY), domains, DOMAINS);
     if (fault.kind != GTHOST_FAULT_NONE) {
         return 1;
     }

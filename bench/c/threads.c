@@ -81,8 +81,7 @@ static void map(struct member *member)
         member->refused++;
         return;
     }
-    name.serial = answer.value;
-    name.key = (size_t)answer.more;
+    name = gthost_handle_of(answer);
     const struct gthost_found_mapping found = gthost_mapping(&member->domain, name);
     member->faults += found.answer.rule != GTHOST_OK || !found.mapping.writes;
     mark(member, found.mapping.owner, found.mapping.frame);
@@ -150,7 +149,7 @@ static bool start(struct member *members, uint64_t rounds)
         members[i].seed = i + 1u;
         members[i].rounds = rounds;
     }
-    fault = gthost_start(settings, DOMAINS, 0, (const uint8_t *)POLICY, strlen(POLICY), domains, DOMAINS);
+    fault = gthost_start(settings, DOMAINS, 0, 0, (const uint8_t *)POLICY, strlen(POLICY), domains, DOMAINS);
     if (fault.kind != GTHOST_FAULT_NONE) {
         return false;
     }

@@ -10,11 +10,11 @@ static const struct gthost_answer OK;
 static uint64_t frame_of[DOMAINS + 1][REFERENCES];
 
 static struct gthost_fault start(const struct gthost_settings *settings, size_t count, uint32_t first_gen,
-                                 const uint8_t *policy, size_t policy_len, struct gthost_domain *out,
+                                 uint32_t run, const uint8_t *policy, size_t policy_len, struct gthost_domain *out,
                                  size_t out_count)
 {
     const struct gthost_fault none = {GTHOST_FAULT_NONE, 0, 0};
-    (void)first_gen, (void)policy, (void)policy_len;
+    (void)first_gen, (void)run, (void)policy, (void)policy_len;
     for (size_t i = 0; i < count && i < out_count; i++) {
         out[i].at = frame_of[settings[i].id];
         out[i].is_live = true;

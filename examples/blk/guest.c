@@ -19,7 +19,7 @@ bool host_start(struct host *host, const struct monitor *monitor)
     struct gthost_fault fault;
     memset(domains, 0, sizeof domains);
     host->monitor = monitor;
-    fault = monitor->start(settings, DOMAINS, 0, (const uint8_t *)POLICY, strlen(POLICY), domains, DOMAINS);
+    fault = monitor->start(settings, DOMAINS, 0, 0, (const uint8_t *)POLICY, strlen(POLICY), domains, DOMAINS);
     if (fault.kind != GTHOST_FAULT_NONE) {
         fprintf(stderr, "blk: no run: fault %u, line %u\n", fault.kind, fault.line);
         return false;
@@ -61,8 +61,7 @@ bool guest_map(struct host *host, uint16_t dom, uint16_t owner, uint32_t gref, b
 {
     const struct gthost_answer answer =
         host->monitor->map(domain_of(host, dom), owner, gref, writes ? GTHOST_MAP_WRITABLE : GTHOST_MAP_READ_ONLY);
-    name->serial = answer.value;
-    name->key = (size_t)answer.more;
+    *name = gthost_handle_of(answer);
     return answer.rule == GTHOST_OK;
 }
 

@@ -68,7 +68,7 @@ static void maps(struct gthost_domain *back)
 static void keeps(struct host *host)
 {
     struct gthost_domain *front = domain_of(host, FRONT), *back = domain_of(host, BACK);
-    struct gthost_handle name = {0, 0};
+    struct gthost_handle name = {0, 0, 0, 0};
     guest_map(host, BACK, FRONT, WRITABLE, true, &name);
     answer = gthost_revoke(front, WRITABLE);
     wants("keeps its mapping, and the front end revokes", 19);

@@ -7,7 +7,7 @@
 struct monitor {
     const char *name;
     struct gthost_fault (*start)(const struct gthost_settings *settings, size_t count, uint32_t first_gen,
-                                 const uint8_t *policy, size_t policy_len, struct gthost_domain *out,
+                                 uint32_t run, const uint8_t *policy, size_t policy_len, struct gthost_domain *out,
                                  size_t out_count);
     struct gthost_answer (*finish)(struct gthost_domain *domain);
     struct gthost_answer (*grant_page)(struct gthost_domain *domain, uint32_t gref, uint16_t to, uint64_t frame,

@@ -7,14 +7,16 @@
 //! The memory of the guests is the caller's: nothing here touches it, and nothing here makes the caller touch only what
 //! a [`Mapping`] or [`Places`] says.
 mod raw;
+mod rule;
 
+use std::error::Error;
 use std::fmt;
 
-pub use raw::Record;
+pub use rule::{rule_text, Rule};
 
-/// A domain of a run to start: its number, the place of its type in the policy, its frames, and its table.
+/// A domain of a run to start: its number, the number of its type in the policy, its frames, and its table.
 #[repr(C)]
-#[derive(Clone, Copy, Debug)]
+#[derive(Clone, Copy, Debug, PartialEq, Eq)]
 pub struct Settings {
     pub id: u16,
     pub label: u16,
@@ -23,7 +25,8 @@ pub struct Settings {
     pub version: u32,
 }
 
-/// Why a run did not start: a kind of `enum gthost_fault_kind`, the line of the policy, the domain.
+/// Why a run did not start, or no type was found: a kind of `enum gthost_fault_kind`, the line of the policy, the
+/// domain.
 #[derive(Clone, Copy, Debug, PartialEq, Eq)]
 pub enum Fault {
     Memory,
@@ -32,7 +35,7 @@ pub enum Fault {
 }
 
 /// An entry to publish.
-#[derive(Clone, Copy, Debug)]
+#[derive(Clone, Copy, Debug, PartialEq, Eq)]
 pub enum Entry<'b> {
     Page { to: u16, frame: u64, read_only: bool },
     Sub { to: u16, frame: u64, off: u16, len: u16, read_only: bool },
@@ -52,25 +55,28 @@ pub enum Access {
 pub enum Facts {
     None,
     Policy { source: u32, target: u32, permission: u32 },
+    /// A field of an entry's bytes: a number of `enum gthost_field`.
     Field(u32),
     Header { dom: u32, word: u64 },
     Entry { dom: u32, gref: u32, word: u64 },
 }
 
-/// A refusal: the rule N1 to N26, the status of the public header, and what it rests on.
+/// A refusal: the rule, the status of the public header, and what it rests on.
 #[derive(Clone, Copy, Debug, PartialEq, Eq)]
 pub struct Refusal {
-    pub rule: u32,
+    pub rule: Rule,
     pub status: i32,
     pub facts: Facts,
 }
 
-/// The name of a mapping.
+/// The name of a mapping. A call of another domain, or of a run of another number, refuses it by N6.
 #[repr(C)]
-#[derive(Clone, Copy, Debug, PartialEq, Eq)]
+#[derive(Clone, Copy, Debug, PartialEq, Eq, Hash)]
 pub struct Handle {
     serial: u64,
     key: usize,
+    run: u32,
+    dom: u16,
 }
 
 #[repr(C)]
@@ -83,7 +89,7 @@ pub struct Mapping {
 }
 
 /// An end of a copy: a reference of a domain, or the number of a frame of the caller's own.
-#[derive(Clone, Copy, Debug)]
+#[derive(Clone, Copy, Debug, PartialEq, Eq)]
 pub enum Side {
     Reference { dom: u16, gref: u32, off: u16 },
     Frame { dom: u16, frame: u64, off: u16 },
@@ -120,15 +126,75 @@ pub struct Size {
     pub most: u64,
 }
 
+/// The kind of an entry.
+#[derive(Clone, Copy, Debug, PartialEq, Eq)]
+pub enum Kind {
+    Invalid,
+    Page,
+    Sub,
+    Via,
+}
+
+/// What one look at an entry found: its pins are those of mappings, and of copies under way.
+#[derive(Clone, Copy, Debug, PartialEq, Eq)]
+pub struct Status {
+    pub kind: Kind,
+    pub generation: u32,
+    pub reads: u16,
+    pub writes: u16,
+    /// The domain that it permits, if it is valid.
+    pub to: u16,
+    pub read_only: bool,
+}
+
+/// What a domain leaves behind: how many of its records were lost, and how many of its entries are in use still.
+#[derive(Clone, Copy, Debug, PartialEq, Eq)]
+pub struct Remains {
+    pub lost: u64,
+    pub in_use: u64,
+}
+
+/// How many records were taken, and how many were lost before.
+#[derive(Clone, Copy, Debug, PartialEq, Eq)]
+pub struct Taken {
+    pub records: u64,
+    pub lost: u64,
+}
+
+/// A call that is recorded. A domain is named as the caller named it.
+#[derive(Clone, Copy, Debug, PartialEq, Eq)]
+pub enum Call {
+    Map { dom: u32, gref: u32, flags: u32 },
+    Unmap { dom: u32, gref: u32 },
+    /// Of a name that names no mapping of the caller.
+    UnmapNone,
+    Copy { source: End, dest: End, len: u32, flags: u32 },
+    QuerySize { dom: u32 },
+    GetVersion { dom: u32 },
+    SetVersion { version: u32 },
+    SetupTable { frames: u32 },
+}
+
+/// The record of a call.
+#[derive(Clone, Copy, Debug, PartialEq, Eq)]
+pub struct Record {
+    pub caller: u32,
+    pub call: Call,
+    pub reply: Result<(), Refusal>,
+}
+
 /// A domain of a run. It leaves the run when it is dropped.
 pub struct Domain {
     raw: raw::Domain, // its pointer makes it neither Send nor Sync by itself
 }
 
-// SAFETY: the library lets the handles of one run be used from different threads, each by one at a time.
+// SAFETY: the library lets the handles of one run be used from different threads, each by one at a time. What safe code
+// moves a `Domain` by orders the calls before the move and those after it (at least release and acquire), and that is
+// what gthost.h asks.
 unsafe impl Send for Domain {}
 
 /// A copy at its access. It ends, and gives its pins back, when it is dropped.
+#[derive(Debug)]
 pub struct Copying<'d> {
     domain: &'d mut Domain,
     places: Places,
@@ -140,13 +206,80 @@ impl Mapping {
     }
 }
 
-impl fmt::Display for Refusal {
+impl fmt::Debug for Domain {
     fn fmt(&self, f: &mut fmt::Formatter<'_>) -> fmt::Result {
-        write!(f, "N{} {}", self.rule, self.status)
+        f.debug_struct("Domain").finish_non_exhaustive()
     }
 }
 
-impl std::error::Error for Refusal {}
+impl fmt::Display for Refusal {
+    fn fmt(&self, f: &mut fmt::Formatter<'_>) -> fmt::Result {
+        match self.status {
+            0 => write!(f, "{}", self.rule),
+            status => write!(f, "{} {status}", self.rule),
+        }
+    }
+}
+
+impl Error for Refusal {}
+
+impl fmt::Display for Fault {
+    fn fmt(&self, f: &mut fmt::Formatter<'_>) -> fmt::Result {
+        match *self {
+            Fault::Memory => f.write_str("memory was refused"),
+            Fault::Policy { kind, line } => write!(f, "line {line} of the policy: {}", fault_text(kind)),
+            Fault::Config { kind, dom } => write!(f, "domain {dom}: {}", fault_text(kind)),
+        }
+    }
+}
+
+impl Error for Fault {}
+
+// SAFETY of the next four: no pointer is passed but those of slices, with their lengths, so none is null.
+fn fault_text(kind: u32) -> String {
+    let text = unsafe { raw::gthost_fault_text(kind) };
+    String::from_utf8_lossy(&text.bytes[..text.len]).into_owned()
+}
+
+/// The version of the library: major, minor and patch.
+pub fn version() -> (u32, u32, u32) {
+    let number = unsafe { raw::gthost_version() };
+    (number >> 16, number >> 8 & 0xff, number & 0xff)
+}
+
+fn fault(fault: raw::Fault) -> Result<(), Fault> {
+    match fault.kind {
+        0 => Ok(()),
+        1 => Err(Fault::Memory),
+        kind @ (3..=9 | 20) => Err(Fault::Policy { kind, line: fault.line }),
+        kind => Err(Fault::Config { kind, dom: fault.dom }),
+    }
+}
+
+/// The label of the type of this name in a policy's text.
+///
+/// # Errors
+/// The first fault of the policy, or that it declares no such type.
+pub fn type_of(policy: &str, name: &str) -> Result<u16, Fault> {
+    let told = unsafe { raw::gthost_type_of(policy.as_ptr(), policy.len(), name.as_ptr(), name.len()) };
+    fault(told.fault).map(|()| told.label as u16)
+}
+
+/// Starts a run under a policy's text; entries begin at the generation `first_gen`. The names of its mappings carry the
+/// number `run`: give each run of a process another one.
+///
+/// # Errors
+/// The first fault of the policy, of the labels, or of the settings.
+pub fn start(settings: &[Settings], first_gen: u32, run: u32, policy: &str) -> Result<Vec<Domain>, Fault> {
+    let none = || raw::Domain { at: std::ptr::null_mut(), is_live: false };
+    let mut out: Vec<raw::Domain> = settings.iter().map(|_| none()).collect();
+    let told = unsafe {
+        raw::gthost_start_at(
+            settings.as_ptr(), settings.len(), first_gen, run, policy.as_ptr(), policy.len(), out.as_mut_ptr(), out.len(),
+        )
+    };
+    fault(told).map(|()| out.into_iter().map(|raw| Domain { raw }).collect())
+}
 
 fn facts(answer: &raw::Answer) -> Facts {
     let raw::Answer { dom, gref, source, target, detail, word, .. } = *answer;
@@ -162,7 +295,7 @@ fn facts(answer: &raw::Answer) -> Facts {
 fn judged(answer: raw::Answer) -> Result<raw::Answer, Refusal> {
     match answer.rule {
         0 => Ok(answer),
-        rule => Err(Refusal { rule, status: answer.status, facts: facts(&answer) }),
+        rule => Err(Refusal { rule: Rule::of(rule), status: answer.status, facts: facts(&answer) }),
     }
 }
 
@@ -175,24 +308,32 @@ fn spelled(bytes: &[u8]) -> raw::EntryBytes {
     entry
 }
 
-/// Starts a run under a policy's text; entries begin at the generation `first_gen`.
-pub fn start(settings: &[Settings], first_gen: u32, policy: &str) -> Result<Vec<Domain>, Fault> {
-    let none = || raw::Domain { at: std::ptr::null_mut(), is_live: false };
-    let mut out: Vec<raw::Domain> = settings.iter().map(|_| none()).collect();
-    // SAFETY: the pointers are those of slices, with their lengths, so none is null.
-    let fault = unsafe {
-        raw::gthost_start_at(
-            settings.as_ptr(), settings.len(), first_gen, policy.as_ptr(), policy.len(), out.as_mut_ptr(), out.len(),
-        )
-    };
-    match fault.kind {
-        0 => Ok(out.into_iter().map(|raw| Domain { raw }).collect()),
-        1 => Err(Fault::Memory),
-        kind @ 2..=9 => Err(Fault::Policy { kind, line: fault.line }),
-        kind => Err(Fault::Config { kind, dom: fault.dom }),
+fn called(record: &raw::Record) -> Call {
+    let raw::Record { dom, gref, flags, len, source, dest, .. } = *record;
+    match record.call {
+        1 => Call::Map { dom, gref, flags },
+        2 => Call::Unmap { dom, gref },
+        4 => Call::Copy { source, dest, len, flags },
+        5 => Call::QuerySize { dom },
+        6 => Call::GetVersion { dom },
+        7 => Call::SetVersion { version: flags },
+        8 => Call::SetupTable { frames: flags },
+        _ => Call::UnmapNone,
     }
 }
 
+fn status(entry: raw::EntryStatus) -> Status {
+    let kind = match entry.kind {
+        1 => Kind::Page,
+        2 => Kind::Sub,
+        3 => Kind::Via,
+        _ => Kind::Invalid,
+    };
+    let raw::EntryStatus { generation, reads, writes, to, read_only, .. } = entry;
+    Status { kind, generation, reads, writes, to, read_only: read_only != 0 }
+}
+
+/// Each call is refused by the rules that `gthost.h` names beside it.
 impl Domain {
     // SAFETY of each call below: `raw` is what the library wrote, and `&mut self` makes it the only call.
     fn call(&mut self, what: impl FnOnce(*mut raw::Domain) -> raw::Answer) -> Result<raw::Answer, Refusal> {
@@ -231,20 +372,27 @@ impl Domain {
         self.call(|d| unsafe { raw::gthost_promote(d, gref) }).map(drop)
     }
 
+    /// One look at an entry of its own. `ABSENT` past the table.
+    pub fn entry(&mut self, gref: u32) -> Result<Status, Refusal> {
+        let found = unsafe { raw::gthost_entry(&mut self.raw, gref) };
+        judged(found.answer).map(|_| status(found.entry))
+    }
+
     pub fn map(&mut self, dom: u16, gref: u32, access: Access) -> Result<Handle, Refusal> {
         let flags = if access == Access::Write { 2 } else { 6 };
         let answer = self.call(|d| unsafe { raw::gthost_map(d, dom, gref, flags) })?;
-        Ok(Handle { serial: answer.value, key: answer.more as usize })
+        let (key, dom) = (answer.more as usize, answer.dom as u16);
+        Ok(Handle { serial: answer.value, key, run: answer.detail, dom })
     }
 
     pub fn unmap(&mut self, handle: Handle) -> Result<(), Refusal> {
         self.call(|d| unsafe { raw::gthost_unmap(d, handle) }).map(drop)
     }
 
-    /// What is mapped under a handle; `None` if it is no mapping of this domain.
-    pub fn mapping(&mut self, handle: Handle) -> Option<Mapping> {
+    /// What is mapped under a handle. `ABSENT` if it is no mapping of this domain.
+    pub fn mapping(&mut self, handle: Handle) -> Result<Mapping, Refusal> {
         let found = unsafe { raw::gthost_mapping(&mut self.raw, handle) };
-        judged(found.answer).ok().map(|_| found.mapping)
+        judged(found.answer).map(|_| found.mapping)
     }
 
     /// Comes to the access of a copy, and holds its pins until the guard is dropped.
@@ -278,25 +426,39 @@ impl Domain {
         self.call(|d| unsafe { raw::gthost_get_version(d, dom) }).map(|answer| answer.value)
     }
 
-    /// The record of its calls at this place, from 0 on.
-    pub fn record(&mut self, index: usize) -> Option<Record> {
-        let found = unsafe { raw::gthost_record(&mut self.raw, index) };
-        judged(found.answer).ok().map(|_| found.kept)
+    /// The record of its calls at this place, from 0 on. `ABSENT` past the last one.
+    pub fn record(&mut self, index: usize) -> Result<Record, Refusal> {
+        let raw::FoundRecord { answer, kept } = unsafe { raw::gthost_record(&mut self.raw, index) };
+        judged(answer)?;
+        Ok(Record { caller: kept.caller, call: called(&kept), reply: judged(kept.reply).map(drop) })
     }
 
-    /// From now on it keeps a record only while it has fewer than so many.
-    pub fn keep_at_most(&mut self, records: usize) {
-        let _ = self.call(|d| unsafe { raw::gthost_keep_at_most(d, records) });
+    /// Lets all records go, and keeps their room.
+    pub fn take_records(&mut self) -> Result<Taken, Refusal> {
+        let answer = self.call(|d| unsafe { raw::gthost_take_records(d) })?;
+        Ok(Taken { records: answer.value, lost: answer.more })
     }
 
-    /// Makes room for so many records; false if memory is refused.
-    pub fn reserve_records(&mut self, records: usize) -> bool {
-        self.call(|d| unsafe { raw::gthost_reserve_records(d, records) }).is_ok()
+    /// From now on it keeps a record only while it has fewer than `records`.
+    pub fn keep_at_most(&mut self, records: usize) -> Result<(), Refusal> {
+        self.call(|d| unsafe { raw::gthost_keep_at_most(d, records) }).map(drop)
     }
 
-    /// Leaves the run, and answers how many records were lost.
-    pub fn finish(mut self) -> u64 {
-        unsafe { raw::gthost_finish(&mut self.raw) }.value // and the drop that follows finds a handle of no domain
+    /// Makes room for this many more records, at most 2^24. `NO_MEMORY` for more, or if memory is refused.
+    pub fn reserve_records(&mut self, records: usize) -> Result<(), Refusal> {
+        self.call(|d| unsafe { raw::gthost_reserve_records(d, records) }).map(drop)
+    }
+
+    /// Gives up its mappings and closes its table, for the next guest in its place.
+    pub fn reset(&mut self) -> Remains {
+        let answer = unsafe { raw::gthost_reset(&mut self.raw) };
+        Remains { lost: answer.value, in_use: answer.more }
+    }
+
+    /// Closes its table, and leaves the run.
+    pub fn finish(mut self) -> Remains {
+        let answer = unsafe { raw::gthost_finish(&mut self.raw) }; // and the drop that follows finds no domain
+        Remains { lost: answer.value, in_use: answer.more }
     }
 }
 

@@ -82,12 +82,58 @@ pub struct EntryBytes {
     pub bytes: [u8; 16],
 }
 
+#[repr(C)]
+#[derive(Clone, Copy)]
+pub struct FoundEntry {
+    pub answer: Answer,
+    pub entry: EntryStatus,
+}
+
+#[repr(C)]
+#[derive(Clone, Copy)]
+pub struct EntryStatus {
+    pub kind: u32,
+    pub generation: u32,
+    pub reads: u16,
+    pub writes: u16,
+    pub to: u16,
+    pub read_only: u16,
+}
+
+#[repr(C)]
+#[derive(Clone, Copy)]
+pub struct Text {
+    pub len: usize,
+    pub bytes: [u8; 80],
+}
+
+#[repr(C)]
+#[derive(Clone, Copy)]
+pub struct RuleLine {
+    pub len: usize,
+    pub bytes: [u8; 240],
+}
+
+#[repr(C)]
+#[derive(Clone, Copy)]
+pub struct Type {
+    pub fault: Fault,
+    pub label: u32,
+}
+
 #[link(name = "gthost", kind = "static")]
 extern "C" {
     pub fn gthost_start_at(
-        settings: *const super::Settings, count: usize, first_gen: u32, policy: *const u8, policy_len: usize,
-        out: *mut Domain, out_count: usize,
+        settings: *const super::Settings, count: usize, first_gen: u32, run: u32, policy: *const u8,
+        policy_len: usize, out: *mut Domain, out_count: usize,
     ) -> Fault;
+    pub fn gthost_type_of(policy: *const u8, policy_len: usize, name: *const u8, name_len: usize) -> Type;
+    pub fn gthost_fault_text(kind: u32) -> Text;
+    pub fn gthost_rule_text(rule: u32) -> RuleLine;
+    pub fn gthost_version() -> u32;
+    pub fn gthost_reset(d: *mut Domain) -> Answer;
+    pub fn gthost_entry(d: *mut Domain, gref: u32) -> FoundEntry;
+    pub fn gthost_take_records(d: *mut Domain) -> Answer;
     pub fn gthost_finish(d: *mut Domain) -> Answer;
     pub fn gthost_grant_page(d: *mut Domain, gref: u32, to: u16, frame: u64, ro: u32) -> Answer;
     pub fn gthost_grant_sub(d: *mut Domain, gref: u32, to: u16, frame: u64, off: u16, len: u16, ro: u32) -> Answer;

@@ -1,10 +1,10 @@
-use gthost::{start, Access, Domain, Entry, Facts, Fault, Settings, Side};
+use gthost::{rule_text, start, type_of, version, Access, Call, Domain, Entry, Facts, Fault, Kind, Rule, Settings, Side};
 
 const POLICY: &str = "type a_t; allow a_t a_t:grant { map_read map_write unmap copy query };";
 
 fn two() -> (Domain, Domain) {
     let domain = |id| Settings { id, label: 0, frames: 8, table_frames: 1, version: 1 };
-    let mut all = start(&[domain(1), domain(2)], 0, POLICY).expect("two domains");
+    let mut all = start(&[domain(1), domain(2)], 0, 0, POLICY).expect("two domains");
     let second = all.pop().expect("the second");
     (all.pop().expect("the first"), second)
 }
@@ -12,9 +12,13 @@ fn two() -> (Domain, Domain) {
 #[test]
 fn a_fault_has_its_line() {
     let settings = [Settings { id: 1, label: 0, frames: 8, table_frames: 1, version: 1 }];
-    let fault = start(&settings, 0, "type a_t;\nallow a_t b_t:grant copy;").err();
+    let fault = start(&settings, 0, 0, "type a_t;\nallow a_t b_t:grant copy;").err();
     assert_eq!(fault, Some(Fault::Policy { kind: 4, line: 2 }));
-    assert_eq!(start(&[], 0, POLICY).err(), Some(Fault::Config { kind: 10, dom: 0 }));
+    assert_eq!(fault.unwrap().to_string(), "line 2 of the policy: unknown name");
+    assert_eq!(start(&[], 0, 0, POLICY).err(), Some(Fault::Config { kind: 10, dom: 0 }));
+    let past = [Settings { id: 1, label: 1, frames: 8, table_frames: 1, version: 1 }];
+    assert_eq!(start(&past, 0, 0, POLICY).unwrap_err(), Fault::Config { kind: 19, dom: 1 });
+    assert_eq!((type_of(POLICY, "a_t"), type_of(POLICY, "b_t").is_err()), (Ok(0), true));
 }
 
 #[test]
@@ -22,22 +26,26 @@ fn a_page_in_use_is_not_revoked() {
     let (mut front, mut back) = two();
     let page = Entry::Page { to: 2, frame: 5, read_only: true };
     front.grant(7, page).unwrap();
-    assert_eq!(front.grant(7, page).unwrap_err().rule, 20);
+    assert_eq!(front.grant(7, page).unwrap_err().rule, Rule::N20);
     let refused = back.map(1, 7, Access::Write).unwrap_err();
-    assert_eq!((refused.rule, refused.status), (13, -1));
+    assert_eq!((refused.rule, refused.status), (Rule::N13, -1));
     assert!(matches!(refused.facts, Facts::Entry { dom: 1, gref: 7, .. }));
     let handle = back.map(1, 7, Access::Read).unwrap();
     let mapping = back.mapping(handle).unwrap();
     assert_eq!((mapping.owner, mapping.frame, mapping.gref, mapping.writes()), (1, 5, 7, false));
     assert_eq!(front.revoke(7).unwrap_err().to_string(), "N19 -1");
     back.unmap(handle).unwrap();
-    assert_eq!(back.unmap(handle).unwrap_err().rule, 6);
-    assert!(back.mapping(handle).is_none());
+    assert_eq!(back.unmap(handle).unwrap_err().rule, Rule::N6);
+    assert_eq!(back.mapping(handle).unwrap_err().to_string(), "ABSENT");
     front.revoke(7).unwrap();
     assert_eq!(back.query_size(1).unwrap().frames, 1);
-    assert_eq!(back.record(4).unwrap().call, 5);
-    assert!(back.record(5).is_none());
-    assert_eq!(back.finish(), 0);
+    let told = back.record(4).unwrap();
+    assert_eq!((told.caller, told.call, told.reply), (2, Call::QuerySize { dom: 1 }, Ok(())));
+    assert_eq!(back.record(5).unwrap_err().rule, Rule::ABSENT);
+    let taken = back.take_records().unwrap();
+    assert_eq!((taken.records, taken.lost), (5, 0));
+    assert_eq!(back.reserve_records(usize::MAX).unwrap_err().rule, Rule::NO_MEMORY);
+    assert_eq!((back.finish().lost, format!("{front:?}").as_str()), (0, "Domain { .. }"));
 }
 
 #[test]
@@ -49,10 +57,10 @@ fn a_copy_holds_its_pin_until_it_is_dropped() {
     let places = copying.places();
     assert_eq!((places.from.owner, places.from.frame, places.from.off), (2, 1, 0));
     assert_eq!((places.to.owner, places.to.frame, places.to.off, places.len), (1, 4, 100, 64));
-    assert_eq!(front.revoke(3).unwrap_err().rule, 19);
+    assert_eq!(front.revoke(3).unwrap_err().rule, Rule::N19);
     drop(copying);
     front.revoke(3).unwrap();
-    assert_eq!(back.copy(own, theirs, 4000).err().unwrap().rule, 3);
+    assert_eq!(back.copy(own, theirs, 4000).err().unwrap().rule, Rule::N3);
 }
 
 #[test]
@@ -64,4 +72,28 @@ fn a_domain_that_is_dropped_gives_its_pins_back() {
     });
     other.join().unwrap();
     front.revoke(3).unwrap();
+}
+
+#[test]
+fn a_guest_that_leaves_is_mapped_no_more() {
+    let (mut front, mut back) = two();
+    front.grant(3, Entry::Page { to: 2, frame: 4, read_only: false }).unwrap();
+    front.grant(4, Entry::Page { to: 2, frame: 5, read_only: false }).unwrap();
+    let handle = back.map(1, 3, Access::Write).unwrap();
+    let entry = front.entry(3).unwrap();
+    assert_eq!((entry.kind, entry.reads, entry.writes, entry.to, entry.read_only), (Kind::Page, 0, 1, 2, false));
+    assert_eq!(front.entry(512).unwrap_err().rule, Rule::ABSENT);
+    assert_eq!(front.reset().in_use, 1);
+    assert_eq!(back.map(1, 4, Access::Read).unwrap_err().rule, Rule::N10);
+    assert_eq!(front.unmap(handle).unwrap_err().rule, Rule::N6);
+    back.unmap(handle).unwrap();
+    assert_eq!(front.entry(3).unwrap().writes, 0);
+    assert_eq!(front.finish().in_use, 0);
+}
+
+#[test]
+fn rules_have_words() {
+    assert!(rule_text(Rule::N19).starts_with("N19 -1 GNTST_general_error: "));
+    assert_eq!((Rule::N7.to_string(), Rule::BUSY.number()), ("N7".to_string(), 257));
+    assert_eq!(version().0, 1);
 }

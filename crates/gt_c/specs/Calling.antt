@@ -1,16 +1,12 @@
 -- What an export answers, of the call that it made.
-use Rattle.std.specs.Prelude.{◌≡◌, ◌≤◌, ◌⊎◌, ℕ, Bool, Option, Some, None, IsSome, Result, Ok, Err, OnOk, OnErr}
-use Rattle.gt_c.specs.Prelude.{GrantRef, DomId, Memory, Size, TypeId, Perms, Denial, Table, looks_up, Hypercall, Kept}
-use Rattle.gt_c.specs.Prelude.{Tells, Verdict, Mapped, Request, Name, Domain, Left, Answered, AnswersQuietly}
-use Rattle.gt_c.specs.Prelude.{AnswersTold, HasLeft, KeepsPinned}
+use Rattle.std.specs.Prelude.{◌≡◌, ◌≤◌, ◌⊎◌, ℕ, Option, Some, None, IsSome, Result, Ok, Err, OnOk, OnErr}
+use Rattle.gt_c.specs.Prelude.{GrantRef, DomId, Memory, Size, Denial, Table, may, Hypercall, Kept}
+use Rattle.gt_c.specs.Prelude.{HasNone, Tells, Verdict, Mapped, Request, Name, Domain, Answered, AnswersQuietly}
+use Rattle.gt_c.specs.Prelude.{AnswersTold, KeepsPinned, Leaves, Remains, Resets, taken_of}
 use Rattle.gt_c.specs.Prelude.{MapAnswered, mapping_reply, subject_of, told_of, verdict_of, Removes, encoded}
 use Rattle.gt_c.specs.Prelude.{EndsAccess}
 use Rattle.gt_c.specs.Prelude.{Seated, StaysIdle, Answer, Outcome, Here}
 use Rattle.gt_seat.specs.declared.answer.Outcome.TheVariants as outcomes
-
--- whose type may do what to whose, in a compiled policy
-abbrev pub may : Table → TypeId → TypeId → Perms → Bool
-may table source target perm = looks_up table source.0 target.0 perm
 
 -- the handle was not taken, stays as it was, and the answer says why: it has no domain, or one that is in a copy
 abbrev pub TurnedAway : Option Here → Option Here → Answer → Type 0
@@ -36,14 +32,19 @@ pub record MadeOn (before after : Option Here) (Holds : Here → Here → Type 0
 abbrev pub CallsGuest : Option Here → Option Here → Answer → (Here → Here → Type 0) → Type 0
 CallsGuest before after answer Holds = TurnedAway before after answer ⊎ MadeOn before after Holds
 
+-- the same of a call that tells more than its answer: turned away, it tells nothing
+abbrev pub CallsTelling : Option Here → Option Here → Answer → Type 0 → (Here → Here → Type 0) → Type 0
+CallsTelling before after answer TellsNothing Holds =
+    (TurnedAway before after answer × TellsNothing) ⊎ MadeOn before after Holds
+
 -- the outcomes of a call without a value, and of calls with one
 abbrev pub outcome : Result (Unit {0}) Denial → Outcome
 outcome (Ok done) = outcomes.Done
 outcome (Err denial) = outcomes.Denied denial
 
-abbrev pub outcome_mapped : Result Name Denial → Outcome
-outcome_mapped (Ok handle) = outcomes.Mapped handle
-outcome_mapped (Err denial) = outcomes.Denied denial
+abbrev pub outcome_mapped : DomId → ℕ → Result Name Denial → Outcome
+outcome_mapped dom run (Ok handle) = outcomes.Mapped (record { handle = handle; dom = dom; run = run })
+outcome_mapped dom run (Err denial) = outcomes.Denied denial
 
 abbrev pub outcome_frames : Result ℕ Denial → Outcome
 outcome_frames (Ok frames) = outcomes.Frames frames
@@ -81,10 +82,10 @@ SaysTold said verdict request call answer d e =
 abbrev pub map_told : Domain → Hypercall → Result Name Denial → Kept
 map_told d call r = record { dom = d.seat.dom; call = call; reply = mapping_reply r }
 
--- the same of a map, whose mapping is kept
+-- the same of a map, whose mapping is kept, and named by its domain and run
 abbrev pub SaysMapped : Request → Hypercall → Answer → Here → Here → Type 0
 SaysMapped request call answer d e =
-    SaysAs outcome_mapped (λ r. MapAnswered may d.guest.monitor d.guest.domain request r e.guest.domain
+    SaysAs (outcome_mapped d.guest.domain.seat.dom d.run) (λ r. MapAnswered may d.guest.monitor d.guest.domain request r e.guest.domain
     × Tells d.guest.domain.trail (map_told d.guest.domain call r) e.guest.domain.trail) answer d e
 
 -- the same of an unmap, whose mapping is gone
@@ -122,25 +123,46 @@ pub record Reserves (records : ℕ) (answer : Answer) (d e : Here) : Type 0 wher
 abbrev pub Settles : Seated Table → Seated Table → Type 0
 Settles s t = (((s.copying ≡ None) × (t ≡ s))) ⊎ EndsAccess s t
 
--- the domain left the run, after the end of its copy if it was in one, and so many of its records were lost
-pub record LeavesGuest (s : Seated Table) (lost : ℕ) : Type 0 where
+-- the domain left the run, after the end of its copy if it was in one, and this remains
+pub record LeavesGuest (s : Seated Table) (remains : Remains) : Type 0 where
   pub settled : Seated Table
   pub settles : Settles s settled
-  pub left : Left
-  pub leaves : HasLeft settled.monitor.words.layout settled.domain left
-  pub lost_is : lost ≡ left.trail.lost
+  pub leaves : Leaves may settled.monitor settled.domain remains
 
--- the same, and the answer encodes how many records were lost
+-- the same, and the answer encodes what remains
 pub record LeavesWith (s : Seated Table) (answer : Answer) : Type 0 where
-  pub lost : ℕ
-  pub encodes : answer ≡ encoded (outcomes.Lost lost)
-  pub leaves : LeavesGuest s lost
+  pub remains : Remains
+  pub encodes : answer ≡ encoded (outcomes.Left remains)
+  pub leaves : LeavesGuest s remains
 
--- the domain of a handle left, and the answer encodes how many of its records were lost; or the handle had none, and
--- the answer says so
+-- the domain of a handle left, and the answer encodes what remains; or the handle had none, and the answer says so
 abbrev pub Finishes : Answer → Option Here → Option Here → Type 0
 Finishes answer None after = (after ≡ None) × (answer ≡ encoded outcomes.NoDomain)
 Finishes answer (Some d) after = (after ≡ None) × LeavesWith d.guest answer
+
+-- a domain is made ready for the next guest in its place, after the end of its copy if it was in one: it has no copy
+-- and no mapping, each of its entries was closed, and the answer encodes what remains
+pub record MakesReady (s t : Seated Table) (answer : Answer) : Type 0 where
+  pub settled : Seated Table
+  pub settles : Settles s settled
+  pub remains : Remains
+  pub encodes : answer ≡ encoded (outcomes.Left remains)
+  pub stays : StaysIdle settled t
+  pub resets : Resets may settled.monitor settled.domain remains.in_use t.domain
+  pub lost : remains.lost ≡ settled.domain.trail.lost
+
+-- the domain of a handle was made ready; or the handle had none, and the answer says so
+abbrev pub ResetsGuest : Answer → Option Here → Option Here → Type 0
+ResetsGuest answer None after = (after ≡ None) × (answer ≡ encoded outcomes.NoDomain)
+ResetsGuest answer (Some d) None = ⊥
+ResetsGuest answer (Some d) (Some e) = (e.run ≡ d.run) × MakesReady d.guest e.guest answer
+
+-- the records of a domain went, how many they were and how many were lost before is encoded, and nothing else changed
+abbrev pub TakesAll : Answer → Here → Here → Type 0
+TakesAll answer d e =
+    (answer ≡ encoded (outcomes.Taken (taken_of d.guest.domain.trail))) × StaysIdle d.guest e.guest
+    × HasNone e.guest.domain.trail × (e.guest.domain.trail.most ≡ d.guest.domain.trail.most)
+    × (e.guest.domain ≡ record d.guest.domain { trail = e.guest.domain.trail })
 
 -- the reference of this number, and the domain
 abbrev pub ref_at : ℕ → GrantRef

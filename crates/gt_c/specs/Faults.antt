@@ -23,4 +23,6 @@ fault_bytes n =
     if n == 16 then codes "no such version" else
     if n == 17 then codes "first generation out of range" else
     if n == 18 then codes "a pointer is null" else
+    if n == 19 then codes "label past the types of the policy" else
+    if n == 20 then codes "no such type" else
     codes "no such fault"

@@ -5,4 +5,6 @@ pub mod Owning
 pub mod Pointing
 pub mod Prelude
 pub mod Promises
+pub mod Rules
+pub mod Starting
 pub mod Telling

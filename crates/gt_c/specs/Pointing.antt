@@ -17,9 +17,14 @@ pointed_at R null_ptr (Some x) = ffalse
 pointed_at R (block_ptr b o) None = ffalse
 pointed_at R (block_ptr b o) (Some x) = lies_at R full_share (block_ptr b o) x
 
--- a call promises this of the domain of the handle behind a pointer, before and after; a null pointer is answered by
--- its name
-abbrev pub PointsTo : Option Handle → Option Handle → Answer → (Option Here → Option Here → Type 0) → Type 0
-PointsTo None after answer Promises = (after ≡ None) × (answer ≡ encoded outcomes.NullPointer)
-PointsTo (Some h) None answer Promises = ⊥
-PointsTo (Some h) (Some k) answer Promises = Promises h.held.value k.held.value
+-- the answer to a null pointer
+abbrev pub nowhere : Answer
+nowhere = encoded outcomes.NullPointer
+
+-- a call promises this of the domain of the handle behind a pointer, before and after; of a null pointer it says
+-- that, and nothing else
+abbrev pub PointsTo : {T : Type 0} → Option Handle → Option Handle → T → T → (Option Here → Option Here → Type 0)
+    → Type 0
+PointsTo None after said null Promises = (after ≡ None) × (said ≡ null)
+PointsTo (Some h) None said null Promises = ⊥
+PointsTo (Some h) (Some k) said null Promises = Promises h.held.value k.held.value

@@ -10,13 +10,15 @@ use Rattle.gt_c.specs.declared.calls.MapHandle.{MapHandle}
 use Rattle.gt_c.specs.declared.copies.BegunTold.{BegunTold}
 use Rattle.gt_c.specs.declared.copies.CopySettings.{CopySettings}
 use Rattle.gt_c.specs.declared.here.Here.{Here}
+use Rattle.gt_c.specs.declared.telling.EntryTold.{EntryTold}
 use Rattle.gt_c.specs.declared.telling.MappingTold.{MappingTold}
 use Rattle.gt_c.specs.declared.telling.RecordTold.{RecordTold}
-use Rattle.gt_c.specs.Asking.{name_of_handle, page, spelled, sub, via}
-use Rattle.gt_c.specs.Calling.{CallsGuest, KeepsAtMost, Reserves, SaysDone, SaysMapped, SaysTold, SaysUnmapped, ref_at}
-use Rattle.gt_c.specs.Calling.{dom_of}
+use Rattle.gt_c.specs.Asking.{handle_named, page, spelled, sub, via}
+use Rattle.gt_c.specs.Calling.{CallsGuest, CallsTelling, KeepsAtMost, Reserves, SaysDone, SaysMapped, SaysTold}
+use Rattle.gt_c.specs.Calling.{SaysUnmapped, TakesAll, dom_of, ref_at}
 use Rattle.gt_c.specs.Calling.{outcome, outcome_frames, outcome_size, outcome_version}
-use Rattle.gt_c.specs.Telling.{SaysBegun, SaysMapping, SaysRecord, copy_asked}
+use Rattle.gt_c.specs.Telling.{SaysBegun, SaysEntry, SaysMapping, SaysRecord, copy_asked, no_entry, no_mapping}
+use Rattle.gt_c.specs.Telling.{no_places, no_record}
 
 -- a page of its own is granted
 abbrev pub GrantsPage : ℕ → ℕ → ℕ → ℕ → Answer → Option Here → Option Here → Type 0
@@ -61,8 +63,8 @@ Maps dom gref flags answer before after =
 -- a mapping is given up
 abbrev pub Unmaps : MapHandle → Answer → Option Here → Option Here → Type 0
 Unmaps name answer before after =
-    CallsGuest before after answer
-    (SaysUnmapped (requests.Unmap (name_of_handle name)) calls.Unmap (name_of_handle name) answer)
+    CallsGuest before after answer (λ d e.
+    SaysUnmapped (requests.Unmap (handle_named d name)) calls.Unmap (handle_named d name) answer d e)
 
 -- the table gets a version, or frames
 abbrev pub SetsVersion : ℕ → Answer → Option Here → Option Here → Type 0
@@ -89,10 +91,21 @@ AsksVersion dom answer before after =
 -- a mapping, or a record, is told
 abbrev pub TellsMapping : MapHandle → MappingTold → Option Here → Option Here → Type 0
 TellsMapping name told before after =
-    CallsGuest before after told.answer (SaysMapping (name_of_handle name) told.mapping told.answer)
+    CallsTelling before after told.answer (told.mapping ≡ no_mapping)
+    (λ d e. SaysMapping (handle_named d name) told.mapping told.answer d e)
 
 abbrev pub TellsRecord : ℕ → RecordTold → Option Here → Option Here → Type 0
-TellsRecord index told before after = CallsGuest before after told.answer (SaysRecord index told.kept told.answer)
+TellsRecord index told before after =
+    CallsTelling before after told.answer (told.kept ≡ no_record) (SaysRecord index told.kept told.answer)
+
+-- an entry of the domain's own is told
+abbrev pub TellsEntry : ℕ → EntryTold → Option Here → Option Here → Type 0
+TellsEntry gref told before after =
+    CallsTelling before after told.answer (told.entry ≡ no_entry) (SaysEntry (ref_at gref) told.entry told.answer)
+
+-- the records are taken
+abbrev pub TakesRecords : Answer → Option Here → Option Here → Type 0
+TakesRecords answer before after = CallsGuest before after answer (TakesAll answer)
 
 -- the records are bounded, or room is made for them
 abbrev pub Bounds : ℕ → Answer → Option Here → Option Here → Type 0
@@ -104,4 +117,5 @@ MakesRoom records answer before after = CallsGuest before after answer (Reserves
 -- a copy begins
 abbrev pub BeginsCopy : CopySettings → BegunTold → Option Here → Option Here → Type 0
 BeginsCopy copy told before after =
-    CallsGuest before after told.answer (SaysBegun (copy_asked copy) told.places told.answer)
+    CallsTelling before after told.answer (told.places ≡ no_places)
+    (SaysBegun (copy_asked copy) told.places told.answer)

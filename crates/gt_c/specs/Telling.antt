@@ -1,11 +1,16 @@
 -- What exports tell in layouts of C: the places of a copy, a mapping, a record.
-use Rattle.std.specs.Prelude.{◌≡◌, ◌⊎◌, ◌≤◌, ℕ, List, Option, Some, None, Result, Ok, Err}
+use Rattle.std.specs.Prelude.{◌≡◌, ◌⊎◌, ℕ, Bool, true, false, Option, Some, None, Result, Ok, Err}
 use Rattle.gt_c.specs.Prelude.{slice_get, Dir, Read, Write, Denial, Kept, Spot, Mapped, CopyArgs, End, frame_of, Name}
 use Rattle.gt_c.specs.Prelude.{value_of, encoded, no_end, record_kept, BeginsAccess, EndsAccess, Answer, Outcome}
-use Rattle.gt_c.specs.Prelude.{Places, CopyEnd}
-use Rattle.gt_c.specs.Prelude.{Record, CopySettings, PlaceTold, PlacesTold, Mapping, Fault, Handle, Here}
+use Rattle.gt_c.specs.Prelude.{Places, CopyEnd, may, Control, Kind, EntryStatus, GrantRef, LooksAtOwn, StaysIdle}
+use Rattle.gt_entry.specs.declared.control.Kind.TheVariants.{Invalid, Page, Sub, Via}
+use Rattle.gt_c.specs.Prelude.{Record, CopySettings, PlaceTold, PlacesTold, Mapping, Here}
 use Rattle.gt_seat.specs.declared.answer.Outcome.TheVariants as outcomes
-use Rattle.gt_c.specs.Calling.{may}
+use Rattle.gt_c.specs.declared.copies.BegunTold.{BegunTold}
+use Rattle.gt_c.specs.declared.telling.EntryTold.{EntryTold}
+use Rattle.gt_c.specs.declared.telling.MappingTold.{MappingTold}
+use Rattle.gt_c.specs.declared.telling.RecordTold.{RecordTold}
+use Rattle.gt_c.specs.Pointing.{nowhere}
 
 -- an end of a copy as C asks it
 abbrev pub end_asked : CopyEnd → End
@@ -104,10 +109,52 @@ SaysRecord index kept answer d e =
     (answer ≡ encoded (outcome_present (slice_get d.guest.domain.trail.records index)))
     × (kept ≡ kept_record (slice_get d.guest.domain.trail.records index)) × (e ≡ d)
 
--- nothing is at fault
-abbrev pub no_fault : Fault
-no_fault = record { kind = 0; line = 0; dom = 0 }
+-- the number of a kind of entry
+abbrev pub kind_told : Kind → ℕ
+kind_told Invalid = 0
+kind_told Page = 1
+kind_told Sub = 2
+kind_told Via = 3
 
--- a run started; or it did not, a fault is told, and the handles are as they were
-abbrev pub StartsWith : Fault → List Handle → List Handle → Type 0
-StartsWith fault old new = (fault ≡ no_fault) ⊎ ((1 ≤ fault.kind) × (new ≡ old))
+-- 1 for an entry that only lets read, else 0
+abbrev pub read_only_told : Bool → ℕ
+read_only_told true = 1
+read_only_told false = 0
+
+-- no entry
+abbrev pub no_entry : EntryStatus
+no_entry = record { kind = 0; generation = 0; reads = 0; writes = 0; to = 0; read_only = 0 }
+
+-- an entry as C reads it
+abbrev pub entry_told : Option Control → EntryStatus
+entry_told None = no_entry
+entry_told (Some c) =
+    record {
+      kind = kind_told c.kind;
+      generation = c.generation;
+      reads = c.reads;
+      writes = c.writes;
+      to = c.dom.0;
+      read_only = read_only_told c.ro;
+    }
+
+-- a look at this entry is told, if the domain's table has it
+pub record SaysEntry (gref : GrantRef) (entry : EntryStatus) (answer : Answer) (d e : Here) : Type 0 where
+  pub found : Option Control
+  pub encodes : answer ≡ encoded (outcome_present found)
+  pub told : entry ≡ entry_told found
+  pub stays : StaysIdle d.guest e.guest
+  pub looks : LooksAtOwn d.guest.monitor.words.layout d.guest.domain gref found e.guest.domain
+
+-- what is told of a null pointer
+abbrev pub mapping_nowhere : MappingTold
+mapping_nowhere = record { answer = nowhere; mapping = no_mapping }
+
+abbrev pub entry_nowhere : EntryTold
+entry_nowhere = record { answer = nowhere; entry = no_entry }
+
+abbrev pub record_nowhere : RecordTold
+record_nowhere = record { answer = nowhere; kept = no_record }
+
+abbrev pub begun_nowhere : BegunTold
+begun_nowhere = record { answer = nowhere; places = no_places }

@@ -1,152 +1,102 @@
 //! How a run starts, and how a domain leaves it.
-ghost use Rattle.std.specs.Prelude.{◌≡◌, ◌≤◌, IfErr};
-ghost use Rattle.gt_c.specs.Calling.{Finishes, LeavesGuest, LeavesWith};
-ghost use Rattle.gt_c.specs.Telling.{StartsWith};
+ghost use Rattle.std.specs.Prelude.{◌≡◌, All, length, map, IfOk, None};
+ghost use Rattle.std.specs.List.{list_any};
+ghost use Rattle.gt_c.specs.Calling.{Finishes, LeavesWith, MakesReady, ResetsGuest, Settles};
+ghost use Rattle.gt_c.specs.Starting.{StartsWith, TellsType, domain_of_handle, here_of, holding};
 
-use crate::faults::{Fault, HANDLES, MEMORY, NONE, config_fault, fault_at, policy_fault};
 use crate::handle::Handle;
 use crate::here::Here;
 use gt_allow::AllowTable;
-use gt_policy::Policy;
-use gt_seat::{Answer, Guest, Outcome, start};
-use gt_types::{Config, DomId, DomainConfig, TypeId};
+use gt_begin::{DomainSettings, Fault, HANDLES, MEMORY, NONE, begin, type_of};
+use gt_seat::{Answer, Guest, Outcome};
 use std::alloc::{AllocError, Global};
 
-/// A domain of a run to start.
-#[repr(C)]
-#[derive(Clone, Copy)]
-pub struct DomainSettings {
-    pub id: u16,
-    pub label: u16,
-    pub frames: u32,
-    pub table_frames: u32,
-    pub version: u32,
-}
-
-fn configured(
+// A box for each guest of the run of this number, in order.
+fn boxed(
     alloc: Global,
-    settings: &[DomainSettings],
-    first_gen: u32,
-) -> Result<Config, AllocError> {
-    let mut domains = Vec::new(alloc);
-    for one in settings {
-        domains.push(DomainConfig {
-            id: DomId(one.id),
-            label: TypeId(one.label),
-            frames: one.frames,
-            table_frames: one.table_frames,
-            version: one.version,
-        })?;
-    }
-    Ok(Config { domains, first_gen })
-}
-
-fn rights(alloc: Global, policy: &[u8]) -> Result<AllowTable, Fault>
-    ensures { IfErr result (λ fault. 1 ≤ fault.kind) }
+    run: u32,
+    guests: Vec<Guest<AllowTable>>,
+) -> Result<Vec<Box<Here>>, AllocError>
+    ensures { IfOk result (λ v. map (λ b. b.value) v.items ≡ map (here_of run) guests.items) }
 {
-    let Ok(text) = str::from_utf8(policy) else {
-        return Err(fault_at(9, 0, DomId(0)));
-    };
-    let policy = match Policy::parse(alloc, text) {
-        Ok(policy) => policy,
-        Err(refused) => return Err(policy_fault(refused)),
-    };
-    match AllowTable::compile(alloc, &policy) {
-        Ok(table) => Ok(table),
-        Err(_) => Err(MEMORY),
-    }
-}
-
-fn boxed(alloc: Global, guests: Vec<Guest<AllowTable>>) -> Result<Vec<Box<Here>>, AllocError> {
     let mut all = Vec::new(alloc);
     for guest in guests {
-        let here = Box::new(alloc, Here { guest })?;
+        let here = Box::new(alloc, Here { guest, run })?;
         all.push(here)?;
     }
     Ok(all)
 }
 
-fn begin(
-    alloc: Global,
-    settings: &[DomainSettings],
-    first_gen: u32,
-    policy: &[u8],
-) -> Result<Vec<Box<Here>>, Fault>
-    ensures { IfErr result (λ fault. 1 ≤ fault.kind) }
+fn is_any_live(handles: &[Handle]) -> bool
+    ensures { result ≡ list_any (λ h. h.is_live) handles.now }
 {
-    let rights = match rights(alloc, policy) {
-        Ok(rights) => rights,
-        Err(fault) => return Err(fault),
-    };
-    let Ok(config) = configured(alloc, settings, first_gen) else {
-        return Err(MEMORY);
-    };
-    let guests = match start(alloc, config, rights) {
-        Ok(guests) => guests,
-        Err(refused) => return Err(config_fault(refused)),
-    };
-    match boxed(alloc, guests) {
-        Ok(all) => Ok(all),
-        Err(_) => Err(MEMORY),
-    }
+    handles.iter().any(|handle| handle.is_live)
 }
 
-// Puts a domain into each handle of none.
-fn hand_out(alloc: Global, all: Vec<Box<Here>>, out: &mut [Handle]) {
-    let mut rest = all.into_iter();
-    for handle in out.iter_mut() {
-        if let Some(here) = rest.next() {
-            drop(handle.take(alloc));
-            handle.put(here);
-        }
+// Puts a domain into each handle, in order.
+fn hand_out(all: Vec<Box<Here>>, out: &mut [Handle])
+    requires idle { All (λ h. domain_of_handle h ≡ None) out.old }
+    requires count { length all.items ≡ length out.old }
+    ensures { map domain_of_handle out.new ≡ map (λ b. holding b.value) all.items }
+{
+    let mut rest = all;
+    'handles: for place in 0..out.len() {
+        let here = rest.remove(0);
+        out[place].put(here);
     }
 }
 
 /// Starts a run of these domains, in order, under a policy's text. Each handle of `out` has to be one of none, and
-/// there have to be as many as domains. Answers no fault if the run started; otherwise why not, and `out` is as it was.
+/// there have to be as many as domains: the handle at each place gets the guest of the domain at that place. The names
+/// of the run's mappings carry the number `run`. Answers no fault if the run started; otherwise why not, and `out` is as
+/// it was.
 #[unsafe(no_mangle)]
 pub extern "C" fn gthost_start_at(
     alloc: Global,
     settings: &[DomainSettings],
     first_gen: u32,
+    run: u32,
     policy: &[u8],
     out: &mut [Handle],
 ) -> Fault
-    ensures { StartsWith result out.old out.new }
+    ensures { StartsWith settings.now first_gen run policy.now result out.old out.new }
 {
-    if out.len() != settings.len() || out.iter().any(|handle| handle.is_live) {
+    if out.len() != settings.len() || is_any_live(out) {
         return HANDLES;
     }
-    match begin(alloc, settings, first_gen, policy) {
-        Ok(all) => {
-            hand_out(alloc, all, out);
-            NONE
-        }
-        Err(refused) => refused,
-    }
+    let guests = match begin(alloc, settings, first_gen, policy) {
+        Ok(guests) => guests,
+        Err(fault) => return fault,
+    };
+    let Ok(all) = boxed(alloc, run, guests) else {
+        return MEMORY;
+    };
+    hand_out(all, out);
+    NONE
 }
 
-// The domain leaves, after the end of its copy if it is in one. Answers how many records were lost.
-fn leave(mut guest: Guest<AllowTable>) -> u64
-    ensures { LeavesGuest guest result }
+// Ends the copy of a guest, if it is in one.
+fn settle(guest: &mut Guest<AllowTable>)
+    ensures settled { Settles guest.old guest.new }
+    ensures idle { guest.new.copying ≡ None }
 {
     if guest.is_copying() {
         guest.copy_end();
-        return guest.finish().lost();
     }
-    guest.finish().lost()
 }
 
-// The same, and how many records were lost as an answer.
+// The domain leaves, after the end of its copy if it is in one.
 fn left(guest: Guest<AllowTable>) -> Answer
     ensures { LeavesWith guest result }
 {
-    let lost = leave(guest);
-    Answer::of(Outcome::Lost(lost))
+    let mut guest = guest;
+    settle(&mut guest);
+    let remains = guest.finish();
+    Answer::of(Outcome::Left(remains))
 }
 
-/// The domain leaves its run: its mappings and their pins are given up, and the handle is one of none. The last one
-/// frees the monitor. Answers how many records were lost.
+/// The domain leaves its run: its mappings and their pins are given up, its entries are withdrawn, and the handle is one
+/// of none. The last one frees the monitor. Answers how many records were lost, and how many entries are still in use.
 pub(crate) fn finish_on(alloc: Global, domain: &mut Handle) -> Answer
     ensures { Finishes result domain.old.held.value domain.new.held.value }
 {
@@ -155,4 +105,48 @@ pub(crate) fn finish_on(alloc: Global, domain: &mut Handle) -> Answer
     };
     let here = Box::into_inner(here);
     left(here.guest)
+}
+
+// The same of a guest that stays, for the next one in its place.
+fn made_ready(guest: &mut Guest<AllowTable>) -> Answer
+    ensures { MakesReady guest.old guest.new result }
+{
+    settle(guest);
+    let remains = guest.reset();
+    Answer::of(Outcome::Left(remains))
+}
+
+/// The domain ends its copy, gives up its mappings and closes its table, for the next guest in its place. Answers how
+/// many records were lost, and how many entries are still in use.
+pub(crate) fn reset_on(alloc: Global, domain: &mut Handle) -> Answer
+    ensures { ResetsGuest result domain.old.held.value domain.new.held.value }
+{
+    let Some(mut here) = domain.take(alloc) else {
+        return Answer::of(Outcome::NoDomain);
+    };
+    let answer = made_ready(&mut here.guest);
+    domain.put(here);
+    answer
+}
+
+/// A type's label, or why it was not found.
+#[repr(C)]
+#[derive(Clone, Copy)]
+pub struct TypeTold {
+    pub fault: Fault,
+    pub label: u32,
+}
+
+/// The label of the type of this name in a policy's text: 0 beside a fault.
+#[unsafe(no_mangle)]
+pub extern "C" fn gthost_type_of(alloc: Global, policy: &[u8], name: &[u8]) -> TypeTold
+    ensures { TellsType policy.now name.now result }
+{
+    match type_of(alloc, policy, name) {
+        Ok(id) => TypeTold {
+            fault: NONE,
+            label: u32::from(id.0),
+        },
+        Err(fault) => TypeTold { fault, label: 0 },
+    }
 }

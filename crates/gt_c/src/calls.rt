@@ -2,7 +2,7 @@
 ghost use Rattle.std.specs.Prelude.{◌≡◌, IfOk, IfErr};
 ghost use Rattle.gt_seat.specs.Encoding.{encoded};
 ghost use Rattle.gt_seat.specs.declared.answer.Outcome.TheVariants as outcomes;
-ghost use Rattle.gt_c.specs.Asking.{page, spelled, sub, via};
+ghost use Rattle.gt_c.specs.Asking.{handle_named, page, spelled, sub, via};
 ghost use Rattle.gt_c.specs.Calling.{Enters, TurnedAway, outcome, outcome_frames, outcome_mapped, outcome_size};
 ghost use Rattle.gt_c.specs.Calling.{outcome_version};
 ghost use Rattle.gt_c.specs.Promises.{AsksSize, AsksVersion, DemotesEntry, GrantsBytes, GrantsPage, GrantsSub};
@@ -13,16 +13,38 @@ use crate::handle::Handle;
 use crate::here::Here;
 use gt_calls::Handle as Name;
 use gt_entry::Entry;
-use gt_seat::{Answer, Outcome};
+use gt_seat::{Answer, Name as Named, Outcome};
 use gt_types::{Denial, DomId, GrantRef, Size};
 use std::alloc::Global;
 
-/// The name of a mapping, which is given once.
+/// The name of a mapping: its handle, the number of its run, and the domain that has it.
 #[repr(C)]
 #[derive(Clone, Copy)]
 pub struct MapHandle {
     pub serial: u64,
     pub key: usize,
+    pub run: u32,
+    pub dom: u16,
+}
+
+// A handle that no mapping is ever given.
+const NO_HANDLE: Name = Name {
+    serial: u64::MAX,
+    key: usize::MAX,
+};
+
+// The handle that a name stands for in a call of this domain: that of no mapping, if it is a name of another domain or
+// of another run.
+pub(crate) fn handle_named(here: &Here, name: MapHandle) -> Name
+    ensures { result ≡ handle_named here.now name }
+{
+    if name.run != here.run || name.dom != here.guest.dom().0 {
+        return NO_HANDLE;
+    }
+    Name {
+        serial: name.serial,
+        key: name.key,
+    }
 }
 
 /// The bytes of an entry: 8 or 16. By any other `len` they are none.
@@ -78,11 +100,11 @@ fn done(answer: Result<(), Denial>) -> Outcome
 }
 
 #[inline(always)]
-fn mapped(answer: Result<Name, Denial>) -> Outcome
-    ensures { result ≡ outcome_mapped answer }
+fn mapped(answer: Result<Name, Denial>, dom: DomId, run: u32) -> Outcome
+    ensures { result ≡ outcome_mapped dom run answer }
 {
     match answer {
-        Ok(handle) => Outcome::Mapped(handle),
+        Ok(handle) => Outcome::Mapped(Named { handle, dom, run }),
         Err(denial) => Outcome::Denied(denial),
     }
 }
@@ -292,9 +314,10 @@ pub(crate) fn map_on(alloc: Global, domain: &mut Handle, dom: u16, gref: u32, fl
         Ok(here) => here,
         Err(turned_away) => return turned_away,
     };
+    let (caller, run) = (here.guest.dom(), here.run);
     let told = here.guest.map(DomId(dom), GrantRef(gref), flags);
     domain.put(here);
-    Answer::of(mapped(told))
+    Answer::of(mapped(told, caller, run))
 }
 
 /// Gives a mapping up.
@@ -305,11 +328,8 @@ pub(crate) fn unmap_on(alloc: Global, domain: &mut Handle, name: MapHandle) -> A
         Ok(here) => here,
         Err(turned_away) => return turned_away,
     };
-    let name = Name {
-        serial: name.serial,
-        key: name.key,
-    };
-    let told = here.guest.unmap(name);
+    let handle = handle_named(&here, name);
+    let told = here.guest.unmap(handle);
     domain.put(here);
     Answer::of(done(told))
 }

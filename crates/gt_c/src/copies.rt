@@ -1,10 +1,8 @@
 //! A copy in two halves, for a program that keeps the frames: its beginning and its end.
 ghost use Rattle.std.specs.Prelude.{◌≡◌};
-ghost use Rattle.gt_seat.specs.Encoding.{encoded};
-ghost use Rattle.gt_seat.specs.declared.answer.Outcome.TheVariants as outcomes;
 ghost use Rattle.gt_c.specs.Promises.{BeginsCopy};
-ghost use Rattle.gt_c.specs.Telling.{CopyEnds, copy_asked, end_asked, no_places, outcome_begun, place_told};
-ghost use Rattle.gt_c.specs.Telling.{places_told};
+ghost use Rattle.gt_c.specs.Telling.{CopyEnds, begun_nowhere, copy_asked, end_asked, no_places, outcome_begun};
+ghost use Rattle.gt_c.specs.Telling.{place_told, places_told};
 
 use crate::calls::{enter, nowhere};
 use crate::handle::Handle;
@@ -122,7 +120,7 @@ fn begun(answer: Result<Places, Denial>) -> Outcome
 
 // The answer to a null pointer.
 pub(crate) fn begun_nowhere() -> BegunTold
-    ensures { result.answer ≡ encoded outcomes.NullPointer }
+    ensures { result ≡ begun_nowhere }
 {
     BegunTold {
         answer: nowhere(),

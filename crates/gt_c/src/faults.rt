@@ -1,21 +1,6 @@
-//! Why a run did not start.
-ghost use Rattle.std.specs.Prelude.{◌≡◌, ◌≤◌, ◌<◌, ◌-◌, ◌++◌, length, replicate};
+//! Why a run did not start, in words.
+ghost use Rattle.std.specs.Prelude.{◌≡◌, ◌<◌, ◌-◌, ◌++◌, length, replicate};
 ghost use Rattle.gt_c.specs.Faults.{fault_bytes};
-
-use gt_policy::{PolicyFault, PolicyFaultKind};
-use gt_types::{ConfigFault, DomId, StartFault};
-
-/// Why a run did not start, and where the fault is.
-#[repr(C)]
-#[derive(Clone, Copy)]
-pub struct Fault {
-    /// 0: none. 1 memory; 2 the handles; 3 to 9 the policy; 10 to 17 the configuration; 18 a null pointer.
-    pub kind: u32,
-    /// The line of the policy that is at fault, from 1 on.
-    pub line: u32,
-    /// The domain that is at fault.
-    pub dom: u32,
-}
 
 /// A text of `len` bytes, and zeros after them.
 #[repr(C)]
@@ -23,69 +8,6 @@ pub struct Fault {
 pub struct FaultText {
     pub len: usize,
     pub bytes: [u8; 80],
-}
-
-pub(crate) fn fault_at(kind: u32, line: u32, dom: DomId) -> Fault
-    ensures { result ≡ record { kind = kind; line = line; dom = dom.0 } }
-{
-    Fault {
-        kind,
-        line,
-        dom: u32::from(dom.0),
-    }
-}
-
-// The run started.
-pub(crate) const NONE: Fault = Fault {
-    kind: 0,
-    line: 0,
-    dom: 0,
-};
-
-pub(crate) const MEMORY: Fault = Fault {
-    kind: 1,
-    line: 0,
-    dom: 0,
-};
-
-// The handles are not as many as the domains, or one of them has a domain.
-pub(crate) const HANDLES: Fault = Fault {
-    kind: 2,
-    line: 0,
-    dom: 0,
-};
-
-pub(crate) fn policy_fault(refused: PolicyFault) -> Fault
-    ensures { 1 ≤ result.kind }
-{
-    let nobody = DomId(0);
-    match refused.kind {
-        PolicyFaultKind::Syntax => fault_at(3, refused.line, nobody),
-        PolicyFaultKind::Unknown(_) => fault_at(4, refused.line, nobody),
-        PolicyFaultKind::Twice(_) => fault_at(5, refused.line, nobody),
-        PolicyFaultKind::Permission(_) => fault_at(6, refused.line, nobody),
-        PolicyFaultKind::Outside(_) => fault_at(7, refused.line, nobody),
-        PolicyFaultKind::Limit => fault_at(8, refused.line, nobody),
-        PolicyFaultKind::Memory => MEMORY,
-    }
-}
-
-pub(crate) fn config_fault(refused: StartFault) -> Fault
-    ensures { 1 ≤ result.kind }
-{
-    match refused {
-        StartFault::Memory => MEMORY,
-        StartFault::Config(config) => match config {
-            ConfigFault::NoDomains => fault_at(10, 0, DomId(0)),
-            ConfigFault::TooMany(id) => fault_at(11, 0, id),
-            ConfigFault::Id(id) => fault_at(12, 0, id),
-            ConfigFault::Repeated(id) => fault_at(13, 0, id),
-            ConfigFault::Frames(id) => fault_at(14, 0, id),
-            ConfigFault::TableFrames(id) => fault_at(15, 0, id),
-            ConfigFault::Version(id) => fault_at(16, 0, id),
-            ConfigFault::Generation => fault_at(17, 0, DomId(0)),
-        },
-    }
 }
 
 fn text_of(kind: u32) -> &'static str
@@ -112,6 +34,8 @@ fn text_of(kind: u32) -> &'static str
         16 => "no such version",
         17 => "first generation out of range",
         18 => "a pointer is null",
+        19 => "label past the types of the policy",
+        20 => "no such type",
         _ => "no such fault",
     }
 }

@@ -3,8 +3,9 @@
 use gt_allow::AllowTable;
 use gt_seat::Guest;
 
-/// A domain under the rights of a compiled policy.
+/// A domain under the rights of a compiled policy, and the number that its run was given.
 #[derive(Drop)]
 pub struct Here {
     pub guest: Guest<AllowTable>,
+    pub run: u32,
 }

@@ -21,6 +21,7 @@ mod handle;
 mod held;
 mod here;
 mod parts;
+mod rules;
 mod seam;
 mod telling;
 

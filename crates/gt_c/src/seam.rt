@@ -5,15 +5,15 @@ ghost use Rattle.std.specs.Borrow.{sem};
 ghost use denote.RawPtr.{count_of};
 ghost use Rattle.gt_c.specs.contracts.handle.Handle.{the_row as handle};
 ghost use Rattle.gt_c.specs.declared.handle.Handle.{Handle};
-ghost use Rattle.gt_c.specs.Calling.{Finishes};
-ghost use Rattle.gt_c.specs.Pointing.{PointsTo, pointed_at};
+ghost use Rattle.gt_c.specs.Calling.{Finishes, ResetsGuest};
+ghost use Rattle.gt_c.specs.Pointing.{PointsTo, nowhere, pointed_at};
 ghost use Rattle.gt_c.specs.Promises.{AsksSize, AsksVersion, BeginsCopy, Bounds, DemotesEntry, GrantsBytes, GrantsPage};
 ghost use Rattle.gt_c.specs.Promises.{GrantsSub, GrantsVia, MakesRoom, Maps, Promotes, RevokesEntry, SetsUp};
 ghost use Rattle.gt_c.specs.Promises.{SetsVersion};
-ghost use Rattle.gt_c.specs.Promises.{TellsMapping, TellsRecord, Unmaps, Withdraws};
-ghost use Rattle.gt_c.specs.Telling.{CopyEnds};
+ghost use Rattle.gt_c.specs.Promises.{TakesRecords, TellsEntry, TellsMapping, TellsRecord, Unmaps, Withdraws};
+ghost use Rattle.gt_c.specs.Telling.{CopyEnds, begun_nowhere, entry_nowhere, mapping_nowhere, record_nowhere};
 
-use crate::beginning::finish_on;
+use crate::beginning::{finish_on, reset_on};
 use crate::calls::{
     EntryBytes, MapHandle, demote_on, get_version_on, grant_bytes_on, grant_page_on, grant_sub_on,
     grant_via_on, map_on, nowhere, promote_on, query_size_on, revoke_on, set_version_on,
@@ -22,8 +22,8 @@ use crate::calls::{
 use crate::copies::{BegunTold, CopySettings, begun_nowhere, copy_begin_on, copy_end_on};
 use crate::handle::Handle;
 use crate::telling::{
-    MappingTold, RecordTold, keep_at_most_on, mapping_nowhere, mapping_on, record_nowhere,
-    record_on, reserve_records_on,
+    EntryTold, MappingTold, RecordTold, entry_nowhere, entry_on, keep_at_most_on, mapping_nowhere,
+    mapping_on, record_nowhere, record_on, reserve_records_on, take_records_on,
 };
 use gt_seat::Answer;
 use std::alloc::Global;
@@ -42,7 +42,7 @@ pub unsafe extern "C" fn gthost_grant_page(
     ghost was: { Option Handle }
     requires* { sem 𝓛 (pointed_at handle domain was) ∗ ⌜ count_of domain < 2 ^ 63 ⌝ }
     ensures* { ∃ₛ (λ (is : Option Handle). sem 𝓛 (pointed_at handle domain is)
-        ∗ ⌜ PointsTo was is result (GrantsPage gref to frame ro result) ⌝) }
+        ∗ ⌜ PointsTo was is result nowhere (GrantsPage gref to frame ro result) ⌝) }
 {
     if domain == ptr::null_mut() {
         return nowhere();
@@ -65,7 +65,7 @@ pub unsafe extern "C" fn gthost_grant_sub(
     ghost was: { Option Handle }
     requires* { sem 𝓛 (pointed_at handle domain was) ∗ ⌜ count_of domain < 2 ^ 63 ⌝ }
     ensures* { ∃ₛ (λ (is : Option Handle). sem 𝓛 (pointed_at handle domain is)
-        ∗ ⌜ PointsTo was is result (GrantsSub gref to frame off len ro result) ⌝) }
+        ∗ ⌜ PointsTo was is result nowhere (GrantsSub gref to frame off len ro result) ⌝) }
 {
     if domain == ptr::null_mut() {
         return nowhere();
@@ -87,7 +87,7 @@ pub unsafe extern "C" fn gthost_grant_via(
     ghost was: { Option Handle }
     requires* { sem 𝓛 (pointed_at handle domain was) ∗ ⌜ count_of domain < 2 ^ 63 ⌝ }
     ensures* { ∃ₛ (λ (is : Option Handle). sem 𝓛 (pointed_at handle domain is)
-        ∗ ⌜ PointsTo was is result (GrantsVia gref to dom2 ref2 ro result) ⌝) }
+        ∗ ⌜ PointsTo was is result nowhere (GrantsVia gref to dom2 ref2 ro result) ⌝) }
 {
     if domain == ptr::null_mut() {
         return nowhere();
@@ -106,7 +106,7 @@ pub unsafe extern "C" fn gthost_grant_bytes(
     ghost was: { Option Handle }
     requires* { sem 𝓛 (pointed_at handle domain was) ∗ ⌜ count_of domain < 2 ^ 63 ⌝ }
     ensures* { ∃ₛ (λ (is : Option Handle). sem 𝓛 (pointed_at handle domain is)
-        ∗ ⌜ PointsTo was is result (GrantsBytes gref bytes result) ⌝) }
+        ∗ ⌜ PointsTo was is result nowhere (GrantsBytes gref bytes result) ⌝) }
 {
     if domain == ptr::null_mut() {
         return nowhere();
@@ -120,7 +120,7 @@ pub unsafe extern "C" fn gthost_revoke(alloc: Global, domain: *mut Handle, gref:
     ghost was: { Option Handle }
     requires* { sem 𝓛 (pointed_at handle domain was) ∗ ⌜ count_of domain < 2 ^ 63 ⌝ }
     ensures* { ∃ₛ (λ (is : Option Handle). sem 𝓛 (pointed_at handle domain is)
-        ∗ ⌜ PointsTo was is result (RevokesEntry gref result) ⌝) }
+        ∗ ⌜ PointsTo was is result nowhere (RevokesEntry gref result) ⌝) }
 {
     if domain == ptr::null_mut() {
         return nowhere();
@@ -134,7 +134,7 @@ pub unsafe extern "C" fn gthost_withdraw(alloc: Global, domain: *mut Handle, gre
     ghost was: { Option Handle }
     requires* { sem 𝓛 (pointed_at handle domain was) ∗ ⌜ count_of domain < 2 ^ 63 ⌝ }
     ensures* { ∃ₛ (λ (is : Option Handle). sem 𝓛 (pointed_at handle domain is)
-        ∗ ⌜ PointsTo was is result (Withdraws gref result) ⌝) }
+        ∗ ⌜ PointsTo was is result nowhere (Withdraws gref result) ⌝) }
 {
     if domain == ptr::null_mut() {
         return nowhere();
@@ -148,7 +148,7 @@ pub unsafe extern "C" fn gthost_demote(alloc: Global, domain: *mut Handle, gref:
     ghost was: { Option Handle }
     requires* { sem 𝓛 (pointed_at handle domain was) ∗ ⌜ count_of domain < 2 ^ 63 ⌝ }
     ensures* { ∃ₛ (λ (is : Option Handle). sem 𝓛 (pointed_at handle domain is)
-        ∗ ⌜ PointsTo was is result (DemotesEntry gref result) ⌝) }
+        ∗ ⌜ PointsTo was is result nowhere (DemotesEntry gref result) ⌝) }
 {
     if domain == ptr::null_mut() {
         return nowhere();
@@ -162,7 +162,7 @@ pub unsafe extern "C" fn gthost_promote(alloc: Global, domain: *mut Handle, gref
     ghost was: { Option Handle }
     requires* { sem 𝓛 (pointed_at handle domain was) ∗ ⌜ count_of domain < 2 ^ 63 ⌝ }
     ensures* { ∃ₛ (λ (is : Option Handle). sem 𝓛 (pointed_at handle domain is)
-        ∗ ⌜ PointsTo was is result (Promotes gref result) ⌝) }
+        ∗ ⌜ PointsTo was is result nowhere (Promotes gref result) ⌝) }
 {
     if domain == ptr::null_mut() {
         return nowhere();
@@ -182,7 +182,7 @@ pub unsafe extern "C" fn gthost_map(
     ghost was: { Option Handle }
     requires* { sem 𝓛 (pointed_at handle domain was) ∗ ⌜ count_of domain < 2 ^ 63 ⌝ }
     ensures* { ∃ₛ (λ (is : Option Handle). sem 𝓛 (pointed_at handle domain is)
-        ∗ ⌜ PointsTo was is result (Maps dom gref flags result) ⌝) }
+        ∗ ⌜ PointsTo was is result nowhere (Maps dom gref flags result) ⌝) }
 {
     if domain == ptr::null_mut() {
         return nowhere();
@@ -196,7 +196,7 @@ pub unsafe extern "C" fn gthost_unmap(alloc: Global, domain: *mut Handle, name: 
     ghost was: { Option Handle }
     requires* { sem 𝓛 (pointed_at handle domain was) ∗ ⌜ count_of domain < 2 ^ 63 ⌝ }
     ensures* { ∃ₛ (λ (is : Option Handle). sem 𝓛 (pointed_at handle domain is)
-        ∗ ⌜ PointsTo was is result (Unmaps name result) ⌝) }
+        ∗ ⌜ PointsTo was is result nowhere (Unmaps name result) ⌝) }
 {
     if domain == ptr::null_mut() {
         return nowhere();
@@ -214,7 +214,7 @@ pub unsafe extern "C" fn gthost_set_version(
     ghost was: { Option Handle }
     requires* { sem 𝓛 (pointed_at handle domain was) ∗ ⌜ count_of domain < 2 ^ 63 ⌝ }
     ensures* { ∃ₛ (λ (is : Option Handle). sem 𝓛 (pointed_at handle domain is)
-        ∗ ⌜ PointsTo was is result (SetsVersion version result) ⌝) }
+        ∗ ⌜ PointsTo was is result nowhere (SetsVersion version result) ⌝) }
 {
     if domain == ptr::null_mut() {
         return nowhere();
@@ -232,7 +232,7 @@ pub unsafe extern "C" fn gthost_setup_table(
     ghost was: { Option Handle }
     requires* { sem 𝓛 (pointed_at handle domain was) ∗ ⌜ count_of domain < 2 ^ 63 ⌝ }
     ensures* { ∃ₛ (λ (is : Option Handle). sem 𝓛 (pointed_at handle domain is)
-        ∗ ⌜ PointsTo was is result (SetsUp frames result) ⌝) }
+        ∗ ⌜ PointsTo was is result nowhere (SetsUp frames result) ⌝) }
 {
     if domain == ptr::null_mut() {
         return nowhere();
@@ -246,7 +246,7 @@ pub unsafe extern "C" fn gthost_query_size(alloc: Global, domain: *mut Handle, d
     ghost was: { Option Handle }
     requires* { sem 𝓛 (pointed_at handle domain was) ∗ ⌜ count_of domain < 2 ^ 63 ⌝ }
     ensures* { ∃ₛ (λ (is : Option Handle). sem 𝓛 (pointed_at handle domain is)
-        ∗ ⌜ PointsTo was is result (AsksSize dom result) ⌝) }
+        ∗ ⌜ PointsTo was is result nowhere (AsksSize dom result) ⌝) }
 {
     if domain == ptr::null_mut() {
         return nowhere();
@@ -260,7 +260,7 @@ pub unsafe extern "C" fn gthost_get_version(alloc: Global, domain: *mut Handle, 
     ghost was: { Option Handle }
     requires* { sem 𝓛 (pointed_at handle domain was) ∗ ⌜ count_of domain < 2 ^ 63 ⌝ }
     ensures* { ∃ₛ (λ (is : Option Handle). sem 𝓛 (pointed_at handle domain is)
-        ∗ ⌜ PointsTo was is result (AsksVersion dom result) ⌝) }
+        ∗ ⌜ PointsTo was is result nowhere (AsksVersion dom result) ⌝) }
 {
     if domain == ptr::null_mut() {
         return nowhere();
@@ -278,7 +278,7 @@ pub unsafe extern "C" fn gthost_mapping(
     ghost was: { Option Handle }
     requires* { sem 𝓛 (pointed_at handle domain was) ∗ ⌜ count_of domain < 2 ^ 63 ⌝ }
     ensures* { ∃ₛ (λ (is : Option Handle). sem 𝓛 (pointed_at handle domain is)
-        ∗ ⌜ PointsTo was is result.answer (TellsMapping name result) ⌝) }
+        ∗ ⌜ PointsTo was is result mapping_nowhere (TellsMapping name result) ⌝) }
 {
     if domain == ptr::null_mut() {
         return mapping_nowhere();
@@ -296,7 +296,7 @@ pub unsafe extern "C" fn gthost_record(
     ghost was: { Option Handle }
     requires* { sem 𝓛 (pointed_at handle domain was) ∗ ⌜ count_of domain < 2 ^ 63 ⌝ }
     ensures* { ∃ₛ (λ (is : Option Handle). sem 𝓛 (pointed_at handle domain is)
-        ∗ ⌜ PointsTo was is result.answer (TellsRecord index result) ⌝) }
+        ∗ ⌜ PointsTo was is result record_nowhere (TellsRecord index result) ⌝) }
 {
     if domain == ptr::null_mut() {
         return record_nowhere();
@@ -314,7 +314,7 @@ pub unsafe extern "C" fn gthost_keep_at_most(
     ghost was: { Option Handle }
     requires* { sem 𝓛 (pointed_at handle domain was) ∗ ⌜ count_of domain < 2 ^ 63 ⌝ }
     ensures* { ∃ₛ (λ (is : Option Handle). sem 𝓛 (pointed_at handle domain is)
-        ∗ ⌜ PointsTo was is result (Bounds records result) ⌝) }
+        ∗ ⌜ PointsTo was is result nowhere (Bounds records result) ⌝) }
 {
     if domain == ptr::null_mut() {
         return nowhere();
@@ -332,7 +332,7 @@ pub unsafe extern "C" fn gthost_reserve_records(
     ghost was: { Option Handle }
     requires* { sem 𝓛 (pointed_at handle domain was) ∗ ⌜ count_of domain < 2 ^ 63 ⌝ }
     ensures* { ∃ₛ (λ (is : Option Handle). sem 𝓛 (pointed_at handle domain is)
-        ∗ ⌜ PointsTo was is result (MakesRoom records result) ⌝) }
+        ∗ ⌜ PointsTo was is result nowhere (MakesRoom records result) ⌝) }
 {
     if domain == ptr::null_mut() {
         return nowhere();
@@ -351,7 +351,7 @@ pub unsafe extern "C" fn gthost_copy_begin(
     ghost was: { Option Handle }
     requires* { sem 𝓛 (pointed_at handle domain was) ∗ ⌜ count_of domain < 2 ^ 63 ⌝ }
     ensures* { ∃ₛ (λ (is : Option Handle). sem 𝓛 (pointed_at handle domain is)
-        ∗ ⌜ PointsTo was is result.answer (BeginsCopy copy result) ⌝) }
+        ∗ ⌜ PointsTo was is result begun_nowhere (BeginsCopy copy result) ⌝) }
 {
     if domain == ptr::null_mut() {
         return begun_nowhere();
@@ -365,7 +365,7 @@ pub unsafe extern "C" fn gthost_copy_end(alloc: Global, domain: *mut Handle) -> 
     ghost was: { Option Handle }
     requires* { sem 𝓛 (pointed_at handle domain was) ∗ ⌜ count_of domain < 2 ^ 63 ⌝ }
     ensures* { ∃ₛ (λ (is : Option Handle). sem 𝓛 (pointed_at handle domain is)
-        ∗ ⌜ PointsTo was is result (CopyEnds result) ⌝) }
+        ∗ ⌜ PointsTo was is result nowhere (CopyEnds result) ⌝) }
 {
     if domain == ptr::null_mut() {
         return nowhere();
@@ -380,10 +380,52 @@ pub unsafe extern "C" fn gthost_finish(alloc: Global, domain: *mut Handle) -> An
     ghost was: { Option Handle }
     requires* { sem 𝓛 (pointed_at handle domain was) ∗ ⌜ count_of domain < 2 ^ 63 ⌝ }
     ensures* { ∃ₛ (λ (is : Option Handle). sem 𝓛 (pointed_at handle domain is)
-        ∗ ⌜ PointsTo was is result (Finishes result) ⌝) }
+        ∗ ⌜ PointsTo was is result nowhere (Finishes result) ⌝) }
 {
     if domain == ptr::null_mut() {
         return nowhere();
     }
     finish_on(alloc, &mut *domain)
+}
+
+/// One look at an entry of its own: its kind, its generation and its pins.
+#[unsafe(no_mangle)]
+pub unsafe extern "C" fn gthost_entry(alloc: Global, domain: *mut Handle, gref: u32) -> EntryTold
+    ghost was: { Option Handle }
+    requires* { sem 𝓛 (pointed_at handle domain was) ∗ ⌜ count_of domain < 2 ^ 63 ⌝ }
+    ensures* { ∃ₛ (λ (is : Option Handle). sem 𝓛 (pointed_at handle domain is)
+        ∗ ⌜ PointsTo was is result entry_nowhere (TellsEntry gref result) ⌝) }
+{
+    if domain == ptr::null_mut() {
+        return entry_nowhere();
+    }
+    entry_on(alloc, &mut *domain, gref)
+}
+
+/// Lets the domain's records go, and keeps their room.
+#[unsafe(no_mangle)]
+pub unsafe extern "C" fn gthost_take_records(alloc: Global, domain: *mut Handle) -> Answer
+    ghost was: { Option Handle }
+    requires* { sem 𝓛 (pointed_at handle domain was) ∗ ⌜ count_of domain < 2 ^ 63 ⌝ }
+    ensures* { ∃ₛ (λ (is : Option Handle). sem 𝓛 (pointed_at handle domain is)
+        ∗ ⌜ PointsTo was is result nowhere (TakesRecords result) ⌝) }
+{
+    if domain == ptr::null_mut() {
+        return nowhere();
+    }
+    take_records_on(alloc, &mut *domain)
+}
+
+/// Ends the copy, gives up the mappings and closes the table, for the next guest in its place.
+#[unsafe(no_mangle)]
+pub unsafe extern "C" fn gthost_reset(alloc: Global, domain: *mut Handle) -> Answer
+    ghost was: { Option Handle }
+    requires* { sem 𝓛 (pointed_at handle domain was) ∗ ⌜ count_of domain < 2 ^ 63 ⌝ }
+    ensures* { ∃ₛ (λ (is : Option Handle). sem 𝓛 (pointed_at handle domain is)
+        ∗ ⌜ PointsTo was is result nowhere (ResetsGuest result) ⌝) }
+{
+    if domain == ptr::null_mut() {
+        return nowhere();
+    }
+    reset_on(alloc, &mut *domain)
 }

@@ -1,16 +1,17 @@
 //! What a domain has and keeps: its mappings, and the records of its calls.
 ghost use Rattle.std.specs.Prelude.{◌≡◌};
-ghost use Rattle.gt_seat.specs.Encoding.{encoded};
-ghost use Rattle.gt_seat.specs.declared.answer.Outcome.TheVariants as outcomes;
 ghost use Rattle.gt_c.specs.Calling.{outcome_reserved};
-ghost use Rattle.gt_c.specs.Promises.{Bounds, MakesRoom, TellsMapping, TellsRecord};
-ghost use Rattle.gt_c.specs.Telling.{mapping_told, no_mapping, no_record, outcome_present, kept_record, writes};
+ghost use Rattle.gt_c.specs.Promises.{Bounds, MakesRoom, TakesRecords, TellsEntry, TellsMapping, TellsRecord};
+ghost use Rattle.gt_c.specs.Telling.{entry_nowhere, entry_told, kind_told, no_entry, read_only_told};
+ghost use Rattle.gt_c.specs.Telling.{mapping_nowhere, mapping_told, no_mapping, no_record, outcome_present, kept_record};
+ghost use Rattle.gt_c.specs.Telling.{record_nowhere, writes};
 
-use crate::calls::{MapHandle, enter, nowhere};
+use crate::calls::{MapHandle, enter, handle_named, nowhere};
 use crate::handle::Handle;
-use gt_calls::{Handle as Name, Held};
+use gt_calls::Held;
+use gt_entry::{Control, Kind};
 use gt_seat::{Answer, CopyEnd, Outcome, Record};
-use gt_types::{Dir, Memory};
+use gt_types::{Dir, GrantRef, Memory};
 use std::alloc::Global;
 
 /// What is mapped: this frame of this owner, by this entry. It may be written if `writes` is 1.
@@ -29,6 +30,27 @@ pub struct Mapping {
 pub struct MappingTold {
     pub answer: Answer,
     pub mapping: Mapping,
+}
+
+/// What one look at an entry found: its kind (0 Invalid, 1 a page, 2 bytes of one, 3 another grant), its generation, its
+/// pins, whom it permits, and 1 if it only lets read.
+#[repr(C)]
+#[derive(Clone, Copy)]
+pub struct EntryStatus {
+    pub kind: u32,
+    pub generation: u32,
+    pub reads: u16,
+    pub writes: u16,
+    pub to: u16,
+    pub read_only: u16,
+}
+
+/// Whether the table has such an entry, and what a look found: all zeros if it has none.
+#[repr(C)]
+#[derive(Clone, Copy)]
+pub struct EntryTold {
+    pub answer: Answer,
+    pub entry: EntryStatus,
 }
 
 /// Whether there is such a record, and which: all zeros if there is none.
@@ -71,6 +93,54 @@ fn mapping_told(found: Option<Held>) -> Mapping
             gref: held.gref.0,
             owner: held.dom.0,
             writes: writes(held.dir),
+        },
+    }
+}
+
+fn kind_told(kind: Kind) -> u32
+    ensures { result ≡ kind_told kind }
+{
+    match kind {
+        Kind::Invalid => 0,
+        Kind::Page => 1,
+        Kind::Sub => 2,
+        Kind::Via => 3,
+    }
+}
+
+fn read_only_told(ro: bool) -> u16
+    ensures { result ≡ read_only_told ro }
+{
+    if ro { 1 } else { 0 }
+}
+
+// No entry.
+fn no_entry() -> EntryStatus
+    ensures { result ≡ no_entry }
+{
+    EntryStatus {
+        kind: 0,
+        generation: 0,
+        reads: 0,
+        writes: 0,
+        to: 0,
+        read_only: 0,
+    }
+}
+
+// What was found, if there is such an entry.
+fn entry_told(found: Option<Control>) -> EntryStatus
+    ensures { result ≡ entry_told found }
+{
+    match found {
+        None => no_entry(),
+        Some(control) => EntryStatus {
+            kind: kind_told(control.kind),
+            generation: control.generation,
+            reads: control.reads,
+            writes: control.writes,
+            to: control.dom.0,
+            read_only: read_only_told(control.ro),
         },
     }
 }
@@ -128,7 +198,7 @@ fn reserved(answer: Result<(), Memory>) -> Outcome
 
 // The answers to a null pointer.
 pub(crate) fn mapping_nowhere() -> MappingTold
-    ensures { result.answer ≡ encoded outcomes.NullPointer }
+    ensures { result ≡ mapping_nowhere }
 {
     MappingTold {
         answer: nowhere(),
@@ -136,8 +206,17 @@ pub(crate) fn mapping_nowhere() -> MappingTold
     }
 }
 
+pub(crate) fn entry_nowhere() -> EntryTold
+    ensures { result ≡ entry_nowhere }
+{
+    EntryTold {
+        answer: nowhere(),
+        entry: no_entry(),
+    }
+}
+
 pub(crate) fn record_nowhere() -> RecordTold
-    ensures { result.answer ≡ encoded outcomes.NullPointer }
+    ensures { result ≡ record_nowhere }
 {
     RecordTold {
         answer: nowhere(),
@@ -158,15 +237,32 @@ pub(crate) fn mapping_on(alloc: Global, domain: &mut Handle, name: MapHandle) ->
             };
         }
     };
-    let name = Name {
-        serial: name.serial,
-        key: name.key,
-    };
-    let found = here.guest.mapping(name);
+    let handle = handle_named(&here, name);
+    let found = here.guest.mapping(handle);
     let answer = Answer::of(present(&found));
     let mapping = mapping_told(found);
     domain.put(here);
     MappingTold { answer, mapping }
+}
+
+/// One look at an entry of the domain's own.
+pub(crate) fn entry_on(alloc: Global, domain: &mut Handle, gref: u32) -> EntryTold
+    ensures { TellsEntry gref result domain.old.held.value domain.new.held.value }
+{
+    let mut here = match enter(alloc, domain) {
+        Ok(here) => here,
+        Err(answer) => {
+            return EntryTold {
+                answer,
+                entry: no_entry(),
+            };
+        }
+    };
+    let found = here.guest.status(GrantRef(gref));
+    let answer = Answer::of(present(&found));
+    let entry = entry_told(found);
+    domain.put(here);
+    EntryTold { answer, entry }
 }
 
 /// The record at a place, counted from 0, in the order of the calls.
@@ -199,6 +295,20 @@ pub(crate) fn keep_at_most_on(alloc: Global, domain: &mut Handle, records: usize
     };
     here.guest.keep_at_most(records);
     let answer = Answer::of(Outcome::Done);
+    domain.put(here);
+    answer
+}
+
+/// Lets the records go, and keeps their room. Answers how many there were, and how many were lost before.
+pub(crate) fn take_records_on(alloc: Global, domain: &mut Handle) -> Answer
+    ensures { TakesRecords result domain.old.held.value domain.new.held.value }
+{
+    let mut here = match enter(alloc, domain) {
+        Ok(here) => here,
+        Err(turned_away) => return turned_away,
+    };
+    let taken = here.guest.take_records(alloc);
+    let answer = Answer::of(Outcome::Taken(taken));
     domain.put(here);
     answer
 }

@@ -14,7 +14,7 @@ use Rattle.gt_types.specs.Denial.{rule_number, status_number}
 use Rattle.gt_seat.specs.declared.answer.Outcome.{Outcome}
 use Rattle.gt_seat.specs.declared.answer.Outcome.TheVariants.{Done, Mapped, Frames, Version, Size, Denied}
 use Rattle.gt_seat.specs.declared.answer.Outcome.TheVariants.{NoDomain, Busy, NoMemory, NoCopy, Absent, NullPointer}
-use Rattle.gt_seat.specs.declared.answer.Outcome.TheVariants.{Lost}
+use Rattle.gt_seat.specs.declared.answer.Outcome.TheVariants.{Left, Taken as TakenRecords}
 use Rattle.gt_seat.specs.Encoding.{encoded, field_number}
 use Rattle.gt_seat.specs.Decoding.{AnswersAreReadBack, decoded, field_named, rule_named, status_named}
 
@@ -90,7 +90,7 @@ read_refusal r s (facts.Entry d g w) = denied r s (facts.Entry d g w) (facts.Ent
 
 pub read_back : AnswersAreReadBack
 read_back Done = refl
-read_back (Mapped handle) = refl
+read_back (Mapped name) = refl
 read_back (Frames frames) = refl
 read_back (Version version) = refl
 read_back (Size size) = refl
@@ -101,4 +101,5 @@ read_back NoMemory = refl
 read_back NoCopy = refl
 read_back Absent = refl
 read_back NullPointer = refl
-read_back (Lost records) = refl
+read_back (Left remains) = refl
+read_back (TakenRecords taken) = refl

@@ -10,10 +10,11 @@ use Rattle.gt_types.specs.declared.denial.Facts.TheVariants as facts
 use Rattle.gt_types.specs.declared.denial.Field.{Field}
 use Rattle.gt_types.specs.declared.denial.Field.TheVariants as fields
 use Rattle.gt_seat.specs.declared.answer.Answer.{Answer}
+use Rattle.gt_seat.specs.declared.answer.Name.{Name}
 use Rattle.gt_seat.specs.declared.answer.Outcome.{Outcome}
 use Rattle.gt_seat.specs.declared.answer.Outcome.TheVariants.{Done, Mapped, Frames, Version, Size as SizeOf, Denied}
 use Rattle.gt_seat.specs.declared.answer.Outcome.TheVariants.{NoDomain, Busy, NoMemory, NoCopy, Absent, NullPointer}
-use Rattle.gt_seat.specs.declared.answer.Outcome.TheVariants.{Lost}
+use Rattle.gt_seat.specs.declared.answer.Outcome.TheVariants.{Left, Taken as TakenRecords}
 use Rattle.gt_seat.specs.Encoding.{encoded}
 
 -- the rule of this number, the last one if there is none
@@ -86,14 +87,24 @@ facts_in a =
     if a.kind == 8 then facts.Entry (record { 0 = a.dom }) (record { 0 = a.gref }) a.word else
     facts.None
 
+-- the name of a mapping
+abbrev pub named : Answer → Name
+named a =
+    record {
+      handle = record { serial = a.value; key = a.more };
+      dom = record { 0 = a.dom };
+      run = a.detail;
+    }
+
 -- what an answer that is Ok gives
 abbrev pub decoded_answer : Answer → Outcome
 decoded_answer a =
-    if a.kind == 1 then Mapped (record { serial = a.value; key = a.more }) else
+    if a.kind == 1 then Mapped (named a) else
     if a.kind == 2 then Frames a.value else
     if a.kind == 3 then Version a.value else
     if a.kind == 4 then SizeOf (record { frames = a.value; max = a.more }) else
-    if a.kind == 9 then Lost a.value else
+    if a.kind == 9 then Left (record { lost = a.value; in_use = a.more }) else
+    if a.kind == 10 then TakenRecords (record { records = a.value; lost = a.more }) else
     Done
 
 -- the outcome that an answer says

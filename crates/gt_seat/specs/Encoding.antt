@@ -12,10 +12,11 @@ use Rattle.gt_types.specs.declared.denial.Field.{Field}
 use Rattle.gt_types.specs.declared.denial.Field.TheVariants as fields
 use Rattle.gt_types.specs.Denial.{rule_number, status_number}
 use Rattle.gt_seat.specs.declared.answer.Answer.{Answer}
+use Rattle.gt_seat.specs.declared.answer.Name.{Name}
 use Rattle.gt_seat.specs.declared.answer.Outcome.{Outcome}
 use Rattle.gt_seat.specs.declared.answer.Outcome.TheVariants.{Done, Mapped, Frames, Version, Size as SizeOf, Denied}
 use Rattle.gt_seat.specs.declared.answer.Outcome.TheVariants.{NoDomain, Busy, NoMemory, NoCopy, Absent, NullPointer}
-use Rattle.gt_seat.specs.declared.answer.Outcome.TheVariants.{Lost}
+use Rattle.gt_seat.specs.declared.answer.Outcome.TheVariants.{Left, Taken as TakenRecords}
 
 -- the number of a field of an entry's bytes
 abbrev pub field_number : Field → ℕ
@@ -50,6 +51,14 @@ bare rule status =
 abbrev pub given : ℕ → ℕ → ℕ → Answer
 given kind value more = record (bare 0 (pos 0)) { kind = kind; value = value; more = more }
 
+-- Ok with the name of a mapping
+abbrev pub mapped : Name → Answer
+mapped name =
+    record (given 1 name.handle.serial name.handle.key) {
+      dom = name.dom.0;
+      detail = name.run;
+    }
+
 -- an answer with what a refusal rests on
 abbrev pub with_facts : Facts → Answer → Answer
 with_facts facts.None a = a
@@ -66,7 +75,7 @@ refusal d = with_facts d.facts (bare (rule_number d.rule) (status_number d.statu
 -- the answer that says this outcome
 abbrev pub encoded : Outcome → Answer
 encoded Done = bare 0 (pos 0)
-encoded (Mapped handle) = given 1 handle.serial handle.key
+encoded (Mapped name) = mapped name
 encoded (Frames frames) = given 2 frames 0
 encoded (Version version) = given 3 version 0
 encoded (SizeOf size) = given 4 size.frames size.max
@@ -77,4 +86,5 @@ encoded NoMemory = bare 258 (pos 0)
 encoded NoCopy = bare 259 (pos 0)
 encoded Absent = bare 260 (pos 0)
 encoded NullPointer = bare 261 (pos 0)
-encoded (Lost records) = given 9 records 0
+encoded (Left remains) = given 9 remains.lost remains.in_use
+encoded (TakenRecords taken) = given 10 taken.records taken.lost

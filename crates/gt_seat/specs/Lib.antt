@@ -2,3 +2,4 @@ pub mod Decoding
 pub mod Encoding
 pub mod Recording
 pub mod Seated
+pub mod Starting

@@ -1,15 +1,19 @@
 -- What a contract sees of a guest, and how its copies begin and end.
-use Rattle.std.specs.Prelude.{◌≡◌, Option, Some, None, Result, Ok, Err}
+use Rattle.std.specs.Prelude.{◌≡◌, length, Option, Some, None, Result, Ok, Err}
 use Rattle.gt_types.specs.declared.denial.Denial.{Denial}
-use Rattle.gt_audit.specs.Telling.{Tells}
+use Rattle.gt_audit.specs.Telling.{Telling, Tells}
 use Rattle.gt_calls.specs.declared.action.Verdict.TheVariants.{Refused}
 use Rattle.gt_types.specs.declared.copies.CopyArgs.{CopyArgs}
 use Rattle.gt_calls.specs.declared.request.Request.TheVariants as requests
 use Rattle.gt_live.specs.declared.domain.Domain.{Domain}
 use Rattle.gt_live.specs.declared.domain.copies.Halfway.{Halfway}
 use Rattle.gt_live.specs.declared.monitor.Monitor.{Monitor}
-use Rattle.gt_live.specs.Domains.{AllowRelation, Answered, BelongsTo, KeepsPinned, told_copy}
+use Rattle.gt_live.specs.declared.domain.Left.{Left}
+use Rattle.gt_live.specs.Closing.{Resets}
+use Rattle.gt_live.specs.Domains.{AllowRelation, Answered, BelongsTo, HasLeft, KeepsPinned, told_copy}
 use Rattle.gt_live.specs.Halves.{ComesHalfway, EndsHalfway, IsHalfway, done_copy}
+use Rattle.gt_seat.specs.declared.answer.Remains.{Remains}
+use Rattle.gt_seat.specs.declared.answer.Taken.{Taken}
 use Rattle.gt_seat.specs.declared.guest.Places.{Places}
 
 -- a domain, its monitor, and the copy that it is in
@@ -48,3 +52,16 @@ EndsAccess s t =
     (h : Halfway) × (s.copying ≡ Some h) × StaysIdle s t
     × EndsHalfway s.monitor.words.layout h s.domain t.domain
     × Tells s.domain.trail (done_copy s.domain h.copy) t.domain.trail
+
+-- a domain gave up its mappings, closed its table and left its run: so many of its entries are in use still, and so
+-- many of its records were lost
+pub record Leaves {P : Type 0} (may : P → AllowRelation) (m : Monitor P) (d : Domain) (remains : Remains) : Type 0 where
+  pub closed : Domain
+  pub resets : Resets may m d remains.in_use closed
+  pub left : Left
+  pub leaves : HasLeft m.words.layout closed left
+  pub lost : remains.lost ≡ left.trail.lost
+
+-- how many records a domain has, and how many were lost
+abbrev pub taken_of : Telling → Taken
+taken_of t = record { records = length t.records; lost = t.lost }

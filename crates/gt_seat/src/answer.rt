@@ -1,20 +1,42 @@
 //! An answer, in a layout that C reads.
 ghost use Rattle.std.specs.Prelude.{◌≡◌, pos};
-ghost use Rattle.gt_seat.specs.Encoding.{bare, encoded, field_number, given, refusal};
+ghost use Rattle.gt_seat.specs.Encoding.{bare, encoded, field_number, given, mapped, refusal};
 ghost use Rattle.gt_seat.specs.Decoding.{AnswersAreReadBack};
 
 use bitflags::Flags;
 use gt_calls::Handle;
-use gt_types::{Denial, Facts, Field, Size};
+use gt_types::{Denial, DomId, Facts, Field, Size};
+
+/// The name of a mapping: its handle, the domain that has it, and the number that its run was given.
+#[derive(Clone, Copy)]
+pub struct Name {
+    pub handle: Handle,
+    pub dom: DomId,
+    pub run: u32,
+}
+
+/// What a domain leaves behind: how many of its records were lost, and how many of its entries are still in use.
+#[derive(Clone, Copy)]
+pub struct Remains {
+    pub lost: u64,
+    pub in_use: u64,
+}
+
+/// What was taken from a domain: how many records, and how many were lost before.
+#[derive(Clone, Copy)]
+pub struct Taken {
+    pub records: u64,
+    pub lost: u64,
+}
 
 /// What a call answered.
 #[derive(Clone, Copy)]
 pub enum Outcome {
     /// Ok, without a value.
     Done,
-    /// Ok: the mapping has this handle.
-    Mapped(Handle),
-    /// Ok: the table has so many frames.
+    /// Ok: the mapping has this name.
+    Mapped(Name),
+    /// Ok: the table has this many frames.
     Frames(u32),
     /// Ok: the table has this version.
     Version(u32),
@@ -34,8 +56,10 @@ pub enum Outcome {
     Absent,
     /// A pointer is null: the call was not made.
     NullPointer,
-    /// Ok: the domain has left its run, and so many of its records were lost.
-    Lost(u64),
+    /// Ok: the domain has left its place, and this remains.
+    Left(Remains),
+    /// Ok: its records were taken.
+    Taken(Taken),
 }
 
 /// What a call answered, in a layout that C reads. A field that says nothing is 0.
@@ -48,9 +72,9 @@ pub struct Answer {
     /// The status of the public header `grant_table.h`: 0, or below it.
     pub status: i32,
     /// What else it carries: 0 nothing, 1 a handle, 2 frames, 3 a version, 4 a size, 5 what the policy denies, 6 a
-    /// field of an entry's bytes, 7 a header's word, 8 an entry's word, 9 lost records.
+    /// field of an entry's bytes, 7 a header's word, 8 an entry's word, 9 what a domain leaves, 10 taken records.
     pub kind: u32,
-    /// The domain whose word it carries.
+    /// The domain whose word it carries, or that has the mapping.
     pub dom: u32,
     /// The entry whose word it carries.
     pub gref: u32,
@@ -58,13 +82,14 @@ pub struct Answer {
     pub source: u32,
     /// The type that is asked.
     pub target: u32,
-    /// The permission that lacks, as its bit; or the number of the field, from 1 on.
+    /// The permission that lacks, as its bit; the number of the field, from 1 on; or the number of the mapping's run.
     pub detail: u32,
     /// The word of the deciding look or exchange.
     pub word: u64,
-    /// The serial of a handle, a number of frames or of lost records, or a version.
+    /// The serial of a handle, a number of frames, a version, how many records a domain lost, or how many were taken.
     pub value: u64,
-    /// The key of a handle, or how many frames a table may have.
+    /// The key of a handle, how many frames a table may have, how many entries of a domain that left are in use, or how
+    /// many records were lost before those taken.
     pub more: u64,
 }
 
@@ -179,6 +204,21 @@ fn given(kind: u32, value: u64, more: u64) -> Answer
     }
 }
 
+// Ok, with the name of a mapping.
+#[inline(always)]
+fn mapped(name: Name) -> Answer
+    ensures { result ≡ mapped name }
+{
+    Answer {
+        kind: 1,
+        dom: u32::from(name.dom.0),
+        detail: name.run,
+        value: name.handle.serial,
+        more: name.handle.key as u64,
+        ..DONE
+    }
+}
+
 impl Answer {
     ghost use Rattle.std.specs.Prelude.{◌≡◌};
     ghost use Rattle.gt_seat.specs.Encoding.{encoded};
@@ -190,7 +230,7 @@ impl Answer {
     {
         match outcome {
             Outcome::Done => DONE,
-            Outcome::Mapped(handle) => given(1, handle.serial, handle.key as u64),
+            Outcome::Mapped(name) => mapped(name),
             Outcome::Frames(frames) => given(2, u64::from(frames), 0),
             Outcome::Version(version) => given(3, u64::from(version), 0),
             Outcome::Size(size) => given(4, u64::from(size.frames), u64::from(size.max)),
@@ -201,7 +241,8 @@ impl Answer {
             Outcome::NoCopy => by_rule(NO_COPY),
             Outcome::Absent => by_rule(ABSENT),
             Outcome::NullPointer => by_rule(NULL_POINTER),
-            Outcome::Lost(records) => given(9, records, 0),
+            Outcome::Left(remains) => given(9, remains.lost, remains.in_use),
+            Outcome::Taken(taken) => given(10, taken.records, taken.lost),
         }
     }
 }

@@ -1,12 +1,13 @@
 //! A domain beside its monitor.
 ghost use Rattle.std.specs.Prelude.{◌≡◌};
 ghost use Rattle.gt_live.specs.Domains.{BelongsTo};
-ghost use Rattle.gt_seat.specs.Seated.{StandsBy};
+ghost use Rattle.gt_seat.specs.Seated.{Leaves, StandsBy};
 
-use gt_audit::Record;
+use crate::answer::{Remains, Taken};
+use gt_audit::{Record, Trail};
 use gt_calls::{CopyArgs, Handle, Held, Spot};
-use gt_entry::Entry;
-use gt_live::{Domain, Halfway, Left, Monitor};
+use gt_entry::{Control, Entry};
+use gt_live::{Domain, Halfway, Monitor};
 use gt_types::{Allows, Denial, DomId, GrantRef, Memory, Size};
 use std::alloc::Global;
 use std::marker::Model;
@@ -20,8 +21,8 @@ pub struct Places {
     pub len: u16,
 }
 
-/// A domain beside an owner of its monitor, and the copy that it is in, if it is in one. It leaves the run if it is let
-/// go. A contract sees these three.
+/// A domain beside an owner of its monitor, and the copy that it is in, if it is in one. It closes its table and leaves
+/// the run if it is let go. A contract sees these three.
 pub struct Guest<P: Allows + Drop> {
     monitor: Arc<Monitor<P>, Global>,
     domain: Domain,
@@ -36,6 +37,17 @@ fn settle<P: Allows>(monitor: &Monitor<P>, domain: &mut Domain, copying: Option<
     if let Some(halfway) = copying {
         domain.copy_end(monitor, halfway);
     }
+}
+
+// The domain gives up its mappings, closes its table and leaves its run.
+fn depart<P: Allows>(monitor: &Monitor<P>, domain: Domain) -> Remains
+    requires { BelongsTo P.may monitor.now domain }
+    ensures { Leaves P.may monitor.now domain result }
+{
+    let mut domain = domain;
+    let in_use = domain.reset(monitor) as u64;
+    let lost = domain.finish(monitor).lost();
+    Remains { lost, in_use }
 }
 
 impl<P: Allows + Drop> Model for Guest<P> {
@@ -57,23 +69,24 @@ impl<P: Allows + Drop> Drop for Guest<P> {
             copying,
         } = self;
         settle(&monitor, &mut domain, copying);
-        let _ = domain.finish(&monitor);
+        let _ = depart(&monitor, domain);
     }
 }
 
 impl<P: Allows + Drop> Guest<P> {
     ghost use Rattle.std.specs.Prelude.{◌≡◌, ◌≤◌, IsSome, None, OnOk, OnErr, is_some};
-    ghost use Rattle.gt_audit.specs.Telling.{Tells};
+    ghost use Rattle.gt_audit.specs.Telling.{HasNone, Tells};
     ghost use Rattle.gt_audit.specs.declared.record.Hypercall.TheVariants as Hypercall;
     ghost use Rattle.gt_calls.specs.declared.held.Held.{Held as Mapping};
     ghost use Rattle.gt_calls.specs.declared.request.Request.TheVariants as Request;
     ghost use Rattle.gt_live.specs.Domains.{Answered, AnswersQuietly, AnswersTold};
-    ghost use Rattle.gt_live.specs.Domains.{HasLeft, KeepsPinned, MapAnswered, mapping_reply, subject_of};
+    ghost use Rattle.gt_live.specs.Closing.{LooksAtOwn, Resets};
+    ghost use Rattle.gt_live.specs.Domains.{KeepsPinned, MapAnswered, mapping_reply, subject_of};
     ghost use Rattle.gt_live.specs.Domains.{told_of, verdict_of, verdict_of_frames, verdict_of_size};
     ghost use Rattle.gt_live.specs.Domains.{verdict_of_version};
     ghost use Rattle.gt_live.specs.Mappings.{Removes};
     ghost use Rattle.gt_handles.specs.Handles.{value_of};
-    ghost use Rattle.gt_seat.specs.Seated.{BeginsAccess, EndsAccess, StaysIdle};
+    ghost use Rattle.gt_seat.specs.Seated.{BeginsAccess, EndsAccess, Leaves, StaysIdle, taken_of};
     ghost use Rattle.std.specs.List.{slice_get};
     ghost use Rattle.std.specs.Arc.{arc_value};
 
@@ -347,16 +360,66 @@ impl<P: Allows + Drop> Guest<P> {
         }
     }
 
-    /// Leaves the run: each of its mappings is given up, and its pin back.
-    pub fn finish(self) -> Left
+    /// Leaves the run: each of its mappings is given up, and its pin back, and then each of its valid entries is
+    /// withdrawn. Answers how many records were lost, and how many of its entries are still in use by others.
+    pub fn finish(self) -> Remains
         requires idle { self.copying ≡ None }
-        ensures left { HasLeft self.monitor.words.layout self.domain result }
+        ensures leaves { Leaves P.may self.monitor self.domain result }
     {
         let Guest {
             monitor,
             domain,
             copying: _,
         } = self;
-        domain.finish(&monitor)
+        depart(&monitor, domain)
+    }
+
+    /// Gives up each of its mappings, and closes its table, for the next guest in its place. Its records stay. Answers
+    /// how many were lost, and how many of its entries are still in use.
+    pub fn reset(&mut self) -> Remains
+        requires idle { self.old.copying ≡ None }
+        ensures stays { StaysIdle self.old self.new }
+        ensures resets { Resets P.may self.old.monitor self.old.domain result.in_use self.new.domain }
+        ensures lost { result.lost ≡ self.old.domain.trail.lost }
+    {
+        let in_use = self.domain.reset(&self.monitor) as u64;
+        let lost = self.domain.trail().lost();
+        Remains { lost, in_use }
+    }
+
+    /// One look at an entry of its own: its kind, its generation and its pins of each kind. None if its table has no
+    /// such entry.
+    pub fn status(&mut self, gref: GrantRef) -> Option<Control>
+        requires idle { self.old.copying ≡ None }
+        ensures stays { StaysIdle self.old self.new }
+        ensures looks { LooksAtOwn self.old.monitor.words.layout self.old.domain gref result self.new.domain }
+    {
+        self.domain.status(&self.monitor, gref)
+    }
+
+    /// Lets its records go, and keeps their room. Answers how many there were, and how many were lost before.
+    pub fn take_records(&mut self, alloc: Global) -> Taken
+        requires idle { self.old.copying ≡ None }
+        ensures stays { StaysIdle self.old self.new }
+        ensures taken { result ≡ taken_of self.old.domain.trail }
+        ensures emptied { HasNone self.new.domain.trail }
+        ensures bound { self.new.domain.trail.most ≡ self.old.domain.trail.most }
+        ensures kept { self.new.domain ≡ record self.old.domain { trail = self.new.domain.trail } }
+    {
+        let mut records = self.domain.take_records(Trail::new(alloc));
+        let taken = Taken {
+            records: records.len() as u64,
+            lost: records.lost(),
+        };
+        records.clear();
+        let _none = self.domain.take_records(records);
+        taken
+    }
+
+    /// Its number.
+    pub fn dom(&self) -> DomId
+        ensures { result ≡ self.now.domain.seat.dom }
+    {
+        self.domain.seat().dom()
     }
 }

@@ -16,7 +16,7 @@ mod guest;
 mod record;
 mod starting;
 
-pub use answer::{Answer, Outcome, answers_are_read_back};
+pub use answer::{Answer, Name, Outcome, Remains, Taken, answers_are_read_back};
 pub use guest::{Guest, Places};
 pub use record::{CopyEnd, Record};
 pub use starting::start;

@@ -1,8 +1,9 @@
 //! How a run starts for a caller outside Rattle.
-ghost use Rattle.std.specs.Prelude.{◌≡◌, All, length, IfOk, IfErr, OnOk};
+ghost use Rattle.std.specs.Prelude.{◌≡◌, All, length, map, IfOk, IfErr, OnOk};
 ghost use Rattle.gt_types.specs.Config.{IsWithinLimits};
 ghost use Rattle.gt_words.specs.Answers.{IsStartFault};
 ghost use Rattle.gt_live.specs.Domains.{BelongsTo};
+ghost use Rattle.gt_seat.specs.Starting.{AreNewGuests, beside};
 ghost use Rattle.std.specs.Arc.{arc_value};
 
 use crate::guest::Guest;
@@ -29,7 +30,7 @@ fn all_guests<P: Allows + Drop>(
     domains: Vec<Domain>,
 ) -> Result<Vec<Guest<P>>, AllocError>
     requires { All (λ d. BelongsTo P.may (arc_value monitor.now) d) domains.items }
-    ensures count { IfOk result (λ v. length v.items ≡ length domains.items) }
+    ensures { IfOk result (λ v. v.items ≡ map (beside (arc_value monitor.now)) domains.items) }
 {
     let count = domains.len();
     let Ok(room) = Vec::with_capacity(alloc, count) else {
@@ -54,7 +55,8 @@ fn all_guests<P: Allows + Drop>(
     }
 }
 
-/// Starts a run, and gives a guest for each domain configured, in order.
+/// Starts a run, and gives a guest for each domain configured, in order. The guests share one monitor, which has this
+/// configuration and these rights.
 ///
 /// # Errors
 /// The first fault of the configuration, or `Memory` if it has none and memory is refused. No domain is left then.
@@ -64,6 +66,7 @@ pub fn start<P: Allows + Drop>(
     rights: P,
 ) -> Result<Vec<Guest<P>>, StartFault>
     ensures ok { OnOk result (IsWithinLimits config) }
+    ensures guests { IfOk result (λ v. AreNewGuests P.may config rights v.items) }
     ensures count { IfOk result (λ v. length v.items ≡ length config.domains.items) }
     ensures err { IfErr result (IsStartFault config) }
 {

@@ -1,8 +1,8 @@
-use Rattle.std.proofs.Common.{ap, ◌∙◌}
+use Rattle.std.proofs.Common.{◌≡◌, ap, ◌∙◌}
 use Rattle.gt_seat.specs.Encoding.{encoded}
 use Rattle.gt_calls.specs.declared.request.Request.TheVariants as requests
 use Rattle.gt_audit.specs.declared.record.Hypercall.TheVariants as hypercalls
-use Rattle.gt_c.specs.Calling.{SaysMapped, ref_at, dom_of}
+use Rattle.gt_c.specs.Calling.{SaysMapped, outcome_mapped, ref_at, dom_of}
 use Rattle.gt_c.proofs.Made.{idle-there, made}
 use Rattle.gt_c.proofs.calls.map_on.Goals as goal
 
@@ -11,10 +11,12 @@ map-told-requires c = record { idle = idle-there c.deref_mut.ensures.value c.in-
 
 pub returns : goal.returns
 returns c =
+    let x = c.deref_mut.result.now in
+    let said : c.mapped.result ≡ outcome_mapped x.guest.domain.seat.dom x.run c.map-told.result = cc in
     made c.of.result (SaysMapped (requests.Map (dom_of c.args.dom) (ref_at c.args.gref) c.args.flags) (hypercalls.Map (dom_of c.args.dom) (ref_at c.args.gref) c.args.flags) c.of.result) c.deref_mut.ensures.value c.in-Ok.ensures.ok.0 c.put.ensures.1 c.in-Ok.ensures.ok.2
     (record {
       result = c.map-told.result;
-      encodes = c.of.ensures ∙ ap encoded c.mapped.ensures;
+      encodes = c.of.ensures ∙ ap encoded said;
       stays = c.map-told.ensures.stays;
       holds = (c.map-told.ensures.answered, c.map-told.ensures.told);
     })

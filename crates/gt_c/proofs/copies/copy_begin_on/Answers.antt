@@ -1,15 +1,15 @@
-use Rattle.std.proofs.Common.{ap, subst, ◌∙◌}
+use Rattle.std.proofs.Common.{◌≡◌, ap, subst, ◌∙◌}
 use Rattle.gt_types.specs.declared.copies.CopyArgs.{CopyArgs}
 use Rattle.gt_seat.specs.Encoding.{encoded}
 use Rattle.gt_seat.specs.Seated.{BeginsAccess}
-use Rattle.gt_c.specs.Calling.{may}
-use Rattle.gt_c.specs.Telling.{SaysBegun, copy_asked}
-use Rattle.gt_c.proofs.Made.{made}
+use Rattle.gt_begin.specs.Beginning.{may}
+use Rattle.gt_c.specs.Telling.{no_places, SaysBegun, copy_asked}
+use Rattle.gt_c.proofs.Made.{made-telling}
 use Rattle.gt_c.proofs.copies.copy_begin_on.Goals as goal
 
 pub returns : goal.returns
 returns c =
-    made c.of-answer.result (SaysBegun (copy_asked c.args.copy) c.places_told-places.result c.of-answer.result) c.deref_mut.ensures.value c.in-Ok.ensures.ok.0 c.put.ensures.1 c.in-Ok.ensures.ok.2
+    made-telling c.of-answer.result (c.places_told-places.result ≡ no_places) (SaysBegun (copy_asked c.args.copy) c.places_told-places.result c.of-answer.result) c.deref_mut.ensures.value c.in-Ok.ensures.ok.0 c.put.ensures.1 c.in-Ok.ensures.ok.2
     (record {
       result = c.copy_begin-result.result;
       encodes = c.of-answer.ensures ∙ ap encoded c.begun.ensures;

@@ -23,6 +23,7 @@ use Rattle.gt_c.proofs.copies.CopySettings.TheLaws as CopySettings_laws
 use Rattle.gt_c.specs.contracts.handle.Handle as H
 use Rattle.gt_c.specs.declared.handle.Handle.{Handle}
 use Rattle.gt_c.specs.Pointing.{PointsTo, pointed_at}
+use Rattle.gt_c.specs.Telling.{begun_nowhere}
 use Rattle.gt_c.specs.Promises.{BeginsCopy}
 use Rattle.gt_c.specs.contracts.copies.copy_begin_on as call
 use Rattle.gt_c.proofs.copies.copy_begin_on.Met as call_met
@@ -31,8 +32,6 @@ use Rattle.gt_c.proofs.copies.begun_nowhere.Met as none_met
 use Rattle.gt_c.specs.contracts.seam.gthost_copy_begin as f
 use Rattle.gt_c.proofs.seam.gthost_copy_begin.Statement.{statement}
 use Rattle.gt_c.proofs.seam.gthost_copy_begin.Code as code
-use Rattle.gt_seat.specs.Encoding.{encoded}
-use Rattle.gt_seat.specs.declared.answer.Outcome.TheVariants as outcomes
 
 abbrev stayed : Stays f.ended.signature.params f.ended.kept
 stayed = (stay_dropped _ yes, (stay_dropped _ yes, (stay_dropped _ yes, tt)))
@@ -61,7 +60,7 @@ module _ {M : Type 1} {𝓤 : Ura M} (𝓛 : Logic 𝓤) (𝓜 : Model 𝓤 𝓛
   Runs p g = WpFn 𝓤 𝓛.H 𝓣.C 𝓣.Λ code.function (laws.val Heap.the_type heap.the_laws al ∷ ptr_val p ∷ laws.val CopySettings.the_type CopySettings_laws.the_laws copy ∷ []) (W.post (y p g))
 
   abbrev Holds : BegunTold.the_row.Denot → Option Handle → Option Handle → Type 0
-  Holds r was is = PointsTo was is r.answer (BeginsCopy copy r)
+  Holds r was is = PointsTo was is r begun_nowhere (BeginsCopy copy r)
 
   abbrev Ensured : Ptr → Option Handle → BegunTold.the_row.Denot → SProp 𝓤
   Ensured p g r = ex 𝓤 (λ (is : Option Handle). sep 𝓤 (sem 𝓛 (pointed_at H.the_row p is)) (fact 𝓤 (Holds r g is)))
@@ -87,7 +86,7 @@ module _ {M : Type 1} {𝓤 : Ura M} (𝓛 : Logic 𝓤) (𝓜 : Model 𝓤 𝓛
       first ! $ branches ! (get ! refl)
       (λ is. nothing ! $ nothing ! $ join ! $ nothing ! $ move ! (1 ∷ 0 ∷ []) $ use2 𝓛 (raw (N.pre z)) (id⊢ 𝓤 (N.pre z)) $
       calls_at ! (framed 𝓤 𝓛.H 𝓜 𝓣) N (none_met.met 𝓤 𝓛 𝓜 𝓡 (code.calls-gt_c::copies::begun_nowhere 𝓡.env wired)) z (no_more !) (λ v.
-      use1 𝓛 (later (some (λ (r : BegunTold.the_row.Denot). (‵ ftrue ⊛ ‵ (BegunTold.the_row.own_val r (v ∷ []))) ⊛ some (λ (ws : Unit {0}). ‵ (lasts none.ended tt tt ws) ⊛ raw (fact 𝓤 (r.answer ≡ encoded outcomes.NullPointer)))))) (id⊢ 𝓤 _) $
+      use1 𝓛 (later (some (λ (r : BegunTold.the_row.Denot). (‵ ftrue ⊛ ‵ (BegunTold.the_row.own_val r (v ∷ []))) ⊛ some (λ (ws : Unit {0}). ‵ (lasts none.ended tt tt ws) ⊛ raw (fact 𝓤 (r ≡ begun_nowhere)))))) (id⊢ 𝓤 _) $
       await ! tt $ pick ! (λ r. split ! $ split ! $ drop ! $ peeks ! BegunTold.the_row (Is BegunTold.the_row) (shows 𝓛 BegunTold.the_row) r (v ∷ []) (λ its.
       lands_as ! refl refl ((loose_lawful BegunTold.the_type BegunTold_laws.the_loose 𝓛).typed r _ its).0 $
       returns_within ! (W.post (y null_ptr None)) refl (look_at ! 0 refl) $ free_all ! refl $
