@@ -1,4 +1,4 @@
-use Rattle.std.proofs.Common.{subst, All, List, ◌∷◌}
+use Rattle.std.proofs.Common.{subst, All, List}
 use Rattle.std.proofs.lemmas.List.Elements.{All-head, All-tail}
 use Rattle.std.specs.Vec.Iter.{into_iter_items}
 use Rattle.gt_live.specs.Domains.{BelongsTo}
