@@ -13,7 +13,7 @@ use questions::answer_said;
 use reports::{report_said, wide_said};
 use std::fs;
 
-// If the questions begin.
+// The index of the first question.
 fn questions_from(words: &[String]) -> usize {
     for (i, word) in words.iter().enumerate() {
         if word.as_str() == "--why" {

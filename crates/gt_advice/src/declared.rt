@@ -1,4 +1,4 @@
-//! Where the names of a text are declared.
+//! The declarations of a text's names, with their lines and columns.
 use crate::places::{bytes_of, column_of, line_tokens};
 use gt_streams::text_of;
 use std::alloc::{AllocError, Global};

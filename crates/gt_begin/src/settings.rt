@@ -52,7 +52,7 @@ fn first_past(settings: &[DomainSettings], types: u16) -> Option<usize>
     settings.iter().position(|one| one.label >= types)
 }
 
-// The fault of the first label that is past so many types, if there is one.
+// The fault of the first label that is not below the number of types, if there is one.
 pub(crate) fn label_past(settings: &[DomainSettings], types: u16) -> Option<Fault>
     ensures { MatchOption result (position (is_past types) settings.now ≡ None)
         (λ fault. IsLabelFault types settings.now fault) }

@@ -10,7 +10,7 @@ use gt_texts::{push_number, push_part, push_text};
 use gt_types::{DomId, MAX_FRAMES};
 use std::alloc::{AllocError, Global};
 
-// If the frame number begins in an entry of this version; it goes to the entry's end.
+// The offset at which the frame number begins in an entry of this version; it goes to the entry's end.
 fn frame_place(version: u8) -> usize
     ensures { result ≡ frame_place version }
 {

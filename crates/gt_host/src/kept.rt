@@ -7,7 +7,7 @@ use std::alloc::Global;
 /// What a run keeps beside the core: what labels name, the calls that are open, and its records.
 #[derive(Drop)]
 pub struct Kept<'b, 'a> {
-    /// Where what is kept and printed takes its memory.
+    /// The allocator of what is kept and printed.
     pub alloc: Global,
     pub labels: Labels<'a>,
     pub calls: OpenCalls<'b, 'a>,

@@ -1,9 +1,9 @@
-//! If the texts are.
+//! The texts that commands work on.
 use gt_streams::ReadFault;
 use std::io::{self, ErrorKind, Read};
 
-/// If the texts are that commands work on: files by their names, and the standard input. An
-/// implementation may promise the bytes of some of them; a contract then speaks of those.
+/// The texts that commands work on: files by their names, and the standard input. An implementation may promise the
+/// bytes of some of them; a contract then speaks of those.
 pub trait Texts {
     ghost use Rattle.std.specs.Prelude.{◌≡◌, ℕ, List, Option, None, Some, IfOk, IfSome};
 

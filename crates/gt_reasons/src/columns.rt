@@ -1,4 +1,4 @@
-//! Where a word of a line stands.
+//! The columns of the words of a line.
 
 /// The column of a line at which its word with this number begins, from 0 on; the one past its last word if there is
 /// no such word. Columns are counted from 1, in bytes.

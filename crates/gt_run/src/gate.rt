@@ -1,11 +1,11 @@
-//! If domains wait for one another.
+//! Flags on which domains wait for one another.
 ghost use Rattle.std.specs.Prelude.{◌≡◌, true};
 
 use gt_types::Memory;
 use std::alloc::Global;
 use std::sync::{Condvar, Mutex, Wait};
 
-/// If domains wait for one another. Flags are numbered from 0.
+/// The flags on which domains wait for one another, numbered from 0.
 pub trait Gate {
     /// A domain raises the flag.
     fn tell(&self, flag: usize);

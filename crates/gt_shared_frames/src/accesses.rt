@@ -143,7 +143,7 @@ fn read_out(
     filled
 }
 
-// Writes to a frame that is out, and frees it. If memory is refused, the frame goes back as it was taken.
+// Writes to a frame that is out, and frees it. If memory is refused, the frame goes back unchanged.
 fn write_out<'a>(
     cells: &Cells,
     seat: &mut FrameSeat,

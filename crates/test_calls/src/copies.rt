@@ -316,7 +316,7 @@ pub const COPIES: [Row; 15] = [
     ),
 ];
 
-/// If the caller may copy only to the middle domain: a Via asks for the owners of both frames.
+/// A caller that may copy only to the middle domain: a Via asks for the owners of both frames.
 pub const TO_MIDDLE: [Row; 1] = [(
     CALLER,
     Copy(copy!(FRAME_3, MIDDLE_1, 4, 2)),

@@ -1,4 +1,4 @@
-//! How a domain closes its table before it leaves, and what one look at an entry of its own finds.
+//! Closing a domain's table before it leaves, and looking at one of its entries.
 ghost use Rattle.std.specs.Prelude.{◌≡◌, true};
 ghost use Rattle.gt_entry.specs.declared.entry.Entry.TheVariants.{Invalid};
 ghost use Rattle.gt_calls.specs.Rules.{entry_in};
@@ -152,8 +152,8 @@ impl Domain {
         self.close(monitor)
     }
 
-    /// One look at an entry of its own: its kind, its generation, and its pins of each kind, the domain's own among
-    /// them. None if its table has no such entry. An entry that was withdrawn shows the pins that are left.
+    /// Looks at one of the domain's entries: kind, generation and pins of each kind, with those of the domain itself.
+    /// None if its table has no such entry. A withdrawn entry shows the pins that are left.
     pub fn status<P: Allows>(&mut self, monitor: &Monitor<P>, gref: GrantRef) -> Option<Control>
         requires mine { BelongsTo P.may monitor.now self.old }
         ensures stays { StaysIn P.may monitor.now self.old self.new }
